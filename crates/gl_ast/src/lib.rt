@@ -1,0 +1,2 @@
+//! The tree of a template.
+#![tactic(auto)]

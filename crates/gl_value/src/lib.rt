@@ -1,0 +1,2 @@
+//! Values of templates, and texts.
+#![tactic(auto)]
