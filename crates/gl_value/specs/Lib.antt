@@ -1,2 +1,5 @@
+pub mod Named
 pub mod Quote
+pub mod Scalar
 pub mod Value
+pub mod View
