@@ -1,3 +1,4 @@
+pub mod Code
 pub mod Named
 pub mod Quote
 pub mod Scalar

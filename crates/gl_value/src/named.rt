@@ -4,26 +4,31 @@ ghost use Rattle.std.specs.List.{find, prefix_len};
 ghost use Rattle.std.specs.Str.{bytes_eq, chars};
 ghost use Rattle.gl_base.specs.Names.{named};
 ghost use Rattle.gl_value.specs.Named.{set_named};
-ghost use Rattle.gl_value.specs.View.{view};
+ghost use Rattle.gl_value.specs.View.{view, seen_entries};
 
 use crate::{Text, Value};
 use std::alloc::{AllocError, Global};
 use std::marker::Model;
 use std::mem;
 
-/// A list of names with values.
+/// A list of names with values. Contracts see the names as texts and the values as definitions see them.
 #[derive(Drop)]
 pub struct NamedValues {
     list: Vec<(Text, Value)>,
 }
 
 impl Model for NamedValues {
-    ghost use Rattle.gl_value.specs.View.{Entry};
-    ghost use Rattle.std.specs.Prelude.{List};
+    ghost use Rattle.gl_value.specs.Value as v;
+    ghost use Rattle.gl_value.specs.View.{seen_entries};
+    ghost use Rattle.std.specs.Prelude.{List, ℕ};
+    ghost use Rattle.gl_value.specs.Code.{value_code};
+    ghost use Rattle.std.specs.Coded.{coded×, coded_list, coded_ℕ};
 
-    ghost Value = { List Entry };
+    ghost Value = { List (List ℕ × v.Value ℕ) };
 
-    ghost view = { λ n. n.list.items };
+    ghost coded = { coded_list (coded× (coded_list coded_ℕ) value_code) };
+
+    ghost view = { λ n. seen_entries n.list.items };
 }
 
 impl NamedValues {
@@ -38,20 +43,20 @@ impl NamedValues {
 
     /// The list of the pairs of a vector. It takes no memory.
     pub fn from_vec(list: Vec<(Text, Value)>) -> NamedValues
-        ensures { result ≡ list.items }
+        ensures { result ≡ seen_entries list.items }
     {
         NamedValues { list }
     }
 
     /// Gives the vector back. It takes no memory.
     pub fn into_vec(self) -> Vec<(Text, Value)>
-        ensures { result.items ≡ self }
+        ensures { seen_entries result.items ≡ self }
     {
         self.list
     }
 
     pub fn as_slice(&self) -> &[(Text, Value)]
-        ensures { result.now ≡ self.now }
+        ensures { seen_entries result.now ≡ self.now }
     {
         self.list.as_slice()
     }
@@ -64,7 +69,7 @@ impl NamedValues {
 
     /// Adds a name with a value at the end.
     pub fn push(&mut self, name: Text, value: Value) -> Result<(), AllocError>
-        ensures ok { OnOk result (self.new ≡ self.old ++ (name, value) ∷ []) }
+        ensures ok { OnOk result (self.new ≡ self.old ++ (name, view value) ∷ []) }
         ensures err { OnErr result (self.new ≡ self.old) }
     {
         self.list.push((name, value))?;
@@ -73,14 +78,14 @@ impl NamedValues {
 
     /// The first value of that name.
     pub fn get(&self, name: &str) -> Option<&Value>
-        ensures { option_map (λ v. v.now) result ≡ named (chars name.now) self.now }
+        ensures { option_map (λ v. view v.now) result ≡ named (chars name.now) self.now }
     {
         value_of(self.list.as_slice(), name)
     }
 
     /// Puts a value in the place of the first of that name, where there is one.
     pub fn set(&mut self, name: &str, value: Value)
-        ensures { self.new ≡ set_named (chars name.now) value self.old }
+        ensures { self.new ≡ set_named (chars name.now) (view value) self.old }
     {
         let place = place_of(self.list.as_slice(), name);
         if place < self.list.len() {
@@ -91,7 +96,7 @@ impl NamedValues {
 
 // The value of the first entry of that name.
 fn value_of<'a>(entries: &'a [(Text, Value)], name: &str) -> Option<&'a Value>
-    ensures { option_map (λ v. v.now) result ≡ option_map (λ e. e.1) (find (λ e. bytes_eq (chars name.now) e.0) entries.now) }
+    ensures { option_map (λ v. view v.now) result ≡ option_map (λ e. view e.1) (find (λ e. bytes_eq (chars name.now) e.0) entries.now) }
 {
     entries
         .iter()
