@@ -1,0 +1,5 @@
+pub mod Ascii
+pub mod Loops
+pub mod Members
+pub mod Pages
+pub mod Utf8

@@ -1,0 +1,12 @@
+//! The command line of the renderer, over a shelf of files and two sinks.
+#![tactic(auto)]
+
+mod fault;
+mod manifest;
+mod names;
+mod page;
+mod status;
+mod template;
+
+pub use fault::FormFault;
+pub use status::Status;
