@@ -7,6 +7,7 @@ pub mod Output
 pub mod Page
 pub mod Path
 pub mod Places
+pub mod Plays
 pub mod Print
 pub mod Render
 pub mod Seen

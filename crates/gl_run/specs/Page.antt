@@ -5,7 +5,7 @@ use Rattle.gl_value.specs.Named.{set_named}
 use Rattle.gl_ast.specs.Template.{Stmt, text_stmt, put, element, Body, end, stmt}
 use Rattle.gl_run.specs.Render.{Cells, shown}
 use Rattle.gl_run.specs.Print.{text_line, element_line, deeper, start_line, set_line}
-use Rattle.gl_run.specs.Session.{Event, App}
+use Rattle.gl_run.specs.Session.{Event}
 
 -- how many nodes a statement renders
 abbrev mutual
@@ -46,5 +46,5 @@ unfoldable pub pages_from : Cells → Body → ℕ → List Event → List Text
 pages_from cells body turn [] = []
 pages_from cells body turn (e ∷ es) = set_page (set_named e.0 e.1 cells) body turn e.0 ∷ pages_from (set_named e.0 e.1 cells) body (turn + 1) es
 
-unfoldable pub pages : App → List Text
-pages app = start_page app.cells app.body ∷ pages_from app.cells app.body 1 app.events
+unfoldable pub pages : Cells → Body → List Event → List Text
+pages cells body events = start_page cells body ∷ pages_from cells body 1 events

@@ -5,6 +5,7 @@ mod fault;
 mod manifest;
 mod names;
 mod page;
+mod session;
 mod status;
 mod template;
 
