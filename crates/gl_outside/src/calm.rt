@@ -27,7 +27,7 @@ impl CalmShelf {
 }
 
 impl Shelf for CalmShelf {
-    ghost use Rattle.gl_outside.specs.CalmShelf.{files_of, misses_of, is_missed};
+    ghost use Rattle.gl_outside.specs.CalmShelf.{files_of, misses_of, faults_of, is_missed};
 
     ghost holds = { λ s. Some s.files };
 
@@ -42,9 +42,9 @@ impl Shelf for CalmShelf {
         ensures begins { Begins into.old.items into.new.items }
         ensures absent { IsErrOf result ShelfFault.Absent → IsAbsent (Some (files_of self.old)) name.now }
         ensures missed { IsErrOf result ShelfFault.Absent → misses_of self.old < misses_of self.new }
-        ensures failed { IsErrOf result ShelfFault.Failed → 0 < 0 }
+        ensures failed { IsErrOf result ShelfFault.Failed → faults_of self.old < faults_of self.new }
         ensures misses_stay { misses_of self.old ≤ misses_of self.new }
-        ensures faults_stay { 0 ≤ 0 }
+        ensures faults_stay { faults_of self.old ≤ faults_of self.new }
 
         // Beyond the trait: when it misses, and what an error leaves.
         ensures missing { IsTrue (is_missed self.old name.now) → result ≡ Err ShelfFault.Absent }
@@ -94,7 +94,7 @@ impl CalmSink {
 }
 
 impl Sink for CalmSink {
-    ghost use Rattle.gl_outside.specs.CalmSink.{taken_of, wants_of};
+    ghost use Rattle.gl_outside.specs.CalmSink.{taken_of, faults_of, wants_of};
 
     ghost took = { λ s. Some s.taken.items };
 
@@ -105,11 +105,11 @@ impl Sink for CalmSink {
     /// Where the wants stand at their last value, it gives `Memory`.
     fn put(&mut self, piece: &[u8]) -> Result<(), SinkFault>
         ensures whole { OnOk result (Takes (Some (taken_of self.old)) (Some (taken_of self.new)) piece.now) }
-        ensures failed { IsErrOf result SinkFault.Failed → 0 < 0 }
+        ensures failed { IsErrOf result SinkFault.Failed → faults_of self.old < faults_of self.new }
         ensures front { IsErrOf result SinkFault.Failed → TakesFront (Some (taken_of self.old)) (Some (taken_of self.new)) piece.now }
-        ensures memory { IsErrOf result SinkFault.Memory → Wanted 0 (wants_of self.old) (wants_of self.new) }
+        ensures memory { IsErrOf result SinkFault.Memory → Wanted (faults_of self.old) (wants_of self.old) (wants_of self.new) }
         ensures nothing { IsErrOf result SinkFault.Memory → Some (taken_of self.new) ≡ Some (taken_of self.old) }
-        ensures faults_stay { 0 ≤ 0 }
+        ensures faults_stay { faults_of self.old ≤ faults_of self.new }
         ensures wants_stay { wants_of self.old ≤ wants_of self.new }
 
         // Beyond the trait: when the wants rise.

@@ -189,7 +189,7 @@ impl Sink for MemSink {
     ghost wants = { λ s. s.wants };
 
     /// Where one of the counts, of its calls too, stands at its last value, it gives `Memory`. A listed
-    /// call that wants memory gives `Memory` as well, and counts as a fault too.
+    /// call that finds no memory gives `Memory` too, and is counted as a fault as well.
     fn put(&mut self, piece: &[u8]) -> Result<(), SinkFault>
         ensures whole { OnOk result (Takes (Some (taken_of self.old)) (Some (taken_of self.new)) piece.now) }
         ensures failed { IsErrOf result SinkFault.Failed → faults_of self.old < faults_of self.new }
@@ -199,8 +199,8 @@ impl Sink for MemSink {
         ensures faults_stay { faults_of self.old ≤ faults_of self.new }
         ensures wants_stay { wants_of self.old ≤ wants_of self.new }
 
-        // Beyond the trait: it fails exactly at the listed calls, which take the listed numbers of
-        // bytes, and wants memory only where it says so.
+        // Beyond the trait: a listed call is a fault and takes the listed number of bytes, and wants
+        // rise only with `Memory`.
         ensures unlisted { OnOk result (next_cut self.old ≡ None) }
         ensures cut { IsErrOf result SinkFault.Failed → IsSomeAnd (next_cut self.old)
             (λ count. taken_of self.new ≡ taken_of self.old ++ take count piece.now) }
