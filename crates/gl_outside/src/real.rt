@@ -1,6 +1,9 @@
 // Before the system: files of the working folder, and an open stream. They tell nothing of content.
-ghost use Rattle.std.specs.Prelude.{◌≡◌, ◌≢◌, ℕ, None, IsErrOf};
+ghost use Rattle.std.specs.Prelude.{◌≡◌, ◌≢◌, ◌<◌, ◌≤◌, ℕ, [], None, IsTrue, OnOk, IsErrOf};
+ghost use Rattle.std.specs.Io.KnownBytes.{Appends};
+ghost use Rattle.gl_base.specs.Taking.{Takes, TakesFront};
 ghost use Rattle.gl_outside.specs.Shelf.{Gains};
+ghost use Rattle.gl_outside.specs.Sink.{Wanted};
 
 use crate::{Shelf, ShelfFault, Sink, SinkFault};
 use std::fs;
@@ -116,7 +119,9 @@ impl<W: Write> StdSink<W> {
 }
 
 // Writes the whole piece, and says whether the stream took it.
-fn write_whole<W: Write>(stream: &mut W, piece: &[u8]) -> bool {
+fn write_whole<W: Write>(stream: &mut W, piece: &[u8]) -> bool
+    ensures { IsTrue result → Appends (W.contents stream.old) (W.contents stream.new) piece.now }
+{
     let mut rest = piece;
     while !rest.is_empty() {
         match stream.write(rest) {
@@ -128,14 +133,27 @@ fn write_whole<W: Write>(stream: &mut W, piece: &[u8]) -> bool {
 }
 
 impl<W: Write> Sink for StdSink<W> {
+    ghost use Rattle.gl_outside.specs.StdSink.{stream_of, faults_of};
+
     ghost took = { λ _. None };
 
     ghost faults = { λ s. s.faults };
 
     ghost wants = { λ _. 0 };
 
-    // It takes no memory: `Memory` comes only where the faults stand at their last value.
-    fn put(&mut self, piece: &[u8]) -> Result<(), SinkFault> {
+    /// It takes no memory: `Memory` comes only where the faults stand at their last value.
+    fn put(&mut self, piece: &[u8]) -> Result<(), SinkFault>
+        ensures whole { OnOk result (Takes None None piece.now) }
+        ensures failed { IsErrOf result SinkFault.Failed → faults_of self.old < faults_of self.new }
+        ensures front { IsErrOf result SinkFault.Failed → TakesFront None None piece.now }
+        ensures memory { IsErrOf result SinkFault.Memory → Wanted (faults_of self.old) 0 0 }
+        ensures nothing { IsErrOf result SinkFault.Memory → Takes None None [] }
+        ensures faults_stay { faults_of self.old ≤ faults_of self.new }
+        ensures wants_stay { 0 ≤ 0 }
+
+        // Beyond the trait: where the stream tells what it holds, it took the piece.
+        ensures written { OnOk result (Appends (W.contents (stream_of self.old)) (W.contents (stream_of self.new)) piece.now) }
+    {
         if self.faults == u64::MAX {
             return Err(SinkFault::Memory);
         }
