@@ -1,5 +1,6 @@
 pub mod Forms
 pub mod Load
+pub mod Loads
 pub mod Manifest
 pub mod Names
 pub mod Numbers

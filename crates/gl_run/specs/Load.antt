@@ -1,5 +1,5 @@
 -- What a run loads, or why it refuses.
-use Rattle.std.specs.Prelude.{ℕ, List, [], ◌∷◌, ◌++◌, codes, Bool, true, false, ◌&&◌, Option, Some, None, Result, Ok, Err, if◌then◌else◌, nat_le, length, is_some}
+use Rattle.std.specs.Prelude.{ℕ, List, [], ◌∷◌, ◌++◌, codes, Bool, true, false, ◌&&◌, Option, Some, None, Result, Ok, Err, if◌then◌else◌, nat_le, length, is_some, option_and_then}
 use Rattle.gl_base.specs.Texts.{Text, bytes_of}
 use Rattle.gl_base.specs.Names.{named}
 use Rattle.gl_value.specs.Value.{Value}
@@ -60,7 +60,7 @@ unfoldable pub manifest_in : List Entry → Text → Result Manifest Refusal
 manifest_in files name = small_file files name >>= λ bytes. formed (manifest_from bytes)
 
 unfoldable pub tree_in : List Entry → Cells → Text → Result (List Stmt) Refusal
-tree_in files cells name = small_file files name >>= λ bytes. (formed (template_of bytes) >>= λ tree. formed (known_tree cells tree))
+tree_in files cells name = small_file files name >>= λ bytes. formed (option_and_then (known_tree cells) (template_of bytes))
 
 unfoldable pub events_in : List Entry → Cells → Text → Result (List Event) Refusal
 events_in files cells name = small_file files name >>= λ bytes. formed (script_from cells bytes)

@@ -2,6 +2,8 @@
 #![tactic(auto)]
 
 mod fault;
+mod known;
+mod load;
 mod manifest;
 mod names;
 mod page;
@@ -10,4 +12,5 @@ mod status;
 mod template;
 
 pub use fault::FormFault;
+pub use load::LoadFault;
 pub use status::Status;
