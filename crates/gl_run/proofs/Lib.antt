@@ -5,5 +5,6 @@ pub mod Loops
 pub mod Members
 pub mod Pages
 pub mod Playing
+pub mod Saying
 pub mod Sessions
 pub mod Utf8

@@ -1,4 +1,5 @@
 pub mod Forms
+pub mod Lines
 pub mod Load
 pub mod Loads
 pub mod Manifest

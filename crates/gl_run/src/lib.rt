@@ -3,6 +3,7 @@
 
 mod fault;
 mod known;
+mod line;
 mod load;
 mod manifest;
 mod names;
