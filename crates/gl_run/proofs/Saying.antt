@@ -1,6 +1,8 @@
 -- Lines that are said piece by piece.
 use Rattle.std.proofs.Common.{◌≡◌, ◌<◌, ◌≤◌, ◌⊎◌, inl, inr, ℕ, zero, suc, List, [], ◌∷◌, ◌++◌, Bool, true, false, Option, refl, sym, ap, ◌∙◌, append_assoc, append-nil, arith, subst}
+use Rattle.std.specs.List.{flat_map}
 use Rattle.std.proofs.lemmas.Str.{encodes-append}
+use Rattle.gl_base.proofs.Chars.{written_more}
 use Rattle.gl_base.specs.Texts.{Text, bytes_of}
 use Rattle.gl_base.specs.Taking.{Takes, TakesFront}
 use Rattle.gl_base.proofs.Taken.{takes_nothing, takes_more, front_more, front_of, front_whole, front_nothing}
@@ -80,3 +82,9 @@ says_wanted a b f g w x t e n l m = says_front a b f g w x t (rw e (front_nothin
 pub says_line : (r : Bool) (a b : Option (List ℕ)) (f g w x : ℕ) (t : Text) → SaysOn true r a b f g w x t → Says a b f g w x t
 says_line true a b f g w x t m = let all : Takes a b (bytes_of t) = m.taken a [] (takes_nothing a) in record { front = front_whole a b (bytes_of t) all; whole = λ never. all }
 says_line false a b f g w x t m = record { front = m.taken a [] (takes_nothing a); whole = λ never. elim (m.loud refl) [ inl e ↦ absurd cc | inr k ↦ absurd (never k) ] }
+
+-- a text that is said character by character: one more character is said
+pub says_step : (p q r : Bool) (a b c : Option (List ℕ)) (f g h w x y : ℕ) (e : ℕ → Text) (first : ℕ) (cs : List ℕ) (k : ℕ) → SaysOn p q a b f g w x (first ∷ flat_map e cs) → SaysOn q r b c g h x y (e k) → SaysOn p r a c f h w y (first ∷ flat_map e (cs ++ k ∷ []))
+says_step p q r a b c f g h w x y e first cs k m n =
+    let all = says_more p q r a b c f g h w x y (first ∷ flat_map e cs) (e k) m n in
+    subst (λ z. SaysOn p r a c f h w y z) (written_more e (first ∷ []) (first ∷ flat_map e cs) (first ∷ (flat_map e cs ++ e k)) cs k refl refl) all

@@ -12,6 +12,7 @@ pub mod Places
 pub mod Plays
 pub mod Print
 pub mod Render
+pub mod Run
 pub mod Seen
 pub mod Session
 pub mod Spelling

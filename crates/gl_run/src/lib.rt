@@ -1,6 +1,7 @@
 //! The command line of the renderer, over a shelf of files and two sinks.
 #![tactic(auto)]
 
+mod ending;
 mod fault;
 mod known;
 mod line;
@@ -12,6 +13,8 @@ mod session;
 mod status;
 mod template;
 
+pub use ending::RunFault;
 pub use fault::FormFault;
 pub use load::LoadFault;
+pub use session::PlayFault;
 pub use status::Status;
