@@ -1,10 +1,14 @@
 pub mod Ascii
+pub mod BodyPaths
 pub mod Fetch
 pub mod Fetched
 pub mod Loops
 pub mod Members
+pub mod Numbering
 pub mod Pages
+pub mod PathOrder
 pub mod Playing
 pub mod Saying
 pub mod Sessions
+pub mod TreeLines
 pub mod Utf8
