@@ -1,0 +1,5 @@
+mod CaseTodo
+mod CasesActions
+mod CasesLists
+mod CasesNames
+mod CasesTexts
