@@ -1,5 +1,17 @@
+mod Above
+mod Alike
+mod Calls
 mod CaseTodo
 mod CasesActions
 mod CasesLists
 mod CasesNames
 mod CasesTexts
+mod Equal
+mod Frame
+mod Getters
+mod Once
+mod Plain
+mod Reach
+mod Settled
+mod Touched
+mod Under

@@ -3,6 +3,7 @@ pub mod App
 pub mod Changes
 pub mod Eval
 pub mod Known
+pub mod Laws
 pub mod Parts
 pub mod Path
 pub mod Print
