@@ -3,7 +3,7 @@ use Rattle.std.proofs.Common.{◌≡◌, ◌≤◌, ◌<◌, ◌+◌, ℕ, zero,
 use Rattle.std.specs.Prelude.{if◌then◌else◌}
 use Rattle.std.specs.Str.{bytes_eq}
 use Rattle.gl_base.specs.Names.{named}
-use Rattle.gl_meaning.specs.Known.{mentions, all_mentions, named_mentions, IsAmong, Leads, mention, onward, Acyclic}
+use Rattle.gl_meaning.specs.Known.{mentions, all_mentions, named_mentions, Among, Leads, mention, onward, Acyclic}
 use Rattle.gl_meaning.proofs.Equal.{text_means}
 use Rattle.gl_base.specs.Texts.{Text}
 use Rattle.gl_meaning.specs.App.{App, Class}
@@ -12,32 +12,32 @@ use Rattle.gl_meaning.specs.Path
 use Rattle.gl_meaning.specs.Scope
 use Rattle.gl_ast.specs.Template
 
-among-left : (x : Text) (xs ys : List Text) → IsAmong x xs → IsAmong x (xs ++ ys)
+among-left : (x : Text) (xs ys : List Text) → Among x xs → Among x (xs ++ ys)
 among-left x [] ys m = absurd m
 among-left x (z ∷ xs) ys (inl q) = inl q
 among-left x (z ∷ xs) ys (inr m) = inr (among-left x xs ys m)
 
-among-right : (x : Text) (xs ys : List Text) → IsAmong x ys → IsAmong x (xs ++ ys)
+among-right : (x : Text) (xs ys : List Text) → Among x ys → Among x (xs ++ ys)
 among-right x [] ys m = m
 among-right x (z ∷ xs) ys m = inr (among-right x xs ys m)
 
 -- a list of different names, each among others, is no longer than these
 abbrev AllDifferent : List Text → Type 0
 AllDifferent [] = Unit {0}
-AllDifferent (x ∷ xs) = (IsAmong x xs → ⊥) × AllDifferent xs
+AllDifferent (x ∷ xs) = (Among x xs → ⊥) × AllDifferent xs
 
 abbrev AllAmong : List Text → List Text → Type 0
 AllAmong [] ns = Unit {0}
-AllAmong (x ∷ xs) ns = IsAmong x ns × AllAmong xs ns
+AllAmong (x ∷ xs) ns = Among x ns × AllAmong xs ns
 
-without : (x : Text) (ns : List Text) → IsAmong x ns → (ms : List Text) × (length ns ≡ suc (length ms)) × ((y : Text) → (y ≡ x → ⊥) → IsAmong y ns → IsAmong y ms)
+without : (x : Text) (ns : List Text) → Among x ns → (ms : List Text) × (length ns ≡ suc (length ms)) × ((y : Text) → (y ≡ x → ⊥) → Among y ns → Among y ms)
 without x [] m = absurd m
 without x (n ∷ ns) (inl q) = (ns, refl, λ y h m. elim m [ inl o ↦ absurd (h (o ∙ sym q)) | inr o ↦ o ])
 without x (n ∷ ns) (inr m) =
     let r = without x ns m in
     (n ∷ r.0, ap suc r.1, λ y h o. elim o [ inl a ↦ inl a | inr a ↦ inr (r.2 y h a) ])
 
-keep-others : (x : Text) (xs ns ms : List Text) → (IsAmong x xs → ⊥) → ((y : Text) → (y ≡ x → ⊥) → IsAmong y ns → IsAmong y ms) → AllAmong xs ns → AllAmong xs ms
+keep-others : (x : Text) (xs ns ms : List Text) → (Among x xs → ⊥) → ((y : Text) → (y ≡ x → ⊥) → Among y ns → Among y ms) → AllAmong xs ns → AllAmong xs ms
 keep-others x [] ns ms h k a = tt
 keep-others x (y ∷ xs) ns ms h k a = (k y (λ q. h (inl (sym q))) a.0, keep-others x xs ns ms (λ m. h (inr m)) k a.1)
 
@@ -53,10 +53,10 @@ abbrev names : List (Text × Template.Expr) → List Text
 names [] = []
 names (g ∷ gs) = g.0 ∷ names gs
 
-named-among : (x : Text) (gs : List (Text × Template.Expr)) (y : Template.Expr) → named x gs ≡ Some y → IsAmong x (names gs)
+named-among : (x : Text) (gs : List (Text × Template.Expr)) (y : Template.Expr) → named x gs ≡ Some y → Among x (names gs)
 named-among x [] y q = absurd cc
 named-among x (g ∷ gs) y q = chosen (named-among x gs y) (bytes_eq x g.0) refl q where
-  chosen : (named x gs ≡ Some y → IsAmong x (names gs)) → (b : Bool) → bytes_eq x g.0 ≡ b → (if b then Some g.1 else named x gs) ≡ Some y → (x ≡ g.0) ⊎ IsAmong x (names gs)
+  chosen : (named x gs ≡ Some y → Among x (names gs)) → (b : Bool) → bytes_eq x g.0 ≡ b → (if b then Some g.1 else named x gs) ≡ Some y → (x ≡ g.0) ⊎ Among x (names gs)
   chosen h true o q = inl (text_means x g.0 o)
   chosen h false o q = inr (h q)
 
@@ -67,7 +67,7 @@ names-length (g ∷ gs) = ap suc (names-length gs)
 module _ (app : App) (σ : Eval.Store) where
   -- two ways to evaluate getters that agree on what is mentioned
   abbrev AgreeOn : (Template.Expr → Scope.Pair) → (Template.Expr → Scope.Pair) → Path.Path → List Text → Type 0
-  AgreeOn f g i xs = (x : Text) → IsAmong x xs → (y : Template.Expr) → named x (Eval.class_at app i).getters ≡ Some y → f y ≡ g y
+  AgreeOn f g i xs = (x : Text) → Among x xs → (y : Template.Expr) → named x (Eval.class_at app i).getters ≡ Some y → f y ≡ g y
 
   module _ (f g : Template.Expr → Scope.Pair) (w : Scope.Scope) where
     member-agrees : (x : Text) (v : Option Template.Plain) (m : Option Template.Expr) → ((y : Template.Expr) → m ≡ Some y → f y ≡ g y) → Eval.member_pair app σ f w x (Eval.field_or v (Eval.getter_or_action m)) ≡ Eval.member_pair app σ g w x (Eval.field_or v (Eval.getter_or_action m))
@@ -95,13 +95,13 @@ module _ (app : App) (σ : Eval.Store) where
   -- each of these getters leads to each member that the expression mentions
   abbrev LeadTo : Class → List Text → List Text → Type 0
   LeadTo c [] xs = Unit {0}
-  LeadTo c (u ∷ us) xs = ((x : Text) → IsAmong x xs → Leads c u x) × LeadTo c us xs
+  LeadTo c (u ∷ us) xs = ((x : Text) → Among x xs → Leads c u x) × LeadTo c us xs
 
-  lead-on : (c : Class) (us : List Text) (x : Text) (y : Template.Expr) (xs : List Text) → named x c.getters ≡ Some y → IsAmong x xs → LeadTo c us xs → LeadTo c us (mentions y)
+  lead-on : (c : Class) (us : List Text) (x : Text) (y : Template.Expr) (xs : List Text) → named x c.getters ≡ Some y → Among x xs → LeadTo c us xs → LeadTo c us (mentions y)
   lead-on c [] x y xs q m h = tt
   lead-on c (u ∷ us) x y xs q m h = (λ z o. onward (h.0 x m) (mention q o), lead-on c us x y xs q m h.1)
 
-  lead-apart : (c : Class) (us : List Text) (x : Text) (xs : List Text) → Acyclic c → IsAmong x xs → LeadTo c us xs → IsAmong x us → ⊥
+  lead-apart : (c : Class) (us : List Text) (x : Text) (xs : List Text) → Acyclic c → Among x xs → LeadTo c us xs → Among x us → ⊥
   lead-apart c [] x xs a m h o = o
   lead-apart c (u ∷ us) x xs a m h (inl q) = a u (subst (λ z. Leads c u z) q (h.0 x m))
   lead-apart c (u ∷ us) x xs a m h (inr o) = lead-apart c us x xs a m h.1 o

@@ -9,7 +9,9 @@ mod CasesTexts
 mod Equal
 mod Frame
 mod Getters
+mod Numbers
 mod Once
+mod Pieces
 mod Plain
 mod Reach
 mod Settled

@@ -1,5 +1,6 @@
 -- In one rendering each path of a node stands once; so does each of a position, and each of a region.
-use Rattle.gl_meaning.specs.Laws.{Among, NoRepeat, InPiece, In, Within}
+use Rattle.gl_meaning.specs.Laws.{NoRepeat, InPiece, In, Within}
+use Rattle.gl_meaning.specs.Known.{Among}
 use Rattle.std.proofs.Common.{◌≡◌, ◌≤◌, ℕ, zero, suc, List, [], ◌∷◌, ◌++◌, map, cond, Bool, true, false, true≢false, Option, Some, None, refl, sym, ap, ap₂, ◌∙◌, subst, ◌⊎◌, inl, inr, arith}
 use Rattle.std.specs.Prelude.{if◌then◌else◌, filter_map, filter, option_map, unwrap_or, not}
 use Rattle.std.specs.List.{cons_option}
@@ -15,14 +16,10 @@ use Rattle.gl_meaning.specs.Parts
 use Rattle.gl_meaning.specs.Render
 use Rattle.gl_meaning.specs.Changes
 use Rattle.gl_meaning.proofs.Equal.{text_itself, same_itself, no_owners-Decides}
+use Rattle.gl_meaning.proofs.Pieces.{among_either, filter_map_append, some_same, none_some, inner, pieces_inner, in_itself, in_inner, pieces_join, found_in, found_in_piece}
 use Rattle.gl_meaning.proofs.Under.{within_itself, within_outer, steps_apart, not_below, Under, From, in_comment, parts_of, UnderComponents, UnderYields, under_stmt, under_body, under_yields, under_components, under_by, in_parts, IsPartStep}
 
 -- Lists
-
-pub among_either : {A : Type 0} (i : A) (xs ys : List A) → Among i (xs ++ ys) → Among i xs ⊎ Among i ys
-among_either i [] ys m = inr m
-among_either i (x ∷ xs) ys (inl q) = inl (inl q)
-among_either i (x ∷ xs) ys (inr m) = elim (among_either i xs ys m) [ inl k ↦ inl (inr k) | inr k ↦ inr k ]
 
 no-repeat-append : {A : Type 0} (xs ys : List A) → NoRepeat xs → NoRepeat ys → ((i : A) → Among i xs → Among i ys → ⊥) → NoRepeat (xs ++ ys)
 no-repeat-append [] ys a b h = b
@@ -42,28 +39,6 @@ no-repeat-filter test (x ∷ xs) h = chosen (test x) (no-repeat-filter test xs h
   chosen : (b : Bool) → NoRepeat (filter test xs) → NoRepeat (cond b (x ∷ filter test xs) (filter test xs))
   chosen true k = ((λ m. h.0 (among-filter test x xs m)), k)
   chosen false k = k
-
-cons-append : {A : Type 0} (m : Option A) (xs ys : List A) → cons_option m xs ++ ys ≡ cons_option m (xs ++ ys)
-cons-append None xs ys = refl
-cons-append (Some i) xs ys = refl
-
-pub filter_map_append : {A B : Type 0} (g : A → Option B) (qs rs : List A) → filter_map g (qs ++ rs) ≡ filter_map g qs ++ filter_map g rs
-filter_map_append g [] rs = refl
-filter_map_append g (q ∷ qs) rs = ap (cons_option (g q)) (filter_map_append g qs rs) ∙ sym (cons-append (g q) (filter_map g qs) (filter_map g rs))
-
-append-assoc : {A : Type 0} (xs ys zs : List A) → (xs ++ ys) ++ zs ≡ xs ++ (ys ++ zs)
-append-assoc [] ys zs = refl
-append-assoc (x ∷ xs) ys zs = ap (λ a. x ∷ a) (append-assoc xs ys zs)
-
-append-empty : {A : Type 0} (xs : List A) → xs ++ [] ≡ xs
-append-empty [] = refl
-append-empty (x ∷ xs) = ap (λ a. x ∷ a) (append-empty xs)
-
-some-same : {A : Type 0} (x y : A) → Some x ≡ Some y → x ≡ y
-some-same x y q = ap (λ o. unwrap_or o x) q
-
-none-some : {A : Type 0} (x : A) → None ≡ Some x → ⊥
-none-some x q = cc
 
 -- Sorts of pieces, each with paths of its own
 
@@ -89,117 +64,49 @@ abbrev pub Once : Sort → Render.Forest → Type 0
 Once k f = NoRepeat (paths k f)
 
 node-picked : (q : Render.Piece) (i : Path.Path) → Changes.node_path q ≡ Some i → i ≡ Changes.piece_path q
-node-picked (Render.element_node j n b m f) i q = sym (some-same j i q)
-node-picked (Render.text_node j z) i q = sym (some-same j i q)
-node-picked (Render.comment_node j z) i q = sym (some-same j i q)
-node-picked (Render.component j w f) i q = absurd (none-some i q)
-node-picked (Render.branch j f) i q = absurd (none-some i q)
-node-picked (Render.item_region j v n f) i q = absurd (none-some i q)
-node-picked (Render.position j vs) i q = absurd (none-some i q)
-node-picked (Render.too_deep j) i q = absurd (none-some i q)
+node-picked (Render.element_node j n b m f) i q = sym (some_same j i q)
+node-picked (Render.text_node j z) i q = sym (some_same j i q)
+node-picked (Render.comment_node j z) i q = sym (some_same j i q)
+node-picked (Render.component j w f) i q = absurd (none_some i q)
+node-picked (Render.branch j f) i q = absurd (none_some i q)
+node-picked (Render.item_region j v n f) i q = absurd (none_some i q)
+node-picked (Render.position j vs) i q = absurd (none_some i q)
+node-picked (Render.too_deep j) i q = absurd (none_some i q)
 
 position-picked : (q : Render.Piece) (i : Path.Path) → position_path q ≡ Some i → i ≡ Changes.piece_path q
-position-picked (Render.element_node j n b m f) i q = absurd (none-some i q)
-position-picked (Render.text_node j z) i q = absurd (none-some i q)
-position-picked (Render.comment_node j z) i q = absurd (none-some i q)
-position-picked (Render.component j w f) i q = absurd (none-some i q)
-position-picked (Render.branch j f) i q = absurd (none-some i q)
-position-picked (Render.item_region j v n f) i q = absurd (none-some i q)
-position-picked (Render.position j vs) i q = sym (some-same j i q)
-position-picked (Render.too_deep j) i q = absurd (none-some i q)
+position-picked (Render.element_node j n b m f) i q = absurd (none_some i q)
+position-picked (Render.text_node j z) i q = absurd (none_some i q)
+position-picked (Render.comment_node j z) i q = absurd (none_some i q)
+position-picked (Render.component j w f) i q = absurd (none_some i q)
+position-picked (Render.branch j f) i q = absurd (none_some i q)
+position-picked (Render.item_region j v n f) i q = absurd (none_some i q)
+position-picked (Render.position j vs) i q = sym (some_same j i q)
+position-picked (Render.too_deep j) i q = absurd (none_some i q)
 
 region-picked : (q : Render.Piece) (i : Path.Path) → Changes.region_path q ≡ Some i → i ≡ Changes.piece_path q
-region-picked (Render.element_node j n b m f) i q = absurd (none-some i q)
-region-picked (Render.text_node j z) i q = absurd (none-some i q)
-region-picked (Render.comment_node j z) i q = absurd (none-some i q)
-region-picked (Render.component j w f) i q = sym (some-same j i q)
-region-picked (Render.branch j f) i q = sym (some-same j i q)
-region-picked (Render.item_region j v n f) i q = sym (some-same j i q)
-region-picked (Render.position j vs) i q = absurd (none-some i q)
-region-picked (Render.too_deep j) i q = absurd (none-some i q)
+region-picked (Render.element_node j n b m f) i q = absurd (none_some i q)
+region-picked (Render.text_node j z) i q = absurd (none_some i q)
+region-picked (Render.comment_node j z) i q = absurd (none_some i q)
+region-picked (Render.component j w f) i q = sym (some_same j i q)
+region-picked (Render.branch j f) i q = sym (some_same j i q)
+region-picked (Render.item_region j v n f) i q = sym (some_same j i q)
+region-picked (Render.position j vs) i q = absurd (none_some i q)
+region-picked (Render.too_deep j) i q = absurd (none_some i q)
 
 picked : (k : Sort) (q : Render.Piece) (i : Path.Path) → pick k q ≡ Some i → i ≡ Changes.piece_path q
 picked node_sort q i o = node-picked q i o
 picked position_sort q i o = position-picked q i o
 picked region_sort q i o = region-picked q i o
 
--- the forest in a piece
-abbrev inner : Render.Piece → Render.Forest
-inner (Render.element_node i n b m f) = f
-inner (Render.component i w f) = f
-inner (Render.branch i f) = f
-inner (Render.item_region i v n f) = f
-inner _ = Render.no_pieces
-
-pieces-inner : (q : Render.Piece) → Changes.pieces_in q ≡ q ∷ Changes.pieces (inner q)
-pieces-inner (Render.element_node i n b m f) = refl
-pieces-inner (Render.component i w f) = refl
-pieces-inner (Render.branch i f) = refl
-pieces-inner (Render.item_region i v n f) = refl
-pieces-inner (Render.text_node i z) = refl
-pieces-inner (Render.comment_node i z) = refl
-pieces-inner (Render.position i vs) = refl
-pieces-inner (Render.too_deep i) = refl
-
-in-itself : (q : Render.Piece) → InPiece q q
-in-itself (Render.element_node i n b m f) = inl refl
-in-itself (Render.component i w f) = inl refl
-in-itself (Render.branch i f) = inl refl
-in-itself (Render.item_region i v n f) = inl refl
-in-itself (Render.text_node i z) = refl
-in-itself (Render.comment_node i z) = refl
-in-itself (Render.position i vs) = refl
-in-itself (Render.too_deep i) = refl
-
-in-inner : (x q : Render.Piece) → In x (inner q) → InPiece x q
-in-inner x (Render.element_node i n b m f) h = inr h
-in-inner x (Render.component i w f) h = inr h
-in-inner x (Render.branch i f) h = inr h
-in-inner x (Render.item_region i v n f) h = inr h
-in-inner x (Render.text_node i z) h = absurd h
-in-inner x (Render.comment_node i z) h = absurd h
-in-inner x (Render.position i vs) h = absurd h
-in-inner x (Render.too_deep i) h = absurd h
-
-pub pieces_join : (f g : Render.Forest) → Changes.pieces (Render.join f g) ≡ Changes.pieces f ++ Changes.pieces g
-pieces_join Render.no_pieces g = refl
-pieces_join (Render.piece q f) g = ap (λ x. Changes.pieces_in q ++ x) (pieces_join f g) ∙ sym (append-assoc (Changes.pieces_in q) (Changes.pieces f) (Changes.pieces g))
-
 -- each path of a sort is that of a piece
 abbrev FromPiece : Path.Path → Render.Forest → Type 0
 FromPiece i f = (x : Render.Piece) × In x f × (i ≡ Changes.piece_path x)
 
-module _ (k : Sort) where
-  picked-first : (i : Path.Path) (q : Render.Piece) (js : List Path.Path) → Among i (cons_option (pick k q) js) → (i ≡ Changes.piece_path q) ⊎ Among i js
-  picked-first i q js m = chosen (pick k q) refl m where
-    chosen : (o : Option Path.Path) → pick k q ≡ o → Among i (cons_option o js) → (i ≡ Changes.piece_path q) ⊎ Among i js
-    chosen None h n = inr n
-    chosen (Some j) h (inl n) = inl (n ∙ picked k q j h)
-    chosen (Some j) h (inr n) = inr n
+path-forest : (k : Sort) (i : Path.Path) (f : Render.Forest) → Among i (paths k f) → FromPiece i f
+path-forest k i f m = let x = found_in (pick k) i f m in (x.0, x.1, picked k x.0 i x.2)
 
-  through : (i : Path.Path) (q : Render.Piece) → (Among i (paths k (inner q)) → FromPiece i (inner q)) → Among i (filter_map (pick k) (Changes.pieces_in q)) → (x : Render.Piece) × InPiece x q × (i ≡ Changes.piece_path x)
-  through i q h m = elim (picked-first i q (paths k (inner q)) (subst (λ z. Among i (filter_map (pick k) z)) (pieces-inner q) m)) [
-    | inl o ↦ (q, in-itself q, o)
-    | inr n ↦ let x = h n in (x.0, in-inner x.0 q x.1, x.2)
-  ]
-
-  mutual
-    path-piece : (i : Path.Path) (q : Render.Piece) → Among i (filter_map (pick k) (Changes.pieces_in q)) → (x : Render.Piece) × InPiece x q × (i ≡ Changes.piece_path x)
-    path-piece i (Render.element_node j n b m f) h = through i (Render.element_node j n b m f) (path-forest i f) h
-    path-piece i (Render.component j w f) h = through i (Render.component j w f) (path-forest i f) h
-    path-piece i (Render.branch j f) h = through i (Render.branch j f) (path-forest i f) h
-    path-piece i (Render.item_region j v n f) h = through i (Render.item_region j v n f) (path-forest i f) h
-    path-piece i (Render.text_node j z) h = through i (Render.text_node j z) (λ n. absurd n) h
-    path-piece i (Render.comment_node j z) h = through i (Render.comment_node j z) (λ n. absurd n) h
-    path-piece i (Render.position j vs) h = through i (Render.position j vs) (λ n. absurd n) h
-    path-piece i (Render.too_deep j) h = through i (Render.too_deep j) (λ n. absurd n) h
-
-    path-forest : (i : Path.Path) (f : Render.Forest) → Among i (paths k f) → FromPiece i f
-    path-forest i Render.no_pieces h = absurd h
-    path-forest i (Render.piece q f) h = elim (among_either i (filter_map (pick k) (Changes.pieces_in q)) (paths k f) (subst (λ z. Among i z) (filter_map_append (pick k) (Changes.pieces_in q) (Changes.pieces f)) h)) [
-      | inl m ↦ let x = path-piece i q m in (x.0, inl x.1, x.2)
-      | inr m ↦ let x = path-forest i f m in (x.0, inr x.1, x.2)
-    ]
+path-piece : (k : Sort) (i : Path.Path) (q : Render.Piece) → Among i (filter_map (pick k) (Changes.pieces_in q)) → (x : Render.Piece) × InPiece x q × (i ≡ Changes.piece_path x)
+path-piece k i q m = let x = found_in_piece (pick k) i q m in (x.0, x.1, picked k x.0 i x.2)
 
 -- nothing of the one has the path of anything of the other
 abbrev Apart : Render.Forest → Render.Forest → Type 0
@@ -245,7 +152,7 @@ module _ (k : Sort) where
 
   -- a piece over what is in it
   once-over : (q : Render.Piece) → Once k (inner q) → ApartFrom (Changes.piece_path q) (inner q) → NoRepeat (filter_map (pick k) (Changes.pieces_in q))
-  once-over q a h = subst (λ z. NoRepeat (filter_map (pick k) z)) (sym (pieces-inner q)) (chosen (pick k q) refl) where
+  once-over q a h = subst (λ z. NoRepeat (filter_map (pick k) z)) (sym (pieces_inner q)) (chosen (pick k q) refl) where
     chosen : (o : Option Path.Path) → pick k q ≡ o → NoRepeat (cons_option o (paths k (inner q)))
     chosen None n = a
     chosen (Some i) n = ((λ m. let x = path-forest k i (inner q) m in h x.0 x.1 (sym x.2 ∙ picked k q i n)), a)

@@ -1,5 +1,5 @@
 -- What is rendered from the settled store is the same rendering.
-use Rattle.gl_meaning.specs.Laws.{Among}
+use Rattle.gl_meaning.specs.Known.{Among}
 use Rattle.std.proofs.Common.{◌≡◌, ℕ, zero, suc, List, [], ◌∷◌, ◌++◌, map, Bool, true, false, true≢false, Option, Some, None, refl, sym, ap, ap₂, ◌∙◌, subst, inl, inr, cond}
 use mathlib.Core.Path.{fun_ext}
 use Rattle.std.specs.Prelude.{if◌then◌else◌, unwrap_or, filter, filter_map, flat_map, ◌&&◌, codes}

@@ -1,5 +1,6 @@
 -- What isn't touched is as it was: the laws on two turns in terms of `touched`.
-use Rattle.gl_meaning.specs.Laws.{IsUntouched, Among, NoRepeat, InPiece, In, EachPair}
+use Rattle.gl_meaning.specs.Laws.{IsUntouched, NoRepeat, InPiece, In, EachPair}
+use Rattle.gl_meaning.specs.Known.{Among}
 use Rattle.std.proofs.Common.{map, ◌≡◌, ℕ, List, [], ◌∷◌, ◌++◌, Bool, true, false, true≢false, Option, Some, None, refl, sym, ap, ap₂, ◌∙◌, subst, inl, inr}
 use Rattle.std.specs.Prelude.{if◌then◌else◌, filter_map, ◌&&◌, ◌||◌, not, unwrap_or}
 use Rattle.std.specs.List.{cons_option}
@@ -7,6 +8,7 @@ use Rattle.std.specs.Bool.{Decides}
 use Rattle.std.specs.Str.{bytes_eq}
 use Rattle.gl_base.specs.Names.{named}
 use Rattle.gl_meaning.proofs.Equal.{path_means, path_itself, same_means}
+use Rattle.gl_meaning.proofs.Pieces.{listed, found_in, any_false, any_true}
 use Rattle.gl_meaning.proofs.Once.{items_once}
 use Rattle.gl_base.specs.Texts.{Text}
 use Rattle.gl_meaning.specs.App.{App}
@@ -21,51 +23,6 @@ use Rattle.gl_value.specs.Value
 
 path-Decides : (i j : Path.Path) → Decides (Path.path_eq i j) (i ≡ j)
 path-Decides i j = (path_means i j, λ q. subst (λ z. Path.path_eq i z ≡ true) q (path_itself i))
-
-cons-among : (x : Changes.Item) (m : Option Changes.Item) (ys zs : List Changes.Item) → (Among x ys → Among x zs) → Among x (cons_option m ys) → Among x (cons_option m zs)
-cons-among x None ys zs h o = h o
-cons-among x (Some y) ys zs h (inl q) = inl q
-cons-among x (Some y) ys zs h (inr o) = inr (h o)
-
-cons-later : (x : Changes.Item) (m : Option Changes.Item) (ys : List Changes.Item) → Among x ys → Among x (cons_option m ys)
-cons-later x None ys o = o
-cons-later x (Some y) ys o = inr o
-
-cons-first : (x : Changes.Item) (m : Option Changes.Item) (ys : List Changes.Item) → m ≡ Some x → Among x (cons_option m ys)
-cons-first x None ys q = absurd cc
-cons-first x (Some y) ys q = inl (sym (ap (λ m. unwrap_or m y) q))
-
-append-left : (x : Changes.Item) (qs rs : List Render.Piece) → Among x (filter_map Changes.item_in qs) → Among x (filter_map Changes.item_in (qs ++ rs))
-append-left x [] rs o = absurd o
-append-left x (q ∷ qs) rs o = cons-among x (Changes.item_in q) (filter_map Changes.item_in qs) (filter_map Changes.item_in (qs ++ rs)) (append-left x qs rs) o
-
-append-right : (x : Changes.Item) (qs rs : List Render.Piece) → Among x (filter_map Changes.item_in rs) → Among x (filter_map Changes.item_in (qs ++ rs))
-append-right x [] rs o = o
-append-right x (q ∷ qs) rs o = cons-later x (Changes.item_in q) (filter_map Changes.item_in (qs ++ rs)) (append-right x qs rs o)
-
-none-some : (i : Changes.Item) → None ≡ Some i → ⊥
-none-some i q = cc
-
--- from a piece to the list of items, and back
-mutual
-  piece-item : (x : Render.Piece) (i : Changes.Item) → Changes.item_in x ≡ Some i → (q : Render.Piece) → InPiece x q → Among i (filter_map Changes.item_in (Changes.pieces_in q))
-  piece-item x i h (Render.element_node j n b m f) (inl q) = absurd (none-some i (sym (ap Changes.item_in q) ∙ h))
-  piece-item x i h (Render.element_node j n b m f) (inr k) = forest-item x i h f k
-  piece-item x i h (Render.component j w f) (inl q) = absurd (none-some i (sym (ap Changes.item_in q) ∙ h))
-  piece-item x i h (Render.component j w f) (inr k) = forest-item x i h f k
-  piece-item x i h (Render.branch j f) (inl q) = absurd (none-some i (sym (ap Changes.item_in q) ∙ h))
-  piece-item x i h (Render.branch j f) (inr k) = forest-item x i h f k
-  piece-item x i h (Render.item_region j w n f) (inl q) = cons-first i (Changes.item_in (Render.item_region j w n f)) _ (sym (ap Changes.item_in q) ∙ h)
-  piece-item x i h (Render.item_region j w n f) (inr k) = cons-later i (Changes.item_in (Render.item_region j w n f)) _ (forest-item x i h f k)
-  piece-item x i h (Render.text_node j z) q = absurd (none-some i (sym (ap Changes.item_in q) ∙ h))
-  piece-item x i h (Render.comment_node j z) q = absurd (none-some i (sym (ap Changes.item_in q) ∙ h))
-  piece-item x i h (Render.position j z) q = absurd (none-some i (sym (ap Changes.item_in q) ∙ h))
-  piece-item x i h (Render.too_deep j) q = absurd (none-some i (sym (ap Changes.item_in q) ∙ h))
-
-  forest-item : (x : Render.Piece) (i : Changes.Item) → Changes.item_in x ≡ Some i → (f : Render.Forest) → In x f → Among i (Changes.rendered_items f)
-  forest-item x i h Render.no_pieces k = absurd k
-  forest-item x i h (Render.piece q f) (inl k) = append-left i (Changes.pieces_in q) (Changes.pieces f) (piece-item x i h q k)
-  forest-item x i h (Render.piece q f) (inr k) = append-right i (Changes.pieces_in q) (Changes.pieces f) (forest-item x i h f k)
 
 among-path : (i : Changes.Item) (xs : List Changes.Item) → Among i xs → Among i.path (map (λ x. x.path) xs)
 among-path i [] m = absurd m
@@ -85,7 +42,7 @@ abbrev ItemsOnce : Render.Forest → Type 0
 ItemsOnce f = NoRepeat (map (λ x. x.path) (Changes.rendered_items f))
 
 found : (f : Render.Forest) → ItemsOnce f → (x : Render.Piece) (i : Changes.Item) → Changes.item_in x ≡ Some i → In x f → Changes.item_of i.path (Changes.rendered_items f) ≡ Some i
-found f h x i q m = first-found i (Changes.rendered_items f) h (forest-item x i q f m)
+found f h x i q m = first-found i (Changes.rendered_items f) h (listed Changes.item_in i x q f m)
 
 not-false : (b : Bool) → not b ≡ false → b ≡ true
 not-false true q = refl

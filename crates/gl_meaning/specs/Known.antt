@@ -1,5 +1,5 @@
 -- Names that don't resolve, and getters that reach themselves.
-use Rattle.std.specs.Prelude.{◌≡◌, List, [], ◌∷◌, ◌++◌, map, flat_map, Bool, true, false, ◌&&◌, ◌||◌, if◌then◌else◌, Option, Some, None, codes, is_some, All, ◌⊎◌}
+use Rattle.std.specs.Prelude.{◌≡◌, List, [], ◌∷◌, ◌++◌, map, flat_map, Bool, true, false, ◌&&◌, ◌||◌, if◌then◌else◌, Option, Some, None, codes, is_some, ◌⊎◌}
 use Rattle.std.specs.Str.{bytes_eq}
 use Rattle.gl_base.specs.Texts.{Text}
 use Rattle.gl_base.specs.Names.{named, has_text}
@@ -160,13 +160,14 @@ abbrev mutual
   named_mentions no_named = []
   named_mentions (named_expr n e ns) = mentions e ++ named_mentions ns
 
-abbrev pub IsAmong : Text → List Text → Type 0
-IsAmong x [] = ⊥
-IsAmong x (y ∷ ys) = (x ≡ y) ⊎ IsAmong x ys
+-- x stands in the list
+abbrev pub Among : {A : Type 0} → A → List A → Type 0
+Among x [] = ⊥
+Among x (y ∷ ys) = (x ≡ y) ⊎ Among x ys
 
 -- A chain of mentions among a class's getters leads from one getter to a member.
 pub data Leads (c : Class) : Text → Text → Type 0 where
-  mention : {g x : Text} {e : Expr} → named g c.getters ≡ Some e → IsAmong x (mentions e) → Leads c g x
+  mention : {g x : Text} {e : Expr} → named g c.getters ≡ Some e → Among x (mentions e) → Leads c g x
   onward : {g x y : Text} → Leads c g x → Leads c x y → Leads c g y
 
 -- the getter reaches itself
@@ -197,4 +198,4 @@ IsCyclic app g = IsFirstCycle (getters_of app) g
 
 -- no getter of the app reaches itself
 abbrev pub HasNoCycle : App → Type 0
-HasNoCycle app = All Acyclic app.classes
+HasNoCycle app = (c : Class) → Among c app.classes → Acyclic c
