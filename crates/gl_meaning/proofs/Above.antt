@@ -27,23 +27,23 @@ strictly-within k (l ∷ i) a = inr a
 
 module _ (P Q : Path.Path → Type 0) (h : (i : Path.Path) → P i → Q i) where
   mutual
-    owners-more : (x : Path.V) → Owners P x → Owners Q x
-    owners-more Value.undefined a = tt
-    owners-more Value.null a = tt
-    owners-more (Value.boolean b) a = tt
-    owners-more (Value.integer z) a = tt
-    owners-more (Value.text x) a = tt
-    owners-more (Value.list vs) a = owners-more-all vs a
-    owners-more (Value.pairs ms) a = owners-more-members ms a
-    owners-more (Value.action i n vs) a = (h i a.0, owners-more-all vs a.1)
+    pub owners_more : (x : Path.V) → Owners P x → Owners Q x
+    owners_more Value.undefined a = tt
+    owners_more Value.null a = tt
+    owners_more (Value.boolean b) a = tt
+    owners_more (Value.integer z) a = tt
+    owners_more (Value.text x) a = tt
+    owners_more (Value.list vs) a = owners_more-all vs a
+    owners_more (Value.pairs ms) a = owners_more-members ms a
+    owners_more (Value.action i n vs) a = (h i a.0, owners_more-all vs a.1)
 
-    owners-more-all : (vs : Value.Values Path.Path) → OwnersAll P vs → OwnersAll Q vs
-    owners-more-all Value.no_values a = tt
-    owners-more-all (Value.value x vs) a = (owners-more x a.0, owners-more-all vs a.1)
+    owners_more-all : (vs : Value.Values Path.Path) → OwnersAll P vs → OwnersAll Q vs
+    owners_more-all Value.no_values a = tt
+    owners_more-all (Value.value x vs) a = (owners_more x a.0, owners_more-all vs a.1)
 
-    owners-more-members : (ms : Value.Members Path.Path) → OwnersMembers P ms → OwnersMembers Q ms
-    owners-more-members Value.no_members a = tt
-    owners-more-members (Value.member n x ms) a = (owners-more x a.0, owners-more-members ms a.1)
+    owners_more-members : (ms : Value.Members Path.Path) → OwnersMembers P ms → OwnersMembers Q ms
+    owners_more-members Value.no_members a = tt
+    owners_more-members (Value.member n x ms) a = (owners_more x a.0, owners_more-members ms a.1)
 
   sources-more : (xs : List Scope.Source) → Sources P xs → Sources Q xs
   sources-more [] a = tt
@@ -52,7 +52,7 @@ module _ (P Q : Path.Path → Type 0) (h : (i : Path.Path) → P i → Q i) wher
   sources-more (Scope.item_index i ∷ xs) a = (h i a.0, sources-more xs a.1)
 
   pair-more : (x : Scope.Pair) → PairIn P x → PairIn Q x
-  pair-more x a = (sources-more x.sources a.0, owners-more x.value a.1)
+  pair-more x a = (sources-more x.sources a.0, owners_more x.value a.1)
 
   pairs-more : (xs : List Scope.Pair) → PairsIn P xs → PairsIn Q xs
   pairs-more [] a = tt
@@ -150,7 +150,7 @@ module _ (app : App) (σ : Eval.Store) (cells : (P : Path.Path → Type 0) (i : 
   entry-pairs-in : (j : Path.Path) (l : Path.PathStep) (x : Render.Entry) → Owners (AtOrAbove j) x.value → PairsIn (AtOrAbove (l ∷ Path.items ∷ j)) (Render.entry_pairs (l ∷ Path.items ∷ j) x)
   entry-pairs-in j l x a =
       let here = within_itself (l ∷ Path.items ∷ j) in
-      (((here, tt), owners-more (AtOrAbove j) (AtOrAbove (l ∷ Path.items ∷ j)) (λ m n. inr (inr n)) x.value a), (((here, tt), tt), tt))
+      (((here, tt), owners_more (AtOrAbove j) (AtOrAbove (l ∷ Path.items ∷ j)) (λ m n. inr (inr n)) x.value a), (((here, tt), tt), tt))
 
   good-entries : (one : Path.Path → Render.Entry → Render.Forest) (j : Path.Path) → ((l : Path.PathStep) (x : Render.Entry) → Owners (AtOrAbove j) x.value → AllReadAbove (one (l ∷ Path.items ∷ j) x)) → (xs : List Render.Entry) → EntriesIn j xs
       → AllReadAbove (Render.render_entries one (Path.items ∷ j) xs)

@@ -4,6 +4,7 @@ use Rattle.std.proofs.Common.{◌≡◌, ◌≤◌, ◌<◌, ℕ, zero, suc, Lis
 use Rattle.std.specs.Prelude.{if◌then◌else◌, filter, codes}
 use Rattle.std.specs.Str.{bytes_eq}
 use Rattle.gl_value.specs.Value.{Values, no_values, value, count_value}
+use Rattle.gl_meaning.proofs.Pieces.{some_same}
 use Rattle.gl_meaning.proofs.Under.{in_join, in_left, in_right, within_itself, steps_apart, not_below, Under, From, from_within, in_comment, IsPartStep, InElement, parts_of, of_parts, itself, inside, in_element, in-forest-append, UnderComponents, UnderYields, under_stmt, under_body, under_yields, under_components, under_by, under_entries}
 use Rattle.gl_base.specs.Texts.{Text}
 use Rattle.gl_meaning.specs.App.{App}
@@ -549,3 +550,37 @@ module _ (U : Scope.Source → Type 0) where
 
     pub draw_alike : Alike (Render.draw app σ) (Render.draw app τ)
     draw_alike = alike-components app.limit [] [] [] Scope.nothing_passed Scope.nothing_passed Frame.names_none Frame.keeps_nothing
+
+module _ (U : Scope.Source → Type 0) (f g : Render.Forest)
+    (h : (i j : Path.Path) (v w : Path.V) (n m : ℕ) (a b : Render.Forest) → In (Render.item_region i v n a) f → In (Render.item_region j w m b) g → i ≡ j → (U (Scope.item_value i) → v ≡ w) × (U (Scope.item_index i) → SameIndex n m)) where
+  pub items_keep_by : EachPair (ItemsKeep U) f g
+  items_keep_by (Render.item_region i w n c) (Render.item_region j y m d) a b = h i j w y n m c d a b
+  items_keep_by (Render.item_region i w n c) (Render.element_node j y m d o) a b = tt
+  items_keep_by (Render.item_region i w n c) (Render.text_node j y) a b = tt
+  items_keep_by (Render.item_region i w n c) (Render.comment_node j y) a b = tt
+  items_keep_by (Render.item_region i w n c) (Render.component j y d) a b = tt
+  items_keep_by (Render.item_region i w n c) (Render.branch j d) a b = tt
+  items_keep_by (Render.item_region i w n c) (Render.position j d) a b = tt
+  items_keep_by (Render.item_region i w n c) (Render.too_deep j) a b = tt
+  items_keep_by (Render.element_node i w n c d) y a b = tt
+  items_keep_by (Render.text_node i w) y a b = tt
+  items_keep_by (Render.comment_node i w) y a b = tt
+  items_keep_by (Render.component i w c) y a b = tt
+  items_keep_by (Render.branch i c) y a b = tt
+  items_keep_by (Render.position i c) y a b = tt
+  items_keep_by (Render.too_deep i) y a b = tt
+
+-- for the kinds of nodes alone nothing needs to be untouched
+Never : Scope.Source → Type 0
+Never x = ⊥
+
+kinds-by : (a b : Option NodeKind) (k l : NodeKind) → KindsAgree a b → a ≡ Some k → b ≡ Some l → k ≡ l
+kinds-by None b k l h q o = absurd cc
+kinds-by (Some m) None k l h q o = absurd cc
+kinds-by (Some m) (Some n) k l h q o = sym (some_same m k q) ∙ (h ∙ some_same n l o)
+
+pub kind_is_kept : (app : App) (σ τ : Eval.Store) (x y : Render.Piece) (k l : NodeKind) → In x (Render.draw app σ) → In y (Render.draw app τ) → Changes.piece_path x ≡ Changes.piece_path y → node_kind x ≡ Some k → node_kind y ≡ Some l → k ≡ l
+unfolding Never
+kind_is_kept app σ τ x y k l m n q a b =
+    let related = draw_alike Never app σ τ (λ i z u. absurd u) (items_keep_by Never (Render.draw app σ) (Render.draw app τ) (λ i j v w c d e f g h o. ((λ u. absurd u), (λ u. absurd u)))) x y m n q in
+    kinds-by (node_kind x) (node_kind y) k l related.0 a b

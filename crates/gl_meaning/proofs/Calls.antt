@@ -1,6 +1,6 @@
 -- The nesting of the owner is enough for the actions that an action calls.
 use Rattle.gl_meaning.specs.Laws.{InPiece, Within, IsAbove, Owners, NamesIn, AboveOf, ReadsAbove, AllReadAbove}
-use Rattle.std.proofs.Common.{◌≡◌, ◌≤◌, ℕ, zero, suc, List, [], ◌∷◌, ◌++◌, Bool, true, false, Option, Some, None, refl, sym, ap, ◌∙◌, subst, inl, inr, arith}
+use Rattle.std.proofs.Common.{◌≡◌, ◌≤◌, ◌+◌, ◌-◌, ℕ, zero, suc, List, [], ◌∷◌, ◌++◌, Bool, true, false, Option, Some, None, refl, sym, ap, ◌∙◌, subst, inl, inr, arith}
 use Rattle.std.specs.Prelude.{if◌then◌else◌, unwrap_or, filter_map}
 use Rattle.std.specs.List.{cons_option}
 use Rattle.gl_base.specs.Names.{last_named}
@@ -129,7 +129,7 @@ module _ (app : App) (σ : Eval.Store) (f : Render.Forest) (good : AllReadAbove 
   run-action n h (Path.modifier_at l ∷ i) m vs k given z = refl
 
   -- with as many levels as the owner's nesting, or more, one level more changes nothing
-  pub run_more : (n : ℕ) (x : Path.V) → Near n x → (given : List Path.V) (z : Changes.Sets) → Actions.run_at n app σ f x given z ≡ Actions.run_at (suc n) app σ f x given z
+  run_more : (n : ℕ) (x : Path.V) → Near n x → (given : List Path.V) (z : Changes.Sets) → Actions.run_at n app σ f x given z ≡ Actions.run_at (suc n) app σ f x given z
   run_more zero (Value.action i m vs) h given z = let g : 1 ≤ Path.nesting i = nesting-positive i in absurd (omega arith)
   run_more (suc n) (Value.action i m vs) h given z = run-action n (run_more n) i m vs h given z
   run_more zero Value.undefined h given z = refl
@@ -146,3 +146,13 @@ module _ (app : App) (σ : Eval.Store) (f : Render.Forest) (good : AllReadAbove 
   run_more (suc n) (Value.text y) h given z = refl
   run_more (suc n) (Value.list vs) h given z = refl
   run_more (suc n) (Value.pairs ms) h given z = refl
+
+  -- from the nesting of the owner on
+  enough : (x : Path.V) (given : List Path.V) (z : Changes.Sets) (d n : ℕ) → n ≡ Actions.owner_nesting x + d → Actions.run_at n app σ f x given z ≡ Actions.run app σ f x given z
+  enough x given z zero n q = let e : n ≡ Actions.owner_nesting x = omega arith in ap (λ m. Actions.run_at m app σ f x given z) e
+  enough x given z (suc d) n q =
+      let m = Actions.owner_nesting x + d in let e : n ≡ suc m = omega arith in
+      ap (λ k. Actions.run_at k app σ f x given z) e ∙ (sym (run_more m x (omega arith) given z) ∙ enough x given z d m refl)
+
+  pub run_enough : (x : Path.V) (given : List Path.V) (z : Changes.Sets) (n : ℕ) → Actions.owner_nesting x ≤ n → Actions.run_at n app σ f x given z ≡ Actions.run app σ f x given z
+  run_enough x given z n h = enough x given z (n - Actions.owner_nesting x) n (omega arith)

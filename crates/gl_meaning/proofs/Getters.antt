@@ -3,7 +3,7 @@ use Rattle.std.proofs.Common.{◌≡◌, ◌≤◌, ◌<◌, ◌+◌, ℕ, zero,
 use Rattle.std.specs.Prelude.{if◌then◌else◌}
 use Rattle.std.specs.Str.{bytes_eq}
 use Rattle.gl_base.specs.Names.{named}
-use Rattle.gl_meaning.specs.Known.{mentions, all_mentions, named_mentions, Among, Leads, mention, onward, Acyclic}
+use Rattle.gl_meaning.specs.Known.{mentions, all_mentions, named_mentions, Among, Leads, mention, onward, Acyclic, HasNoCycle}
 use Rattle.gl_meaning.proofs.Equal.{text_means}
 use Rattle.gl_base.specs.Texts.{Text}
 use Rattle.gl_meaning.specs.App.{App, Class}
@@ -120,10 +120,54 @@ module _ (app : App) (σ : Eval.Store) where
       (λ z o y q. deep-enough n i a (z ∷ us) y k (lead-apart c us z (mentions x) k o l, d) (named-among z c.getters y q, m) ((λ v u. mention q u), lead-on c us z y (mentions x) q o l) (omega arith))
 
   -- a getter is the value of its expression, with this `this` and these arguments, without locals
-  pub getter_value : (w : Scope.Scope) (g : Text) (ks : List Text) (x : Template.Expr) → let c = Eval.class_at app (Scope.this_of w) in Acyclic c → named g c.fields ≡ None → named g c.getters ≡ Some x
+  getter-value : (w : Scope.Scope) (g : Text) (ks : List Text) (x : Template.Expr) → let c = Eval.class_at app (Scope.this_of w) in Acyclic c → named g c.fields ≡ None → named g c.getters ≡ Some x
       → Eval.eval app σ w (Template.this g ks) ≡ Eval.with_properties ks (Eval.eval app σ (Scope.own_scope w) x)
-  getter_value (Scope.scope i a l v) g ks x k f q =
+  getter-value (Scope.scope i a l v) g ks x k f q =
       let c = Eval.class_at app i in
       let n = length c.getters in
       ap (λ m. Eval.with_properties ks (Eval.member_pair app σ (Eval.eval_deep n app σ (Scope.scope i a [] Scope.nothing_passed)) (Scope.scope i a l v) g m)) (ap₂ (λ y z. Eval.field_or y (Eval.getter_or_action z)) f q)
       ∙ ap (Eval.with_properties ks) (deep-enough n i a (g ∷ []) x k ((λ m. m), tt) (named-among g c.getters x q, tt) ((λ z m. mention q m), tt) (omega arith))
+
+-- no getter of no class reaches itself
+no-leads : {g x : Text} → Leads Eval.no_class g x → ⊥
+no-leads (mention q m) = cc
+no-leads (onward a b) = no-leads a
+
+module _ (app : App) (h : HasNoCycle app) where
+  named-acyclic : (n : Text) (cs : List Class) → ((c : Class) → Among c cs → Acyclic c) → Acyclic (Eval.class_named n cs)
+  named-acyclic n [] k = λ g l. no-leads l
+  named-acyclic n (c ∷ cs) k = chosen (bytes_eq n c.name) (named-acyclic n cs (λ d m. k d (inr m))) where
+    chosen : (b : Bool) → Acyclic (Eval.class_named n cs) → Acyclic (if b then c else Eval.class_named n cs)
+    chosen true r = k c (inl refl)
+    chosen false r = r
+
+  class-acyclic : (i : Path.Path) → Acyclic (Eval.class_at app i)
+  class-acyclic [] = named-acyclic app.root app.classes h
+  class-acyclic (Path.into c ∷ i) = named-acyclic c app.classes h
+  class-acyclic (Path.at n ∷ i) = λ g l. no-leads l
+  class-acyclic (Path.main ∷ i) = λ g l. no-leads l
+  class-acyclic (Path.otherwise ∷ i) = λ g l. no-leads l
+  class-acyclic (Path.items ∷ i) = λ g l. no-leads l
+  class-acyclic (Path.item k n ∷ i) = λ g l. no-leads l
+  class-acyclic (Path.slot n ∷ i) = λ g l. no-leads l
+  class-acyclic (Path.empty ∷ i) = λ g l. no-leads l
+  class-acyclic (Path.attribute_at n ∷ i) = λ g l. no-leads l
+  class-acyclic (Path.modifier_at n ∷ i) = λ g l. no-leads l
+
+-- a member that is a getter is no field, and has that expression
+expression-or : Template.Expr → Eval.Member → Template.Expr
+expression-or x (Eval.getter_member y) = y
+expression-or x _ = x
+
+is-getter : (f : Option Template.Plain) (o : Option Template.Expr) (x : Template.Expr) → Eval.field_or f (Eval.getter_or_action o) ≡ Eval.getter_member x → (f ≡ None) × (o ≡ Some x)
+unfolding expression-or
+is-getter (Some v) o x q = absurd cc
+is-getter None None x q = absurd cc
+is-getter None (Some y) x q = (refl, ap (λ m. Some (expression-or y m)) q)
+
+pub getter_value : (app : App) (σ : Eval.Store) (w : Scope.Scope) (g : Text) (ks : List Text) (x : Template.Expr) → HasNoCycle app → Eval.member_of (Eval.class_at app (Scope.this_of w)) g ≡ Eval.getter_member x
+    → Eval.eval app σ w (Template.this g ks) ≡ Eval.with_properties ks (Eval.eval app σ (Scope.own_scope w) x)
+getter_value app σ w g ks x h q =
+    let c = Eval.class_at app (Scope.this_of w) in
+    let is = is-getter (named g c.fields) (named g c.getters) x q in
+    getter-value app σ w g ks x (class-acyclic app h (Scope.this_of w)) is.0 is.1

@@ -14,6 +14,7 @@ mod Once
 mod Pieces
 mod Plain
 mod Reach
+mod Sessions
 mod Settled
 mod Touched
 mod Under

@@ -1,9 +1,9 @@
 -- A node keeps its number, and no number is given twice.
-use Rattle.std.proofs.Common.{◌≡◌, ◌≤◌, ◌<◌, ℕ, zero, suc, List, [], ◌∷◌, Bool, true, false, true≢false, Option, Some, None, refl, sym, ap, ◌∙◌, subst, ◌⊎◌, inl, inr, arith}
+use Rattle.std.proofs.Common.{◌≡◌, ◌≤◌, ◌<◌, ℕ, suc, List, [], ◌∷◌, Bool, true, false, true≢false, Option, Some, None, refl, sym, ap, ◌∙◌, subst, inl, inr, arith}
 use Rattle.std.specs.Prelude.{if◌then◌else◌}
 use Rattle.gl_meaning.specs.Path.{Path, path_eq, at_path}
 use Rattle.gl_meaning.specs.Render.{Forest}
-use Rattle.gl_meaning.specs.Changes.{nodes, Numbers, with_number, number_one, number_from, number}
+use Rattle.gl_meaning.specs.Changes.{nodes, Numbers, number_one, number_from, number}
 use Rattle.gl_meaning.specs.Known.{Among}
 use Rattle.gl_meaning.specs.Laws.{ValidNumbers}
 use Rattle.gl_meaning.proofs.Equal.{path_means, path_itself}
@@ -131,12 +131,15 @@ nodes_are_numbered ns f i n q = by (origin ns.of (nodes f) ns.next i n q) where
 pub next_grows : (ns : Numbers) (f : Forest) → ns.next ≤ (number ns f).next
 next_grows ns f = grows ns.of (nodes f) ns.next
 
--- a path that has a number which another path had, is that path
-pub number_stays : (ns : Numbers) (f : Forest) → ValidNumbers ns → (i j : Path) (n : ℕ) → at_path i ns.of ≡ Some n → at_path j (number ns f).of ≡ Some n → i ≡ j
-number_stays ns f v i j n q r = by (origin ns.of (nodes f) ns.next j n r) where
+-- where only the path i may have a number that is below the next one, this stays so
+pub number_again : (ns : Numbers) (f : Forest) (i : Path) (n : ℕ) → n < ns.next → ((j : Path) → at_path j ns.of ≡ Some n → i ≡ j) → (j : Path) → at_path j (number ns f).of ≡ Some n → i ≡ j
+number_again ns f i n h k j r = by (origin ns.of (nodes f) ns.next j n r) where
   by : Origin ns.of j (nodes f) ns.next n (number ns f).next → i ≡ j
-  by (kept m e) = v.1 i j n q e
-  by (given m e a b) = let g : n < ns.next = v.0 i n q in absurd (omega arith)
+  by (kept m e) = k j e
+  by (given m e a b) = absurd (omega arith)
+
+number-stays : (ns : Numbers) (f : Forest) → ValidNumbers ns → (i j : Path) (n : ℕ) → at_path i ns.of ≡ Some n → at_path j (number ns f).of ≡ Some n → i ≡ j
+number-stays ns f v i j n q r = number_again ns f i n (v.0 i n q) (λ j k. v.1 i j n q k) j r
 
 pub numbers_stay_valid : (ns : Numbers) (f : Forest) → ValidNumbers ns → ValidNumbers (number ns f)
 numbers_stay_valid ns f v = (below, same) where
@@ -149,6 +152,6 @@ numbers_stay_valid ns f v = (below, same) where
   same : (i j : Path) (n : ℕ) → at_path i (number ns f).of ≡ Some n → at_path j (number ns f).of ≡ Some n → i ≡ j
   same i j n q r = by (origin ns.of (nodes f) ns.next i n q) (origin ns.of (nodes f) ns.next j n r) where
     by : Origin ns.of i (nodes f) ns.next n (number ns f).next → Origin ns.of j (nodes f) ns.next n (number ns f).next → i ≡ j
-    by (kept m e) o = number_stays ns f v i j n e r
-    by (given m e a b) (kept k d) = sym (number_stays ns f v j i n d q)
+    by (kept m e) o = number-stays ns f v i j n e r
+    by (given m e a b) (kept k d) = sym (number-stays ns f v j i n d q)
     by (given m e a b) (given k d c g) = new-same ns.of (nodes f) ns.next i j n e d q r

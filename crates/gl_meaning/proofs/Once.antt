@@ -2,7 +2,7 @@
 use Rattle.gl_meaning.specs.Laws.{NoRepeat, InPiece, In, Within}
 use Rattle.gl_meaning.specs.Known.{Among}
 use Rattle.std.proofs.Common.{◌≡◌, ◌≤◌, ℕ, zero, suc, List, [], ◌∷◌, ◌++◌, map, cond, Bool, true, false, true≢false, Option, Some, None, refl, sym, ap, ap₂, ◌∙◌, subst, ◌⊎◌, inl, inr, arith}
-use Rattle.std.specs.Prelude.{if◌then◌else◌, filter_map, filter, option_map, unwrap_or, not}
+use Rattle.std.specs.Prelude.{if◌then◌else◌, filter_map, filter, option_map, not}
 use Rattle.std.specs.List.{cons_option}
 use Rattle.std.specs.Str.{bytes_eq}
 use Rattle.gl_base.specs.Texts.{Text}
@@ -16,7 +16,7 @@ use Rattle.gl_meaning.specs.Parts
 use Rattle.gl_meaning.specs.Render
 use Rattle.gl_meaning.specs.Changes
 use Rattle.gl_meaning.proofs.Equal.{text_itself, same_itself, no_owners-Decides}
-use Rattle.gl_meaning.proofs.Pieces.{among_either, filter_map_append, some_same, none_some, inner, pieces_inner, in_itself, in_inner, pieces_join, found_in, found_in_piece}
+use Rattle.gl_meaning.proofs.Pieces.{among_either, filter_map_append, some_same, none_some, inner, pieces_inner, pieces_join, found_in, found_in_piece}
 use Rattle.gl_meaning.proofs.Under.{within_itself, within_outer, steps_apart, not_below, Under, From, in_comment, parts_of, UnderComponents, UnderYields, under_stmt, under_body, under_yields, under_components, under_by, in_parts, IsPartStep}
 
 -- Lists

@@ -7,7 +7,7 @@ use Rattle.std.specs.List.{cons_option}
 use Rattle.std.specs.Str.{bytes_eq}
 use Rattle.gl_value.specs.Value.{Values, no_values, value, undefined, plain}
 use Rattle.gl_base.specs.Names.{named}
-use Rattle.gl_meaning.proofs.Equal.{text_means, path_means, path_itself}
+use Rattle.gl_meaning.proofs.Equal.{text_means, text_itself, path_means, path_itself}
 use Rattle.gl_base.specs.Texts.{Text}
 use Rattle.gl_meaning.specs.App.{App}
 use Rattle.gl_meaning.specs.Changes
@@ -307,6 +307,14 @@ module _ (app : App) (σ τ : Eval.Store) where
     agree-forest Render.no_pieces h = tt
     agree-forest (Render.piece q f) h = (agree-piece q (λ i m. h i (among-left i Changes.instance_path (Changes.pieces_in q) (Changes.pieces f) m)), agree-forest f (λ i m. h i (among-right i Changes.instance_path (Changes.pieces_in q) (Changes.pieces f) m)))
 
+named-some : {A : Type 0} (fs : List (Text × A)) (g : Text × A) → Among g fs → (v : A) × (named g.0 fs ≡ Some v)
+named-some [] g m = absurd m
+named-some (f ∷ fs) g (inl q) = (f.1, ap (λ b. if b then Some f.1 else named g.0 fs) (ap (λ z. bytes_eq g.0 z.0) (sym q) ∙ text_itself g.0))
+named-some {A = A} (f ∷ fs) g (inr m) = later (bytes_eq g.0 f.0) (named-some fs g m) where
+  later : (b : Bool) → (v : A) × (named g.0 fs ≡ Some v) → (v : A) × ((if b then Some f.1 else named g.0 fs) ≡ Some v)
+  later true h = (f.1, refl)
+  later false h = h
+
 module _ (app : App) (σ : Eval.Store) where
   abbrev cells : Path.Path → List (Text × Template.Plain) → Eval.Store
   cells i fs = map (λ f. record { instance = i; field = f.0; value = Eval.cell_value app σ i f.0 }) fs
@@ -343,3 +351,22 @@ module _ (app : App) (σ : Eval.Store) where
 
   pub render_settled : Render.render app (Changes.settle app σ (Render.draw app σ)) ≡ Render.render app σ
   render_settled = ap (λ f. if Render.fits f then Some f else None) draw_settled
+
+  -- the cells of an instance, from two stores that agree there
+  cells-same : (τ : Eval.Store) (i : Path.Path) (fs : List (Text × Template.Plain)) → ((x : Text) (v : Template.Plain) → named x fs ≡ Some v → Eval.cell_value app σ i x ≡ Eval.cell_value app τ i x)
+      → (gs : List (Text × Template.Plain)) → ((g : Text × Template.Plain) → Among g gs → Among g fs)
+      → let from : Eval.Store → Text × Template.Plain → Eval.Held = λ υ f. record { instance = i; field = f.0; value = Eval.cell_value app υ i f.0 } in map (from τ) gs ≡ map (from σ) gs
+  cells-same τ i fs h [] m = refl
+  cells-same τ i fs h (g ∷ gs) m =
+      let held = named-some fs g (m g (inl refl)) in
+      let from : Path.V → Eval.Held = λ v. record { instance = i; field = g.0; value = v } in
+      ap₂ (λ v hs. from v ∷ hs) (sym (h g.0 held.0 held.1)) (cells-same τ i fs h gs (λ x n. m x (inr n)))
+
+  settled-cells : (f : Render.Forest) (js : List Path.Path) → ((j : Path.Path) → Among j js → Among j (Changes.instances f)) → flat_map (Changes.cells_of app (Changes.settle app σ f)) js ≡ flat_map (Changes.cells_of app σ) js
+  settled-cells f [] m = refl
+  settled-cells f (j ∷ js) m =
+      let fs = (Eval.class_at app j).fields in
+      ap₂ (λ xs ys. xs ++ ys) (cells-same (Changes.settle app σ f) j fs (settled-agrees f j (m j (inl refl))) fs (λ g n. n)) (settled-cells f js (λ i n. m i (inr n)))
+
+  pub settle_settled : (f : Render.Forest) → Changes.settle app (Changes.settle app σ f) f ≡ Changes.settle app σ f
+  settle_settled f = settled-cells f (Changes.instances f) (λ j n. n)
