@@ -1,20 +1,20 @@
-mod Above
-mod Alike
-mod Calls
+pub mod Above
+pub mod Alike
+pub mod Calls
 mod CaseTodo
 mod CasesActions
 mod CasesLists
 mod CasesNames
 mod CasesTexts
-mod Equal
-mod Frame
-mod Getters
-mod Numbers
-mod Once
-mod Pieces
-mod Plain
-mod Reach
-mod Sessions
-mod Settled
-mod Touched
-mod Under
+pub mod Equal
+pub mod Frame
+pub mod Getters
+pub mod Numbers
+pub mod Once
+pub mod Pieces
+pub mod Plain
+pub mod Reach
+pub mod Sessions
+pub mod Settled
+pub mod Touched
+pub mod Under

@@ -370,3 +370,6 @@ module _ (app : App) (σ : Eval.Store) where
 
   pub settle_settled : (f : Render.Forest) → Changes.settle app (Changes.settle app σ f) f ≡ Changes.settle app σ f
   settle_settled f = settled-cells f (Changes.instances f) (λ j n. n)
+
+pub draw_settles : (app : App) (σ : Eval.Store) → let f = Render.draw app σ in Changes.settle app (Changes.settle app σ f) f ≡ Changes.settle app σ f
+draw_settles app σ = settle_settled app σ (Render.draw app σ)
