@@ -1,5 +1,5 @@
 -- Expressions, statements and templates.
-use Rattle.std.specs.Prelude.{List, Bool}
+use Rattle.std.specs.Prelude.{List, [], ◌∷◌, Bool}
 use Rattle.gl_base.specs.Texts.{Text}
 use Rattle.gl_value.specs.Value.{Value}
 
@@ -52,3 +52,8 @@ mutual
   pub data Slots : Type 0 where
     no_slots : Slots
     block : Text → List Text → Body → Slots → Slots
+
+-- the body of these statements
+abbrev pub body_of : List Stmt → Body
+body_of [] = end
+body_of (s ∷ ss) = stmt s (body_of ss)

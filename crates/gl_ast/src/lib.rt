@@ -1,2 +1,6 @@
 //! The tree of a template.
 #![tactic(auto)]
+
+mod stmt;
+
+pub use stmt::{Body, Stmt, Str};

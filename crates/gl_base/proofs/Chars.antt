@@ -1,5 +1,5 @@
 -- Laws of texts as bytes and as characters.
-use Rattle.std.proofs.Common.{[], ◌∷◌, append-nil, arith, true, zero, suc, ◌≡◌, ℕ, List, ◌++◌, sym, ap, ◌∙◌, append_assoc}
+use Rattle.std.proofs.Common.{[], ◌∷◌, append-nil, arith, true, zero, suc, ◌≡◌, ℕ, List, ◌++◌, sym, ap, ◌∙◌, append_assoc, length}
 use Rattle.std.specs.Prelude.{encode_utf8, encode_utf8_all, flat_map}
 use Rattle.std.specs.Char.{IsScalar}
 use Rattle.std.specs.Bool.{Decides}
@@ -48,3 +48,12 @@ pub written_more : (f : ℕ → List ℕ) (start out new cs : List ℕ) (c : ℕ
 written_more f start out new cs c e g =
     g ∙ ap (λ o. o ++ f c) e ∙ append_assoc start (flat_map f cs) (f c)
     ∙ ap (λ o. start ++ o) (ap (λ o. flat_map f cs ++ o) (sym (append-nil (f c))) ∙ sym (flat_map-append f cs (c ∷ [])))
+
+pub ruleset equal_laws = (bytes_eq-chars, IsUtf8-string_bytes)
+
+pub empty_chars : (bs : List ℕ) → length bs ≡ 0 → chars bs ≡ []
+empty_chars [] e = chars-nil
+empty_chars (b ∷ bs) e = absurd (omega (arith, e))
+
+pub chars_empty : (bs : List ℕ) → IsUtf8 bs → chars bs ≡ [] → length bs ≡ 0
+chars_empty bs u e = ap length (sym (encodes-chars bs u) ∙ ap encode_utf8_all e)

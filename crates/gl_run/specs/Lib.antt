@@ -1,0 +1,17 @@
+pub mod Forms
+pub mod Load
+pub mod Manifest
+pub mod Names
+pub mod Numbers
+pub mod Output
+pub mod Page
+pub mod Path
+pub mod Places
+pub mod Plays
+pub mod Print
+pub mod Render
+pub mod Seen
+pub mod Session
+pub mod Spelling
+pub mod Status
+pub mod Template

@@ -1,0 +1,13 @@
+//! The command line of the renderer, over a shelf of files and two sinks.
+#![tactic(auto)]
+
+mod fault;
+mod manifest;
+mod names;
+mod page;
+mod session;
+mod status;
+mod template;
+
+pub use fault::FormFault;
+pub use status::Status;
