@@ -49,9 +49,13 @@ module _ (app : App) (store : Store) (calls : Calls) (s : Scope) where
 
   abbrev pub run_step : Step → Sets → Sets
   run_step (set_step when f e) sofar =
-      if runs when sofar then sofar ++ record { instance = this_of s; field = f; value = plain (eval app (lay sofar store) s e).value } ∷ [] else sofar
+      if runs when sofar
+      then sofar ++ record { instance = this_of s; field = f; value = plain (eval app (lay sofar store) s e).value } ∷ []
+      else sofar
   run_step (call_step when a ks es) sofar =
-      if runs when sofar then calls (properties ks (unwrap_or (last_named a (arguments_of s)) absent).value) (values_in (eval_all app (lay sofar store) s es)) sofar else sofar
+      if runs when sofar
+      then calls (properties ks (unwrap_or (last_named a (arguments_of s)) absent).value) (values_in (eval_all app (lay sofar store) s es)) sofar
+      else sofar
 
   abbrev pub run_steps : List Step → Sets → Sets
   run_steps [] sofar = sofar
@@ -74,11 +78,14 @@ run app store f v given sofar = run_at (owner_nesting v) app store f v given sof
 
 -- Listeners
 
--- A modifier `on` listens for the event whose name is its first argument's text; its second argument is called. A missing one is
--- undefined.
+-- the value of a modifier's positional argument at a place; a missing one is undefined
+abbrev pub argument_value : ℕ → Modifier → V
+argument_value i m = at_place undefined i (values_in m.args)
+
+-- A modifier `on` listens for the event whose name is its first argument's text; its second argument is called.
 abbrev pub listener : Text → Modifier → Option V
 listener name m =
-    if bytes_eq m.name (codes "on") && bytes_eq (text_of (at_place undefined 0 (values_in m.args))) name then Some (at_place undefined 1 (values_in m.args)) else None
+    if bytes_eq m.name (codes "on") && bytes_eq (text_of (argument_value 0 m)) name then Some (argument_value 1 m) else None
 
 abbrev pub is_at : Path → Option Path → Bool
 is_at p None = false

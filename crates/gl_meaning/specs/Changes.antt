@@ -144,19 +144,27 @@ Sets = List Held
 abbrev pub is_set : Sets → Path → Text → Bool
 is_set sets t f = list_any (λ h. path_eq t h.instance && bytes_eq f h.field) sets
 
+-- the item with a path
 abbrev pub item_of : Path → List Item → Option Item
 item_of p [] = None
 item_of p (i ∷ is) = if path_eq p i.path then Some i else item_of p is
 
+-- both are there, and differ
 abbrev pub both_differ : {A : Type 0} → (A → A → Bool) → Option A → Option A → Bool
 both_differ eq (Some x) (Some y) = not (eq x y)
 both_differ eq _ _ = false
 
+abbrev pub same_value : Item → Item → Bool
+same_value x y = same path_eq x.value y.value
+
+abbrev pub same_index : Item → Item → Bool
+same_index x y = same path_eq (count_value x.index) (count_value y.index)
+
 -- A cell is touched where the event sets it; an item's value or index where the item persists and that isn't the same as before.
 abbrev pub touched : Forest → Forest → Sets → Source → Bool
 touched old new sets (cell t f) = is_set sets t f
-touched old new sets (item_value p) = both_differ (λ x y. same path_eq x.value y.value) (item_of p (rendered_items old)) (item_of p (rendered_items new))
-touched old new sets (item_index p) = both_differ (λ x y. same path_eq (count_value x.index) (count_value y.index)) (item_of p (rendered_items old)) (item_of p (rendered_items new))
+touched old new sets (item_value p) = both_differ same_value (item_of p (rendered_items old)) (item_of p (rendered_items new))
+touched old new sets (item_index p) = both_differ same_index (item_of p (rendered_items old)) (item_of p (rendered_items new))
 
 abbrev pub some_touched : Forest → Forest → Sets → List Pair → Bool
 some_touched old new sets ps = list_any (touched old new sets) (sources_of ps)

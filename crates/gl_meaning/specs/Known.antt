@@ -73,7 +73,9 @@ module _ (app : App) (c : Class) where
 
   abbrev pub part_unknowns : List Text → Part → List Unknown
   part_unknowns params (attribute n v) = value_unknowns params v
-  part_unknowns params (modifier n es ns) = unless_known (has_text n (codes "on" ∷ app.modifiers)) modifier_kind n ++ (exprs_unknowns false params es ++ named_unknowns params ns)
+  part_unknowns params (modifier n es ns) =
+      unless_known (has_text n (codes "on" ∷ app.modifiers)) modifier_kind n
+      ++ (exprs_unknowns false params es ++ named_unknowns params ns)
   part_unknowns params spread = []
 
   -- a component's arguments stand before its parts
@@ -84,7 +86,8 @@ module _ (app : App) (c : Class) where
     stmt_unknowns params (put e) = expr_unknowns true params e
     stmt_unknowns params (element tag ps b) = flat_map (part_unknowns params) ps ++ body_unknowns params b
     stmt_unknowns params (component_stmt n ps given bs) =
-        unless_known (has_class n app.classes) component_kind n ++ (flat_map (λ g. value_unknowns params g.1) given ++ (flat_map (part_unknowns params) ps ++ slots_unknowns params bs))
+        unless_known (has_class n app.classes) component_kind n
+        ++ (flat_map (λ g. value_unknowns params g.1) given ++ (flat_map (part_unknowns params) ps ++ slots_unknowns params bs))
     stmt_unknowns params (if_stmt e u b o) = expr_unknowns false params e ++ (body_unknowns params b ++ body_unknowns params o)
     stmt_unknowns params (each e k ns b o) = expr_unknowns false params e ++ (body_unknowns (params ++ ns) b ++ body_unknowns params o)
     stmt_unknowns params (let_stmt es ns b) = exprs_unknowns false params es ++ body_unknowns (params ++ ns) b
@@ -104,12 +107,16 @@ module _ (app : App) (c : Class) where
 
   -- in a step: `when`, then `set` and `to`, or the values of `call`; its parameters are the action's
   abbrev pub step_unknowns : List Text → Step → List Unknown
-  step_unknowns params (set_step w f e) = when_unknowns params w ++ (unless_known (is_some (named f c.fields)) field_kind f ++ expr_unknowns false params e)
+  step_unknowns params (set_step w f e) =
+      when_unknowns params w
+      ++ (unless_known (is_some (named f c.fields)) field_kind f ++ expr_unknowns false params e)
   step_unknowns params (call_step w a ks es) = when_unknowns params w ++ exprs_unknowns false params es
 
   -- the getters by name, then the actions by name
   abbrev pub manifest_unknowns : List Unknown
-  manifest_unknowns = flat_map (λ g. expr_unknowns false [] g.1) c.getters ++ flat_map (λ a. flat_map (step_unknowns a.1.params) a.1.steps) c.actions
+  manifest_unknowns =
+      flat_map (λ g. expr_unknowns false [] g.1) c.getters
+      ++ flat_map (λ a. flat_map (step_unknowns a.1.params) a.1.steps) c.actions
 
 -- an unknown name with the template's file in which it stands; none where it stands in the manifest
 pub record Place : Type 0 where
@@ -129,7 +136,9 @@ class_unknowns app c =
 
 -- All unknown names in order: the root's, then those of each class in the byte order of names.
 abbrev pub unknowns : App → List Place
-unknowns app = map in_manifest (unless_known (has_class app.root app.classes) component_kind app.root) ++ flat_map (class_unknowns app) app.classes
+unknowns app =
+    map in_manifest (unless_known (has_class app.root app.classes) component_kind app.root)
+    ++ flat_map (class_unknowns app) app.classes
 
 abbrev pub first_of : {A : Type 0} → List A → Option A
 first_of [] = None

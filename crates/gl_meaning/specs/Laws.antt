@@ -190,7 +190,8 @@ SettledIsSettled = (app : App) (store : Store) → let f = draw app store in set
 -- block parameters.
 abbrev pub GetterIsItsExpression : Type 0
 GetterIsItsExpression =
-    (app : App) (store : Store) (s : Scope) (g : Text) (ks : List Text) (e : Expr) → HasNoCycle app → member_of (class_at app (this_of s)) g ≡ getter_member e
+    (app : App) (store : Store) (s : Scope) (g : Text) (ks : List Text) (e : Expr)
+    → HasNoCycle app → member_of (class_at app (this_of s)) g ≡ getter_member e
     → eval app store s (this g ks) ≡ with_properties ks (eval app store (own_scope s) e)
 
 -- In one rendering the path of a node stands once, and so does that of a position, of a region, of an instance and of an item.
@@ -219,7 +220,8 @@ SourcesStandAbove = (app : App) (store : Store) → HoldsNoAction store → AllR
 -- At a path that is in both renderings of an app stands the same kind of node, and an element of the same tag.
 abbrev pub KindIsKept : Type 0
 KindIsKept =
-    (app : App) (store later : Store) (x y : Piece) (k l : NodeKind) → In x (draw app store) → In y (draw app later) → piece_path x ≡ piece_path y
+    (app : App) (store later : Store) (x y : Piece) (k l : NodeKind)
+    → In x (draw app store) → In y (draw app later) → piece_path x ≡ piece_path y
     → node_kind x ≡ Some k → node_kind y ≡ Some l → k ≡ l
 
 -- A position that is in the renderings before and after some sets has as many Pairs in both, and each of which no source is
@@ -249,11 +251,16 @@ CallsEnd =
 
 -- A node that has a number keeps it.
 abbrev pub NumberIsKept : Type 0
-NumberIsKept = (ns : Numbers) (f : Forest) (i : Path) (n : ℕ) → Among i (nodes f) → at_path i ns.of ≡ Some n → at_path i (number ns f).of ≡ Some n
+NumberIsKept =
+    (ns : Numbers) (f : Forest) (i : Path) (n : ℕ)
+    → Among i (nodes f) → at_path i ns.of ≡ Some n → at_path i (number ns f).of ≡ Some n
 
 -- Each other node gets a number from `next` on. No other path has a number.
 abbrev pub OthersAreNumbered : Type 0
-OthersAreNumbered = (ns : Numbers) (f : Forest) (i : Path) → Among i (nodes f) → at_path i ns.of ≡ None → (n : ℕ) × (ns.next ≤ n) × (at_path i (number ns f).of ≡ Some n)
+OthersAreNumbered =
+    (ns : Numbers) (f : Forest) (i : Path)
+    → Among i (nodes f) → at_path i ns.of ≡ None
+    → (n : ℕ) × (ns.next ≤ n) × (at_path i (number ns f).of ≡ Some n)
 
 abbrev pub NodesAloneAreNumbered : Type 0
 NodesAloneAreNumbered = (ns : Numbers) (f : Forest) (i : Path) (n : ℕ) → at_path i (number ns f).of ≡ Some n → Among i (nodes f)

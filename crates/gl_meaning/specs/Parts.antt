@@ -121,7 +121,16 @@ module _ (app : App) (store : Store) where
   abbrev pub taken_pairs : List WrittenValue → Text → List Pair
   taken_pairs ws n = map (λ w. eval_value app store w.by w.value) (taken_values n ws)
 
-  -- the modifiers of the element at a path; the first of these has the number i
+  -- the modifier with the number i of the element at a path
+  abbrev pub modifier_of : Path → ℕ → WrittenModifier → Modifier
+  modifier_of p i w = record {
+    path = modifier_at i ∷ p;
+    name = w.name;
+    args = eval_all app store w.by w.args;
+    names = eval_named app store w.by w.names;
+  }
+
+  -- the modifiers of the element; the first of these has the number i
   abbrev pub modifiers_of : Path → ℕ → List WrittenModifier → List Modifier
   modifiers_of p i [] = []
-  modifiers_of p i (w ∷ ws) = record { path = modifier_at i ∷ p; name = w.name; args = eval_all app store w.by w.args; names = eval_named app store w.by w.names } ∷ modifiers_of p (suc i) ws
+  modifiers_of p i (w ∷ ws) = modifier_of p i w ∷ modifiers_of p (suc i) ws

@@ -52,7 +52,9 @@ attr_text (n, Some v) = 32 ∷ (n ++ 61 ∷ quoted v)
 module _ (numbers : Numbers) where
   abbrev mutual
     pub piece_lines : Text → Piece → Text
-    piece_lines indent (element_node p t a m f) = line (indent ++ (number_text p numbers ++ (codes " <" ++ (t ++ (flat_map attr_text a ++ codes ">"))))) ++ tree_lines (32 ∷ 32 ∷ indent) f
+    piece_lines indent (element_node p t a m f) =
+        line (indent ++ (number_text p numbers ++ (codes " <" ++ (t ++ (flat_map attr_text a ++ codes ">")))))
+        ++ tree_lines (32 ∷ 32 ∷ indent) f
     piece_lines indent (text_node p t) = line (indent ++ (number_text p numbers ++ 32 ∷ quoted t))
     piece_lines indent (comment_node p t) = line (indent ++ (number_text p numbers ++ (codes " !" ++ quoted t)))
     piece_lines indent (component p s f) = tree_lines indent f
@@ -81,7 +83,9 @@ abbrev mutual
 
 -- a blank and the quoted text for each positional argument, then a blank, the name, `=` and the quoted text for each named one
 abbrev pub modifier_values : Modifier → Text
-modifier_values m = flat_map (λ p. 32 ∷ quoted (text_of p.value)) m.args ++ flat_map (λ n. 32 ∷ (n.0 ++ 61 ∷ quoted (text_of n.1.value))) m.names
+modifier_values m =
+    flat_map (λ p. 32 ∷ quoted (text_of p.value)) m.args
+    ++ flat_map (λ n. 32 ∷ (n.0 ++ 61 ∷ quoted (text_of n.1.value))) m.names
 
 -- the lines of the modifiers on a piece that pass the test, in their order
 abbrev pub modifier_lines : (Modifier → Bool) → (Path → Modifier → Text) → Piece → Text
@@ -90,7 +94,8 @@ modifier_lines test write _ = []
 
 -- an instance that doesn't persist and whose class has teardown
 abbrev pub destroyed_instance : App → Forest → Piece → Text
-destroyed_instance app new (component p s f) = if (class_at app p).teardown && not (has_path p (instances new)) then line (codes "destroy " ++ (class_at app p).name) else []
+destroyed_instance app new (component p s f) =
+    if (class_at app p).teardown && not (has_path p (instances new)) then line (codes "destroy " ++ (class_at app p).name) else []
 destroyed_instance app new _ = []
 
 abbrev pub modifier_paths : Forest → List Path
@@ -99,15 +104,21 @@ modifier_paths f = map (λ m. m.path) (modifiers f)
 module _ (app : App) (old new : Forest) (sets : Sets) (before after : Numbers) where
   -- modifiers and instances of the old rendering that don't persist, with the numbers from before the turn
   abbrev pub destroy_lines : Piece → Text
-  destroy_lines q = modifier_lines (λ m. not (has_path m.path (modifier_paths new))) (λ p m. codes "destroy " ++ (number_text p before ++ 32 ∷ m.name)) q ++ destroyed_instance app new q
+  destroy_lines q =
+      modifier_lines (λ m. not (has_path m.path (modifier_paths new))) (λ p m. codes "destroy " ++ (number_text p before ++ 32 ∷ m.name)) q
+      ++ destroyed_instance app new q
 
   -- modifiers that are new
   abbrev pub install_lines : Piece → Text
-  install_lines = modifier_lines (λ m. not (has_path m.path (modifier_paths old))) (λ p m. codes "install " ++ (number_text p after ++ 32 ∷ (m.name ++ modifier_values m)))
+  install_lines =
+      modifier_lines (λ m. not (has_path m.path (modifier_paths old)))
+      (λ p m. codes "install " ++ (number_text p after ++ 32 ∷ (m.name ++ modifier_values m)))
 
   -- modifiers that are stale
   abbrev pub update_lines : Piece → Text
-  update_lines = modifier_lines (λ m. stale old new sets m.path) (λ p m. codes "update " ++ (number_text p after ++ 32 ∷ (m.name ++ modifier_values m)))
+  update_lines =
+      modifier_lines (λ m. stale old new sets m.path)
+      (λ p m. codes "update " ++ (number_text p after ++ 32 ∷ (m.name ++ modifier_values m)))
 
   -- The three groups, the first by a walk of the old rendering and the others by one of the new, each children first.
   abbrev pub log : Text

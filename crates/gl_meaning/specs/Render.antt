@@ -73,7 +73,9 @@ put_of p v = piece (position p (v ∷ [])) (single (text_node p (text_of v.value
 
 -- An attribute is a position where it takes a live value.
 abbrev pub attr_positions : Path → List WrittenValue → (Text → List Pair) → List Piece
-attr_positions p ws pairs = map (λ n. position (attribute_at n ∷ p) (pairs n)) (filter (λ n. some_live (taken_values n ws)) (distinct_names ws))
+attr_positions p ws pairs =
+    map (λ n. position (attribute_at n ∷ p) (pairs n))
+    (filter (λ n. some_live (taken_values n ws)) (distinct_names ws))
 
 -- A modifier's arguments are one position, also where there are none: the positional ones, then the named ones.
 abbrev pub modifier_positions : List Modifier → List Piece
@@ -86,7 +88,8 @@ element_from p tag ws pairs ms f =
     (single (element_node p tag (attrs_from ws pairs) ms f))
 
 abbrev pub element_of : App → Store → Path → Text → List Written → Forest → Forest
-element_of app store p tag ws f = element_from p tag (attributes_in ws) (taken_pairs app store (attributes_in ws)) (modifiers_of app store p 0 (modifiers_in ws)) f
+element_of app store p tag ws f =
+    element_from p tag (attributes_in ws) (taken_pairs app store (attributes_in ws)) (modifiers_of app store p 0 (modifiers_in ws)) f
 
 abbrev pub region_at : Path → Forest → Forest
 region_at p f = single (branch p (or_comment p f))
@@ -204,7 +207,8 @@ abbrev pub components_at : ℕ → App → Store → Components
 components_at zero app store q given w = single (too_deep q)
 components_at (suc n) app store q given w =
     let s = scope q given [] w in
-    single (component q s (render_body app store (components_at n app store) (yields_of app store (components_at n app store) w) s q 0 (class_at app q).template))
+    let inner = components_at n app store in
+    single (component q s (render_body app store inner (yields_of app store inner w) s q 0 (class_at app q).template))
 
 -- The whole app. The root is an instance with the empty path; nothing is passed to it, and it counts as one level of nesting.
 abbrev pub draw : App → Store → Forest

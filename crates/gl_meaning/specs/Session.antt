@@ -10,7 +10,7 @@ use Rattle.gl_meaning.specs.Print.{line, head_line, missing_lines, tree_lines, l
 use Rattle.gl_meaning.specs.Work.{Work, work, asked}
 
 -- What stands between two turns: the cells, the last rendering, the numbers of its nodes, and the number of the next turn. By
--- `laws::session_store` the rendering is that of the cells.
+-- `laws::session_states` the rendering is that of the cells.
 pub record State : Type 0 where
   pub store : Store
   pub rendering : Forest
