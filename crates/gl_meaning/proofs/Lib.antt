@@ -6,9 +6,11 @@ mod CasesActions
 mod CasesLists
 mod CasesNames
 mod CasesTexts
+pub mod Drawn
 pub mod Equal
 pub mod Frame
 pub mod Getters
+pub mod Modifiers
 pub mod Numbers
 pub mod Once
 pub mod Pieces

@@ -21,9 +21,9 @@ use Rattle.gl_meaning.proofs.Under.{within_itself, within_outer, steps_apart, no
 
 -- Lists
 
-no-repeat-append : {A : Type 0} (xs ys : List A) → NoRepeat xs → NoRepeat ys → ((i : A) → Among i xs → Among i ys → ⊥) → NoRepeat (xs ++ ys)
-no-repeat-append [] ys a b h = b
-no-repeat-append (x ∷ xs) ys a b h = ((λ m. elim (among_either x xs ys m) [ inl k ↦ a.0 k | inr k ↦ h x (inl refl) k ]), no-repeat-append xs ys a.1 b (λ i m n. h i (inr m) n))
+pub no_repeat_append : {A : Type 0} (xs ys : List A) → NoRepeat xs → NoRepeat ys → ((i : A) → Among i xs → Among i ys → ⊥) → NoRepeat (xs ++ ys)
+no_repeat_append [] ys a b h = b
+no_repeat_append (x ∷ xs) ys a b h = ((λ m. elim (among_either x xs ys m) [ inl k ↦ a.0 k | inr k ↦ h x (inl refl) k ]), no_repeat_append xs ys a.1 b (λ i m n. h i (inr m) n))
 
 among-filter : {A : Type 0} (test : A → Bool) (i : A) (xs : List A) → Among i (filter test xs) → Among i xs
 among-filter test i [] m = m
@@ -148,7 +148,7 @@ module _ (k : Sort) where
 
   once-join : (f g : Render.Forest) → Once k f → Once k g → Apart f g → Once k (Render.join f g)
   once-join f g a b h =
-      subst NoRepeat (sym (paths-join f g)) (no-repeat-append (paths k f) (paths k g) a b (λ i m n. let x = path-forest k i f m in let y = path-forest k i g n in h x.0 y.0 x.1 y.1 (sym x.2 ∙ y.2)))
+      subst NoRepeat (sym (paths-join f g)) (no_repeat_append (paths k f) (paths k g) a b (λ i m n. let x = path-forest k i f m in let y = path-forest k i g n in h x.0 y.0 x.1 y.1 (sym x.2 ∙ y.2)))
 
   -- a piece over what is in it
   once-over : (q : Render.Piece) → Once k (inner q) → ApartFrom (Changes.piece_path q) (inner q) → NoRepeat (filter_map (pick k) (Changes.pieces_in q))
@@ -159,7 +159,7 @@ module _ (k : Sort) where
 
   once-piece : (q : Render.Piece) (f : Render.Forest) → NoRepeat (filter_map (pick k) (Changes.pieces_in q)) → Once k f → ((x y : Render.Piece) → InPiece x q → In y f → Changes.piece_path x ≡ Changes.piece_path y → ⊥) → Once k (Render.piece q f)
   once-piece q f a b h =
-      subst NoRepeat (sym (filter_map_append (pick k) (Changes.pieces_in q) (Changes.pieces f))) (no-repeat-append _ (paths k f) a b (λ i m n. let x = path-piece k i q m in let y = path-forest k i f n in h x.0 y.0 x.1 y.1 (sym x.2 ∙ y.2)))
+      subst NoRepeat (sym (filter_map_append (pick k) (Changes.pieces_in q) (Changes.pieces f))) (no_repeat_append _ (paths k f) a b (λ i m n. let x = path-piece k i q m in let y = path-forest k i f n in h x.0 y.0 x.1 y.1 (sym x.2 ∙ y.2)))
 
   once-single : (q : Render.Piece) → Once k (inner q) → ApartFrom (Changes.piece_path q) (inner q) → Once k (Render.single q)
   once-single q a h = once-piece q Render.no_pieces (once-over q a h) tt (λ x y m n o. n)

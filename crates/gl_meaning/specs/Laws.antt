@@ -1,5 +1,5 @@
 -- The laws of the definitions, each with the words that it needs. `src/laws.rt` proves each.
-use Rattle.std.specs.Prelude.{◌≡◌, ◌≤◌, ◌<◌, ◌⊎◌, ℕ, List, [], ◌∷◌, map, false, Option, Some, None}
+use Rattle.std.specs.Prelude.{◌≡◌, ◌≤◌, ◌<◌, ◌⊎◌, ℕ, List, [], ◌∷◌, ◌++◌, map, false, Option, Some, None}
 use Rattle.gl_base.specs.Texts.{Text}
 use Rattle.gl_value.specs.Value.{list, pairs, action, Values, no_values, value, Members, no_members, member}
 use Rattle.gl_ast.specs.Template.{Expr, this}
@@ -8,7 +8,9 @@ use Rattle.gl_meaning.specs.Path.{Path, V, at_path}
 use Rattle.gl_meaning.specs.Scope.{Source, cell, item_value, item_index, Pair, NamedPairs, Scope, this_of, arguments_of, own_scope}
 use Rattle.gl_meaning.specs.Eval.{class_at, Held, Store, getter_member, member_of, with_properties, eval}
 use Rattle.gl_meaning.specs.Render.{Piece, element_node, text_node, comment_node, component, branch, item_region, position, Forest, no_pieces, piece, draw, render}
-use Rattle.gl_meaning.specs.Changes.{piece_path, nodes, instances, regions, Position, positions, rendered_items, settle, Numbers, number, Sets, touched, stale}
+use Rattle.gl_meaning.specs.Changes.{piece_path, nodes, instances, regions, Position, positions, rendered_items, modifiers, settle, Numbers, number, Sets, touched, stale}
+use Rattle.gl_meaning.specs.Print.{modifier_paths}
+use Rattle.gl_meaning.specs.Parts.{Modifier}
 use Rattle.gl_meaning.specs.Actions.{lay, owner_nesting, run_at, run}
 use Rattle.gl_meaning.specs.Session.{State, first_state, Turn, applied, step, session}
 use Rattle.gl_meaning.specs.Known.{Among, HasNoCycle}
@@ -209,6 +211,16 @@ InstancesStandOnce = (app : App) (store : Store) → NoRepeat (instances (draw a
 
 abbrev pub ItemsStandOnce : Type 0
 ItemsStandOnce = (app : App) (store : Store) → NoRepeat (map (λ i. i.path) (rendered_items (draw app store)))
+
+-- The path of a modifier stands once too, and is that of the position which has its arguments.
+abbrev pub ModifiersStandOnce : Type 0
+ModifiersStandOnce = (app : App) (store : Store) → NoRepeat (modifier_paths (draw app store))
+
+abbrev pub ModifierIsPosition : Type 0
+ModifierIsPosition =
+    (app : App) (store : Store) (m : Modifier)
+    → Among m (modifiers (draw app store))
+    → Among (record { path = m.path; pairs = m.args ++ map (λ n. n.1) m.names }) (positions (draw app store))
 
 -- What a position read, and each owner of an action in it, stands at or above the position; what was read for an instance's
 -- argument, and each owner in it, above the instance.

@@ -1,7 +1,7 @@
 //! The laws of the definitions. Each function does nothing: its contract is the law. The words of the
 //! contracts stand in `specs/Laws.antt`, each with its sentence.
 
-ghost use Rattle.gl_meaning.specs.Laws.{SettledIsRendered, SettledIsSettled, GetterIsItsExpression, NodesStandOnce, PositionsStandOnce, RegionsStandOnce, InstancesStandOnce, ItemsStandOnce, SourcesStandAbove, KindIsKept, UntouchedIsKept, OnlyStaleChanges, CallsEnd, NumberIsKept, OthersAreNumbered, NodesAloneAreNumbered, NumbersStayValid, TurnsAreReached, StateIsRendered, StateIsSettled, StateHoldsNoAction, StateReadsAbove, StateNumbersAreValid, NumbersNeverComeAgain, TurnChangesOnlyStale};
+ghost use Rattle.gl_meaning.specs.Laws.{SettledIsRendered, SettledIsSettled, GetterIsItsExpression, NodesStandOnce, PositionsStandOnce, RegionsStandOnce, InstancesStandOnce, ItemsStandOnce, ModifiersStandOnce, ModifierIsPosition, SourcesStandAbove, KindIsKept, UntouchedIsKept, OnlyStaleChanges, CallsEnd, NumberIsKept, OthersAreNumbered, NodesAloneAreNumbered, NumbersStayValid, TurnsAreReached, StateIsRendered, StateIsSettled, StateHoldsNoAction, StateReadsAbove, StateNumbersAreValid, NumbersNeverComeAgain, TurnChangesOnlyStale};
 
 /// What is rendered from the settled store is the same rendering, and to settle that store again
 /// changes nothing.
@@ -17,13 +17,16 @@ pub fn getter_value()
 {}
 
 /// In one rendering the path of a node stands once, and so does that of a position, of a region, of an
-/// instance and of an item.
+/// instance, of an item and of a modifier. A modifier's path is that of the position which has its
+/// arguments.
 pub fn paths_once()
     ensures nodes { NodesStandOnce }
     ensures positions { PositionsStandOnce }
     ensures regions { RegionsStandOnce }
     ensures instances { InstancesStandOnce }
     ensures items { ItemsStandOnce }
+    ensures modifiers { ModifiersStandOnce }
+    ensures arguments { ModifierIsPosition }
 {}
 
 /// What a position read, and each owner of an action in it, stands at or above the position; what was
