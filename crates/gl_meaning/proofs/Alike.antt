@@ -1,5 +1,5 @@
 -- Two renderings of an app: at one path stands one kind of node, and a position whose sources are untouched keeps its Pairs.
-use Rattle.gl_meaning.specs.Laws.{InPiece, In, EachPair, Within, NodeKind, node_kind, Keeps, KeepsAll, keeps_none, keeps_more}
+use Rattle.gl_meaning.specs.Laws.{InPiece, In, Within, NodeKind, node_kind, Keeps, KeepsAll, keeps_none, keeps_more}
 use Rattle.std.proofs.Common.{◌≡◌, ◌≤◌, ◌<◌, ℕ, zero, suc, List, [], ◌∷◌, ◌++◌, map, cond, Bool, true, false, Option, Some, None, refl, sym, ap, ◌∙◌, subst, inl, inr, arith}
 use Rattle.std.specs.Prelude.{if◌then◌else◌, filter, codes}
 use Rattle.std.specs.Str.{bytes_eq}
@@ -34,6 +34,10 @@ kinds-right (Some a) = tt
 -- as the values that the parameters of items stand for
 abbrev pub SameIndex : ℕ → ℕ → Type 0
 SameIndex n m = let v : Path.V = count_value n in v ≡ count_value m
+
+-- each piece of the one with each of the other
+abbrev pub EachPair : (Render.Piece → Render.Piece → Type 0) → Render.Forest → Render.Forest → Type 0
+EachPair P f g = (x y : Render.Piece) → In x f → In y g → P x y
 
 module _ (U : Scope.Source → Type 0) where
   abbrev pub PairsAgree : Option (List Scope.Pair) → Option (List Scope.Pair) → Type 0

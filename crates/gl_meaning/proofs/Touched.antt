@@ -1,5 +1,5 @@
 -- What isn't touched is as it was: the laws on two turns in terms of `touched`.
-use Rattle.gl_meaning.specs.Laws.{EachPair, In, IsUntouched, KeepsAll, NoRepeat, Untouched}
+use Rattle.gl_meaning.specs.Laws.{In, IsUntouched, KeepsAll, NoRepeat, Untouched}
 use Rattle.gl_meaning.specs.Known.{Among}
 use Rattle.std.proofs.Common.{map, ◌≡◌, ℕ, List, [], ◌∷◌, Bool, true, false, true≢false, Some, refl, sym, ap, ap₂, ◌∙◌, subst, inl, inr}
 use Rattle.std.specs.Prelude.{if◌then◌else◌, ◌&&◌, ◌||◌, not, unwrap_or}
@@ -58,7 +58,7 @@ module _ (old new : Render.Forest) (sets : Changes.Sets) (h : ItemsOnce old) (k 
         (λ u. same_means Path.Path Path.path_eq path-Decides (Value.count_value n) (Value.count_value m) (not-false _ (sym (ap₂ (Changes.both_differ (λ a b. Value.same Path.path_eq (Value.count_value a.index) (Value.count_value b.index))) fx fz) ∙ u))),
       )
 
-  items-keep : EachPair (Alike.ItemsKeep (IsUntouched old new sets)) old new
+  items-keep : Alike.EachPair (Alike.ItemsKeep (IsUntouched old new sets)) old new
   items-keep = Alike.items_keep_by (IsUntouched old new sets) old new two-items
 
 -- a cell that no set names holds what it held
@@ -77,7 +77,7 @@ held-laid i x (h ∷ hs) σ q =
     held-laid i x hs (h ∷ σ) (or-right test (Changes.is_set hs i x) q) ∙ ap (λ b. if b then Some h.value else Eval.held_at i x σ) (or-left test (Changes.is_set hs i x) q)
 
 -- Two renderings of consecutive turns: at equal paths nodes are of one kind, and a position that read nothing touched has its Pairs still.
-frame : (app : App) (σ : Eval.Store) (sets : Changes.Sets) → let old = Render.draw app σ in let new = Render.draw app (Actions.lay sets σ) in EachPair (Alike.Related (IsUntouched old new sets)) old new
+frame : (app : App) (σ : Eval.Store) (sets : Changes.Sets) → let old = Render.draw app σ in let new = Render.draw app (Actions.lay sets σ) in Alike.EachPair (Alike.Related (IsUntouched old new sets)) old new
 frame app σ sets =
     let old = Render.draw app σ in let new = Render.draw app (Actions.lay sets σ) in
     Alike.draw_alike (IsUntouched old new sets) app σ (Actions.lay sets σ) (λ i x u. ap (λ h. unwrap_or h (Value.plain (unwrap_or (named x (Eval.class_at app i).fields) Value.undefined))) (sym (held-laid i x sets σ u)))

@@ -42,10 +42,6 @@ abbrev mutual
   In x no_pieces = ⊥
   In x (piece q f) = InPiece x q ⊎ In x f
 
--- each piece of the one with each of the other
-abbrev pub EachPair : (Piece → Piece → Type 0) → Forest → Forest → Type 0
-EachPair P f g = (x y : Piece) → In x f → In y g → P x y
-
 -- Paths
 
 -- the place j is i, or stands below i
@@ -60,6 +56,13 @@ IsAbove k (l ∷ i) = Within k i
 
 -- Owners and sources
 
+-- where a source stands: the instance of the cell, or the item
+abbrev pub source_path : Source → Path
+source_path (cell i x) = i
+source_path (item_value i) = i
+source_path (item_index i) = i
+
+-- For a property of paths.
 module _ (P : Path → Type 0) where
   -- each owner of an action in a value has the property
   abbrev mutual
@@ -77,17 +80,12 @@ module _ (P : Path → Type 0) where
     OwnersMembers no_members = Unit {0}
     OwnersMembers (member n x ms) = Owners x × OwnersMembers ms
 
-  -- the instance of a cell, or the item
-  abbrev pub source_path : Source → Path
-  source_path (cell i x) = i
-  source_path (item_value i) = i
-  source_path (item_index i) = i
-
+  -- each source has it
   abbrev pub Sources : List Source → Type 0
   Sources [] = Unit {0}
   Sources (x ∷ xs) = P (source_path x) × Sources xs
 
-  -- each source that was read for a value, and each owner of an action in it, has the property
+  -- each source that was read for a value has it, and each owner of an action in the value
   abbrev pub PairIn : Pair → Type 0
   PairIn x = Sources x.sources × Owners x.value
 
@@ -99,11 +97,12 @@ module _ (P : Path → Type 0) where
   NamesIn [] = Unit {0}
   NamesIn (x ∷ xs) = PairIn x.1 × NamesIn xs
 
-  -- of what cells hold
+  -- each owner of an action in what the cells hold has it
   abbrev pub HeldIn : List Held → Type 0
   HeldIn [] = Unit {0}
   HeldIn (x ∷ xs) = Owners x.value × HeldIn xs
 
+-- the property that no path has
 abbrev pub NoPath : Path → Type 0
 NoPath i = ⊥
 
@@ -143,12 +142,14 @@ node_kind _ = None
 
 -- What is kept
 
+-- For a property of sources, as that of not being touched.
 module _ (U : Source → Type 0) where
+  -- each source has the property
   abbrev pub Untouched : List Source → Type 0
   Untouched [] = Unit {0}
   Untouched (x ∷ xs) = U x × Untouched xs
 
-  -- where no source of the one is touched, both are the same
+  -- where each source of the one has it, both are the same
   abbrev pub Keeps : Pair → Pair → Type 0
   Keeps v w = Untouched v.sources → v ≡ w
 
