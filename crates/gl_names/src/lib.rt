@@ -1,0 +1,8 @@
+//! Tables of names.
+#![tactic(auto)]
+
+mod constants;
+mod table;
+
+pub use constants::{MNEMONICS, mnemonics};
+pub use table::NameTable;
