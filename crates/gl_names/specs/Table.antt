@@ -22,7 +22,10 @@ abbrev pub seen_rows : List ℕ → List Row → Rows
 seen_rows names [] = []
 seen_rows names (r ∷ rs) = (take r.length names, r.number) ∷ seen_rows (drop r.length names) rs
 
--- the names are ASCII, so that each byte is a character, and they are just the rows' names;
+-- the names are ASCII, so that each byte is a character, and they are just the rows' names
+abbrev pub IsTable : List ℕ → List Row → Type 0
+IsTable names rows = (is_ascii_text names ≡ true) × (width rows ≡ length names)
+
 -- there are no more rows than a number of 16 bits counts
-abbrev pub IsTable : ℕ → List ℕ → List Row → Type 0
-IsTable count names rows = (is_ascii_text names ≡ true) × (width rows ≡ length names) × (count < 2 ^ 16)
+abbrev pub IsCounted : ℕ → Type 0
+IsCounted count = count < 2 ^ 16
