@@ -1,0 +1,4 @@
+pub mod Finding
+pub mod Opcodes
+pub mod Rows
+pub mod Words

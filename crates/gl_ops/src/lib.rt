@@ -1,0 +1,9 @@
+//! The opcodes of compiled templates: as words of 64 bits, and as a listing.
+#![tactic(auto)]
+
+mod cases;
+mod op;
+mod word;
+
+pub use op::Op;
+pub use word::{decode, encode};
