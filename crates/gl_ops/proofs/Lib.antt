@@ -1,2 +1,4 @@
 pub mod Finding
+pub mod Lines
+pub mod Mnemonics
 pub mod Words

@@ -2,8 +2,10 @@
 #![tactic(auto)]
 
 mod cases;
+mod listing;
 mod op;
 mod word;
 
+pub use listing::list;
 pub use op::Op;
 pub use word::{decode, encode};
