@@ -3,6 +3,8 @@
 
 mod constants;
 mod table;
+#[cfg(test)]
+mod tests;
 
 pub use constants::{MNEMONICS, mnemonics};
-pub use table::NameTable;
+pub use table::{NameTable, Row};

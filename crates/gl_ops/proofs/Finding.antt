@@ -106,53 +106,142 @@ found_at [] h code a b op e = cc
 found_at (f ∷ fs) h code a b op e = found_here f fs h.0 code a b op (nat_eq code f.0) refl e (found_at fs h.1 code a b op)
 
 pub finders_honest : AreHonest finders
-finders_honest =
-    (with_b_honest 1 Text (λ b. (refl, refl, refl)),
-    (with_b_honest 2 Comment (λ b. (refl, refl, refl)),
-    (with_b_honest 3 Open (λ b. (refl, refl, refl)),
-    (with_both_honest 4 Attr (λ a b. (refl, refl, refl)),
-    (with_a_honest 5 AttrRef (λ a. (refl, refl, refl)),
-    (with_none_honest 6 Spread (refl, refl, refl),
-    (with_both_honest 7 Mod (λ a b. (refl, refl, refl)),
-    (with_none_honest 8 Flush (refl, refl, refl),
-    (with_none_honest 9 Close (refl, refl, refl),
-    (with_none_honest 10 Put (refl, refl, refl),
-    (with_b_honest 11 If (λ b. (refl, refl, refl)),
-    (with_b_honest 12 Unless (λ b. (refl, refl, refl)),
-    (with_b_honest 13 Else (λ b. (refl, refl, refl)),
-    (with_none_honest 14 EndIf (refl, refl, refl),
-    (with_both_honest 15 Each (λ a b. (refl, refl, refl)),
-    (with_both_honest 16 Item (λ a b. (refl, refl, refl)),
-    (with_none_honest 17 EndItem (refl, refl, refl),
-    (with_none_honest 18 EndEach (refl, refl, refl),
-    (with_a_honest 19 Let (λ a. (refl, refl, refl)),
-    (with_a_honest 20 Bind (λ a. (refl, refl, refl)),
-    (with_none_honest 21 EndLet (refl, refl, refl),
-    (with_a_honest 22 Comp (λ a. (refl, refl, refl)),
-    (with_a_honest 23 Arg (λ a. (refl, refl, refl)),
-    (with_both_honest 24 Block (λ a b. (refl, refl, refl)),
-    (with_a_honest 25 Param (λ a. (refl, refl, refl)),
-    (with_none_honest 26 EndBlock (refl, refl, refl),
-    (with_none_honest 27 Bare (refl, refl, refl),
-    (with_none_honest 28 Invoke (refl, refl, refl),
-    (with_both_honest 29 Yield (λ a b. (refl, refl, refl)),
-    (with_none_honest 30 Undef (refl, refl, refl),
-    (with_none_honest 31 Null (refl, refl, refl),
-    (with_none_honest 32 True (refl, refl, refl),
-    (with_none_honest 33 False (refl, refl, refl),
-    (with_b_honest 34 Int (λ b. (refl, refl, refl)),
-    (with_b_honest 35 Str (λ b. (refl, refl, refl)),
-    (with_a_honest 36 Local (λ a. (refl, refl, refl)),
-    (with_a_honest 37 ArgRef (λ a. (refl, refl, refl)),
-    (with_a_honest 38 Field (λ a. (refl, refl, refl)),
-    (with_a_honest 39 Getter (λ a. (refl, refl, refl)),
-    (with_a_honest 40 Action (λ a. (refl, refl, refl)),
-    (with_b_honest 41 Prop (λ b. (refl, refl, refl)),
-    (with_both_honest 42 Call (λ a b. (refl, refl, refl)),
-    (with_b_honest 43 Named (λ b. (refl, refl, refl)),
-    (with_a_honest 44 Cat (λ a. (refl, refl, refl)),
-    (with_none_honest 45 Done (refl, refl, refl),
-    tt)))))))))))))))))))))))))))))))))))))))))))))
+finders_honest = (
+  with_b_honest 1 Text (λ b. (refl, refl, refl)),
+  (
+    with_b_honest 2 Comment (λ b. (refl, refl, refl)),
+    (
+      with_b_honest 3 Open (λ b. (refl, refl, refl)),
+      (
+        with_both_honest 4 Attr (λ a b. (refl, refl, refl)),
+        (
+          with_a_honest 5 AttrRef (λ a. (refl, refl, refl)),
+          (
+            with_none_honest 6 Spread (refl, refl, refl),
+            (
+              with_both_honest 7 Mod (λ a b. (refl, refl, refl)),
+              (
+                with_none_honest 8 Flush (refl, refl, refl),
+                (
+                  with_none_honest 9 Close (refl, refl, refl),
+                  (
+                    with_none_honest 10 Put (refl, refl, refl),
+                    (
+                      with_b_honest 11 If (λ b. (refl, refl, refl)),
+                      (
+                        with_b_honest 12 Unless (λ b. (refl, refl, refl)),
+                        (
+                          with_b_honest 13 Else (λ b. (refl, refl, refl)),
+                          (
+                            with_none_honest 14 EndIf (refl, refl, refl),
+                            (
+                              with_both_honest 15 Each (λ a b. (refl, refl, refl)),
+                              (
+                                with_both_honest 16 Item (λ a b. (refl, refl, refl)),
+                                (
+                                  with_none_honest 17 EndItem (refl, refl, refl),
+                                  (
+                                    with_none_honest 18 EndEach (refl, refl, refl),
+                                    (
+                                      with_a_honest 19 Let (λ a. (refl, refl, refl)),
+                                      (
+                                        with_a_honest 20 Bind (λ a. (refl, refl, refl)),
+                                        (
+                                          with_none_honest 21 EndLet (refl, refl, refl),
+                                          (
+                                            with_a_honest 22 Comp (λ a. (refl, refl, refl)),
+                                            (
+                                              with_a_honest 23 Arg (λ a. (refl, refl, refl)),
+                                              (
+                                                with_both_honest 24 Block (λ a b. (refl, refl, refl)),
+                                                (
+                                                  with_a_honest 25 Param (λ a. (refl, refl, refl)),
+                                                  (
+                                                    with_none_honest 26 EndBlock (refl, refl, refl),
+                                                    (
+                                                      with_none_honest 27 Bare (refl, refl, refl),
+                                                      (
+                                                        with_none_honest 28 Invoke (refl, refl, refl),
+                                                        (
+                                                          with_both_honest 29 Yield (λ a b. (refl, refl, refl)),
+                                                          (
+                                                            with_none_honest 30 Undef (refl, refl, refl),
+                                                            (
+                                                              with_none_honest 31 Null (refl, refl, refl),
+                                                              (
+                                                                with_none_honest 32 True (refl, refl, refl),
+                                                                (
+                                                                  with_none_honest 33 False (refl, refl, refl),
+                                                                  (
+                                                                    with_b_honest 34 Int (λ b. (refl, refl, refl)),
+                                                                    (
+                                                                      with_b_honest 35 Str (λ b. (refl, refl, refl)),
+                                                                      (
+                                                                        with_a_honest 36 Local (λ a. (refl, refl, refl)),
+                                                                        (
+                                                                          with_a_honest 37 ArgRef (λ a. (refl, refl, refl)),
+                                                                          (
+                                                                            with_a_honest 38 Field (λ a. (refl, refl, refl)),
+                                                                            (
+                                                                              with_a_honest 39 Getter (λ a. (refl, refl, refl)),
+                                                                              (
+                                                                                with_a_honest 40 Action (λ a. (refl, refl, refl)),
+                                                                                (
+                                                                                  with_b_honest 41 Prop (λ b. (refl, refl, refl)),
+                                                                                  (
+                                                                                    with_both_honest 42 Call (λ a b. (refl, refl, refl)),
+                                                                                    (
+                                                                                      with_b_honest 43 Named (λ b. (refl, refl, refl)),
+                                                                                      (
+                                                                                        with_a_honest 44 Cat (λ a. (refl, refl, refl)),
+                                                                                        (
+                                                                                          with_none_honest 45 Done (refl, refl, refl),
+                                                                                          tt,
+                                                                                        ),
+                                                                                      ),
+                                                                                    ),
+                                                                                  ),
+                                                                                ),
+                                                                              ),
+                                                                            ),
+                                                                          ),
+                                                                        ),
+                                                                      ),
+                                                                    ),
+                                                                  ),
+                                                                ),
+                                                              ),
+                                                            ),
+                                                          ),
+                                                        ),
+                                                      ),
+                                                    ),
+                                                  ),
+                                                ),
+                                              ),
+                                            ),
+                                          ),
+                                        ),
+                                      ),
+                                    ),
+                                  ),
+                                ),
+                              ),
+                            ),
+                          ),
+                        ),
+                      ),
+                    ),
+                  ),
+                ),
+              ),
+            ),
+          ),
+        ),
+      ),
+    ),
+  ),
+)
 
 pub op_at : (code a b : ℕ) (op : Op) → op_of code a b ≡ Some op → IsAt op code a b
 unfolding op_of

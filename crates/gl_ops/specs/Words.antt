@@ -1,5 +1,6 @@
 -- An opcode as a word of 64 bits: the code in the top 8 bits, operand a in the next 24, operand b in the low 32.
-use Rattle.std.specs.Prelude.{ℕ, ◌≡◌, ◌<◌, ◌+◌, ◌*◌, ◌^◌, Option, Some, None}
+use Rattle.std.specs.Prelude.{ℕ, ◌≡◌, ◌<◌, ◌+◌, ◌*◌, ◌/◌, ◌%◌, ◌^◌, Option, Some, None}
+use Rattle.gl_ops.specs.Finding.{op_of}
 use Rattle.gl_ops.specs.Opcodes.{row_of}
 use Rattle.gl_ops.specs.declared.op.Op.{Op}
 
@@ -18,3 +19,7 @@ HasRoom op = (operand (row_of op).a < 2 ^ 24) × (operand (row_of op).b < 2 ^ 32
 -- the word is the one of the opcode
 abbrev pub IsWordOf : Op → ℕ → Type 0
 IsWordOf op word = HasRoom op × (word_of op ≡ word)
+
+-- the opcode of a word, where it has one
+unfoldable pub decoded : ℕ → Option Op
+decoded word = op_of (word / 2 ^ 56) (word / 2 ^ 32 % 2 ^ 24) (word % 2 ^ 32)

@@ -2,8 +2,11 @@
 #![tactic(auto)]
 
 mod cases;
+pub mod laws;
 mod listing;
 mod op;
+#[cfg(test)]
+mod tests;
 mod word;
 
 pub use listing::list;

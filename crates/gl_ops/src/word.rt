@@ -1,8 +1,8 @@
 // Opcodes as words.
-ghost use Rattle.std.specs.Prelude.{◌≡◌, ◌<◌, ◌^◌, ◌↔◌, Some, is_none, IsNone};
+ghost use Rattle.std.specs.Prelude.{◌≡◌, ◌<◌, ◌^◌, ◌↔◌, Some, IsNone};
 ghost use Rattle.gl_ops.specs.Opcodes.{row_of};
 ghost use Rattle.gl_ops.specs.declared.op.Op.{Op};
-ghost use Rattle.gl_ops.specs.Words.{operand, word_of, IsWordOf};
+ghost use Rattle.gl_ops.specs.Words.{operand, word_of, decoded, IsWordOf};
 
 use crate::cases::{op_with, row_of};
 use crate::op::Op;
@@ -11,7 +11,8 @@ use crate::op::Op;
 /// An operand that the kind doesn't use is 0.
 pub fn encode(op: &Op) -> u64
     requires { operand (row_of op.now).a < 2 ^ 24 }
-    ensures { result ≡ word_of op.now }
+    ensures value { result ≡ word_of op.now }
+    ensures word { IsWordOf op.now result }
 {
     let row = row_of(op);
     ((row.code as u64) << 56) + ((row.a.unwrap_or(0) as u64) << 32) + row.b.unwrap_or(0) as u64
@@ -19,6 +20,7 @@ pub fn encode(op: &Op) -> u64
 
 /// The opcode of a word, or `None` for a word that is no opcode's.
 pub fn decode(word: u64) -> Option<Op>
+    ensures function { result ≡ decoded word }
     ensures value { (op : Op) → (result ≡ Some op) ↔ IsWordOf op word }
     ensures none { IsNone result ↔ ((op : Op) → ¬ (IsWordOf op word)) }
 {

@@ -10,7 +10,7 @@ use Rattle.gl_names.proofs.table.first_number.Given as goal
 -- the name is still to be found in the rows that are left
 abbrev pub invariant-loop-row : goal.invariant-loop-row
 invariant-loop-row l =
-  (named (chars l.fn.name) (seen_rows l.left (drop l.row-index l.rows)) ≡ named (chars l.fn.name) (seen_rows l.fn.names l.fn.rows))
-  × (is_ascii_text l.left ≡ true)
-  × (width (drop l.row-index l.rows) ≡ length l.left)
-  × shadow (Utf8 l.left)
+    (named (chars l.fn.name) (seen_rows l.left (drop l.row-index l.rows)) ≡ named (chars l.fn.name) (seen_rows l.fn.names l.fn.rows))
+    × (is_ascii_text l.left ≡ true)
+    × (width (drop l.row-index l.rows) ≡ length l.left)
+    × shadow (Utf8 l.left)
