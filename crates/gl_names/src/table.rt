@@ -91,13 +91,13 @@ fn first_name<'a>(names: &'a str, rows: &[Row], number: u16) -> Option<&'a str>
     ensures value { option_map (λ s. s.now) result ≡ name_of number (seen_rows names.now rows.now) }
     ensures ascii { IfSome result (λ s. IsTrue (is_ascii_text s.now)) }
 {
-    let mut left = names;
+    let mut tail = names;
     for row in rows {
-        let (piece, rest) = cut(left, row.length);
+        let (piece, rest) = cut(tail, row.length);
         if row.number == number {
             return Some(piece);
         }
-        left = rest;
+        tail = rest;
     }
     // no row has the number
     None

@@ -1,5 +1,5 @@
 -- The opcode that is found for a code and two operands is the one that has them.
-use Rattle.std.proofs.Common.{◌≡◌, ℕ, List, [], ◌∷◌, Bool, true, false, ◌&&◌, nat_eq, if◌then◌else◌, Option, Some, None, refl, sym, arith}
+use Rattle.std.proofs.Common.{◌≡◌, ℕ, List, [], ◌∷◌, Bool, true, false, ◌&&◌, nat_eq, if◌then◌else◌, Some, None, refl, arith}
 use Rattle.std.proofs.lemmas.Bool.Decides.{nat_tests}
 use Rattle.gl_ops.specs.Finding.{Finder, found, finders, op_of, with_none, with_a, with_b, with_both}
 use Rattle.gl_ops.specs.Opcodes.{row_of}

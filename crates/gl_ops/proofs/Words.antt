@@ -1,11 +1,11 @@
 -- The code and the operands of a word.
-use Rattle.std.proofs.Common.{◌≡◌, ◌<◌, ◌+◌, ◌*◌, ◌/◌, ◌%◌, ◌^◌, ℕ, IsNone, Option, Some, None, ◌↔◌, refl, sym, ◌∙◌, ap, arith, bit_and}
+use Rattle.std.proofs.Common.{◌≡◌, ◌<◌, ◌+◌, ◌*◌, ◌/◌, ◌%◌, ◌^◌, ℕ, IsNone, Option, Some, None, ◌↔◌, refl, sym, ◌∙◌, arith, bit_and}
 use Rattle.std.proofs.lemmas.Nat.{and_mask}
 use Rattle.gl_ops.specs.Finding.{op_of}
 use Rattle.gl_ops.specs.Opcodes.{row_of}
 use Rattle.gl_ops.specs.Words.{operand, word_of, HasRoom, IsWordOf, decoded}
 use Rattle.gl_ops.specs.declared.op.Op.{Op}
-use Rattle.gl_ops.proofs.Finding.{IsAt, found_op, op_at}
+use Rattle.gl_ops.proofs.Finding.{found_op, op_at}
 
 -- a word is its code and its operands
 pub word_parts : (w : ℕ) → w / 2 ^ 56 * 2 ^ 56 + w / 2 ^ 32 % 2 ^ 24 * 2 ^ 32 + w % 2 ^ 32 ≡ w

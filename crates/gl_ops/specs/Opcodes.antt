@@ -1,5 +1,5 @@
 -- The table of the opcodes: the code, the mnemonic and the operands of each kind.
-use Rattle.std.specs.Prelude.{ℕ, codes}
+use Rattle.std.specs.Prelude.{codes}
 use Rattle.gl_ops.specs.Rows.{Row, plain, with_a, with_b, with_both}
 use Rattle.gl_ops.specs.declared.op.Op.{Op}
 use Rattle.gl_ops.specs.declared.op.Op.TheVariants.{Text, Comment, Open, Attr, AttrRef, Spread, Mod, Flush, Close, Put, If, Unless, Else, EndIf, Each, Item, EndItem, EndEach, Let, Bind, EndLet, Comp, Arg, Block, Param, EndBlock, Bare, Invoke, Yield, Undef, Null, True, False, Int, Str, Local, ArgRef, Field, Getter, Action, Prop, Call, Named, Cat, Done}
