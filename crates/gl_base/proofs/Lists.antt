@@ -1,5 +1,5 @@
 -- Laws of lists that are read element by element.
-use Rattle.std.proofs.Common.{◌≡◌, ◌<◌, ◌+◌, ℕ, suc, List, [], ◌∷◌, ◌++◌, Option, Some, None, length, get_or, drop, refl, sym, ap, ◌∙◌, append_assoc, append-nil, add-one, drop-cons}
+use Rattle.std.proofs.Common.{◌≡◌, ◌<◌, ◌+◌, ℕ, suc, List, [], ◌∷◌, ◌++◌, Option, Some, None, length, map, get_or, drop, refl, sym, ap, ◌∙◌, append_assoc, append-nil, add-one, drop-cons}
 use Rattle.gl_base.specs.Answers.{◌>>=◌}
 use Rattle.gl_base.specs.Reading.{read_all, after_front}
 
@@ -26,3 +26,8 @@ read_fail f done x xs all is e = sym (rw is at e)
 -- nothing is left to read
 pub read_end : {A B : Type 0} (f : A → Option B) (done : List B) (all : Option (List B)) → after_front done (read_all f []) ≡ all → all ≡ Some done
 read_end f done all e = sym e ∙ ap Some (append-nil done)
+
+-- reading what a function makes of each element
+pub read_all-map : {A B C : Type 0} (f : B → Option C) (g : A → B) (xs : List A) → read_all f (map g xs) ≡ read_all (λ (x : A). f (g x)) xs
+read_all-map f g [] = refl
+read_all-map f g (x ∷ xs) = rw (read_all-map f g xs) refl

@@ -1,14 +1,12 @@
 -- The text of a character's code in hexadecimal is ASCII.
-use Rattle.std.proofs.Common.{◌≡◌, ◌<◌, ◌^◌, ◌++◌, ◌∷◌, [], ℕ, zero, suc, List, false, arith, refl, lit≤}
-use Rattle.std.specs.Str.{chars, IsAscii}
+use Rattle.std.proofs.Common.{◌<◌, ◌^◌, ◌∷◌, [], ℕ, zero, suc, List, false, arith, lit≤}
+use Rattle.std.specs.Str.{IsAscii}
 use Rattle.std.specs.Str.Parse.{AllDigits}
 use Rattle.std.specs.Char.{digit_value}
 use Rattle.std.specs.Fmt.{digits}
 use Rattle.std.proofs.lemmas.Bool.Decides.{nat_tests}
 use Rattle.std.proofs.lemmas.Fmt.{digits_is_IsNumeral}
-use Rattle.std.proofs.lemmas.Str.{chars-IsAscii, IsAscii-append}
 use Rattle.std.proofs.lemmas.Str.Ascii.{IsAscii-nil}
-use Rattle.gl_base.proofs.Chars.{ascii}
 
 digit_small : (c : ℕ) → digit_value c < 16 → c < 128
 digit_small c h = grind (arith, nat_tests)
@@ -21,9 +19,8 @@ digits_ascii (c ∷ cs) h = ascii_cons c cs (digit_small c h.0) (digits_ascii cs
     ascii_cons c cs h k zero = h
     ascii_cons c cs h k (suc i) = k i
 
--- the text `\u{` with a code and `}`
-pub code_text : (c : ℕ) → c < 128 → chars (92 ∷ 117 ∷ 123 ∷ (digits 16 false c ++ 125 ∷ [])) ≡ 92 ∷ 117 ∷ 123 ∷ (digits 16 false c ++ 125 ∷ [])
-code_text c h =
+-- an ASCII character's code is written in ASCII
+pub hexadecimal_ascii : (c : ℕ) → c < 128 → IsAscii (digits 16 false c)
+hexadecimal_ascii c h =
     let small : c < 16 ^ 64 = omega arith in
-    let ds = digits_ascii (digits 16 false c) (digits_is_IsNumeral 16 false (lit≤ tt) (lit≤ tt) c small).0.1 in
-    chars-IsAscii _ (IsAscii-append (92 ∷ 117 ∷ 123 ∷ []) (digits 16 false c ++ 125 ∷ []) (ascii (92 ∷ 117 ∷ 123 ∷ []) refl) (IsAscii-append (digits 16 false c) (125 ∷ []) ds (ascii (125 ∷ []) refl)))
+    digits_ascii (digits 16 false c) (digits_is_IsNumeral 16 false (lit≤ tt) (lit≤ tt) c small).0.1

@@ -8,7 +8,7 @@ mod texts;
 mod value;
 
 pub use named::NamedValues;
-pub use quoting::quote;
+pub use quoting::{push_quoted, quote};
 pub use text::Text;
 pub use texts::Texts;
 pub use value::{GREATEST, Value};

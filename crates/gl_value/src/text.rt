@@ -1,7 +1,7 @@
 // A text, which contracts see as the list of its characters.
-ghost use Rattle.std.specs.Prelude.{◌≡◌, ◌↔◌, ◌∷◌, ◌++◌, [], IsTrue, IfOk, OnOk, OnErr, string_bytes, encode_utf8_all, length};
+ghost use Rattle.std.specs.Prelude.{◌≡◌, ◌<◌, ◌↔◌, false, ◌∷◌, ◌++◌, [], IsTrue, IfOk, OnOk, OnErr, string_bytes, encode_utf8_all, length};
 ghost use Rattle.std.specs.Str.{chars, bytes_eq, IsUtf8};
-ghost use Rattle.std.specs.Fmt.{decimal, signed_decimal};
+ghost use Rattle.std.specs.Fmt.{decimal, digits, signed_decimal};
 ghost use Rattle.gl_base.specs.Texts.{is_ascii_text};
 
 use std::alloc::{AllocError, Global};
@@ -142,5 +142,14 @@ impl Text {
         ensures { OnOk result (self.new ≡ self.old ++ signed_decimal number) }
     {
         write!(self.inner, "{number}")
+    }
+
+    /// Adds the code of an ASCII character in lower-case hexadecimal at the end. Where memory is wanting, a
+    /// part of it may stand there.
+    pub fn push_hexadecimal(&mut self, code: u32) -> Result<(), AllocError>
+        requires { code < 128 }
+        ensures { OnOk result (self.new ≡ self.old ++ digits 16 false code) }
+    {
+        write!(self.inner, "{code:x}")
     }
 }

@@ -4,7 +4,7 @@ use Rattle.std.proofs.lemmas.Iterator.Consumers.{YieldsList-end}
 use Rattle.std.proofs.lemmas.Grind.{common_steps}
 use Rattle.std.proofs.lemmas.List.{map-id}
 use Rattle.std.specs.Str.{chars}
-use Rattle.gl_value.proofs.quoting.quote.Goals as goal
+use Rattle.gl_value.proofs.quoting.push_quoted.Goals as goal
 
 pub returns : goal.returns
 returns c =

@@ -1,0 +1,9 @@
+pub mod Ascii
+pub mod Fetch
+pub mod Fetched
+pub mod Loops
+pub mod Members
+pub mod Pages
+pub mod Playing
+pub mod Sessions
+pub mod Utf8

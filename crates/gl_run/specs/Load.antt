@@ -1,0 +1,82 @@
+-- What a run loads, or why it refuses.
+use Rattle.std.specs.Prelude.{ℕ, List, [], ◌∷◌, ◌++◌, codes, Bool, true, false, ◌&&◌, Option, Some, None, Result, Ok, Err, if◌then◌else◌, nat_le, length, is_some, option_and_then}
+use Rattle.gl_base.specs.Texts.{Text, bytes_of}
+use Rattle.gl_base.specs.Names.{named}
+use Rattle.gl_value.specs.Value.{Value}
+use Rattle.gl_value.specs.Quote.{quoted}
+use Rattle.gl_ast.specs.Template.{Expr, this, Stmt, put, element, Body, end, stmt, body_of}
+use Rattle.gl_outside.specs.Shelf.{Entry, file_of}
+use Rattle.gl_run.specs.Manifest.{Manifest, manifest_from, script_from}
+use Rattle.gl_run.specs.Render.{Cells}
+use Rattle.gl_run.specs.Session.{Event, App}
+use Rattle.gl_run.specs.Template.{template_of}
+
+-- a file that isn't there, or an input that isn't of the small form
+pub data Refusal : Type 0 where
+  absent : Text → Refusal
+  not_built : Refusal
+
+infixl 10 ◌>>=◌
+abbrev pub ◌>>=◌ : {A B : Type 0} → Result A Refusal → (A → Result B Refusal) → Result B Refusal
+(Ok x) >>= f = f x
+(Err e) >>= f = Err e
+
+-- the most bytes of a file
+abbrev pub most : ℕ
+most = 16777216
+
+abbrev pub formed : {A : Type 0} → Option A → Result A Refusal
+formed None = Err not_built
+formed (Some x) = Ok x
+
+-- the bytes of a file that is there and isn't too long
+abbrev pub kept : ℕ → Text → Option (List ℕ) → Result (List ℕ) Refusal
+kept limit name None = Err (absent name)
+kept limit name (Some bytes) = if nat_le (length bytes) limit then Ok bytes else Err not_built
+
+unfoldable pub small_file : List Entry → Text → Result (List ℕ) Refusal
+small_file files name = kept most name (file_of files (bytes_of name))
+
+-- each `{{this.x}}` names a field
+abbrev pub is_field : Cells → Expr → Bool
+is_field cells (this x names) = is_some (named x cells)
+is_field cells _ = false
+
+abbrev mutual
+  pub has_fields : Cells → Stmt → Bool
+  has_fields cells (put e) = is_field cells e
+  has_fields cells (element tag parts b) = all_have_fields cells b
+  has_fields cells _ = true
+
+  pub all_have_fields : Cells → Body → Bool
+  all_have_fields cells end = true
+  all_have_fields cells (stmt s b) = has_fields cells s && all_have_fields cells b
+
+-- the tree of a template whose names are fields
+unfoldable pub known_tree : Cells → List Stmt → Option (List Stmt)
+known_tree cells tree = if all_have_fields cells (body_of tree) then Some tree else None
+
+unfoldable pub manifest_in : List Entry → Text → Result Manifest Refusal
+manifest_in files name = small_file files name >>= λ bytes. formed (manifest_from bytes)
+
+unfoldable pub tree_in : List Entry → Cells → Text → Result (List Stmt) Refusal
+tree_in files cells name = small_file files name >>= λ bytes. formed (option_and_then (known_tree cells) (template_of bytes))
+
+unfoldable pub events_in : List Entry → Cells → Text → Result (List Event) Refusal
+events_in files cells name = small_file files name >>= λ bytes. formed (script_from cells bytes)
+
+-- The app and its events, or the first refusal: the manifest, then the template, then the script.
+unfoldable pub load_of : List Entry → Text → Text → Result App Refusal
+load_of files manifest script =
+    manifest_in files manifest >>= λ m.
+    (tree_in files m.cells m.file >>= λ tree.
+    (events_in files m.cells script >>= λ events. Ok (record { body = body_of tree; cells = m.cells; events = events })))
+
+abbrev pub after_ok : {A : Type 0} → Result A Refusal → (A → List Text) → List Text
+after_ok (Err r) rest = []
+after_ok (Ok x) rest = rest x
+
+-- the files that a load fetches, in order: none after one that refuses
+unfoldable pub fetched : List Entry → Text → Text → List Text
+fetched files manifest script =
+    manifest ∷ after_ok (manifest_in files manifest) (λ m. m.file ∷ after_ok (tree_in files m.cells m.file) (λ tree. script ∷ []))

@@ -1,0 +1,16 @@
+//! The command line of the renderer, over a shelf of files and two sinks.
+#![tactic(auto)]
+
+mod fault;
+mod known;
+mod load;
+mod manifest;
+mod names;
+mod page;
+mod session;
+mod status;
+mod template;
+
+pub use fault::FormFault;
+pub use load::LoadFault;
+pub use status::Status;

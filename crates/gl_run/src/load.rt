@@ -1,0 +1,178 @@
+// Loads an app and its script from a shelf.
+ghost use Rattle.std.specs.Prelude.{◌≡◌, ◌≤◌, [], ◌∷◌, List, Some, IfErr, option_and_then};
+ghost use Rattle.std.specs.Str.{chars};
+ghost use Rattle.gl_outside.specs.Shelf.{Entry};
+ghost use Rattle.gl_ast.specs.View.{statements};
+ghost use Rattle.gl_base.specs.Answers.{Gives};
+ghost use Rattle.gl_run.specs.Forms.{Fails};
+ghost use Rattle.gl_run.specs.Template.{template_of};
+ghost use Rattle.gl_run.specs.Load.{known_tree, small_file, manifest_in, tree_in, events_in, load_of, fetched};
+ghost use Rattle.gl_run.specs.Loads.{seen_app, Loads, Causes, FailsAmong};
+ghost use Rattle.gl_run.specs.Seen.{seen_manifest};
+
+use crate::FormFault;
+use crate::known::known_tree;
+use crate::manifest::{Manifest, manifest_from, script_from};
+use crate::template::template_of;
+use gl_ast::Body;
+use gl_outside::{Shelf, ShelfFault};
+use gl_value::{NamedValues, Text};
+use std::alloc::{AllocError, Global};
+use thiserror::Error;
+
+/// Why an app is not loaded; a file is given by its name.
+#[derive(Debug, Drop, Error)]
+pub enum LoadFault {
+    #[error("absent")]
+    Absent(Text),
+    #[error("not built yet")]
+    NotBuilt,
+    #[error("read fault")]
+    ReadFault(Text),
+    #[error("out of memory")]
+    Memory,
+}
+
+impl From<AllocError> for LoadFault {
+    ghost use Rattle.gl_run.specs.declared.load.LoadFault.TheVariants.{Memory};
+
+    ghost from_gives = { λ _ e. e ≡ Memory };
+
+    fn from(_: AllocError) -> Self {
+        LoadFault::Memory
+    }
+}
+
+impl From<FormFault> for LoadFault {
+    ghost use Rattle.gl_run.specs.Loads.{load_fault};
+
+    ghost from_gives = { λ fault e. e ≡ load_fault fault };
+
+    fn from(fault: FormFault) -> Self {
+        match fault {
+            FormFault::NotBuilt => LoadFault::NotBuilt,
+            FormFault::Memory => LoadFault::Memory,
+        }
+    }
+}
+
+const MOST: usize = 16_777_216;
+
+// The bytes of a file that is there and isn't too long. One byte more than the most is asked for, to see it.
+#[tactic(auto, unfolding(crate::specs::Load::small_file))]
+fn fetch_small<S: Shelf>(alloc: Global, shelf: &mut S, name: &str) -> Result<Vec<u8>, LoadFault>
+    ensures keeps { S.holds shelf.new ≡ S.holds shelf.old }
+    ensures told { (files : List Entry) → S.holds shelf.old ≡ Some files → Loads (λ v. v.items) result (small_file files (chars name.now)) }
+    ensures causes { IfErr result (λ e. Causes e (S.misses shelf.old) (S.misses shelf.new) (S.faults shelf.old) (S.faults shelf.new)) }
+    ensures named { IfErr result (λ e. FailsAmong e (chars name.now ∷ [])) }
+    ensures misses_stay { S.misses shelf.old ≤ S.misses shelf.new }
+    ensures faults_stay { S.faults shelf.old ≤ S.faults shelf.new }
+{
+    let file = Text::from_str(alloc, name)?;
+    let mut bytes = Vec::new(alloc);
+    match shelf.fetch(name, MOST + 1, &mut bytes) {
+        Ok(()) => {
+            if bytes.len() > MOST {
+                return Err(LoadFault::NotBuilt);
+            }
+            Ok(bytes)
+        }
+        Err(ShelfFault::Absent) => Err(LoadFault::Absent(file)),
+        Err(ShelfFault::Failed) => Err(LoadFault::ReadFault(file)),
+        Err(ShelfFault::Memory) => Err(LoadFault::Memory),
+    }
+}
+
+#[tactic(auto, unfolding(crate::specs::Load::manifest_in))]
+fn manifest_in<S: Shelf>(alloc: Global, shelf: &mut S, name: &str) -> Result<Manifest, LoadFault>
+    ensures keeps { S.holds shelf.new ≡ S.holds shelf.old }
+    ensures told { (files : List Entry) → S.holds shelf.old ≡ Some files → Loads seen_manifest result (manifest_in files (chars name.now)) }
+    ensures causes { IfErr result (λ e. Causes e (S.misses shelf.old) (S.misses shelf.new) (S.faults shelf.old) (S.faults shelf.new)) }
+    ensures named { IfErr result (λ e. FailsAmong e (chars name.now ∷ [])) }
+    ensures misses_stay { S.misses shelf.old ≤ S.misses shelf.new }
+    ensures faults_stay { S.faults shelf.old ≤ S.faults shelf.new }
+{
+    let bytes = fetch_small(alloc, shelf, name)?;
+    Ok(manifest_from(alloc, &bytes)?)
+}
+
+// The tree of a template of the form, whose names are fields.
+fn tree_from(alloc: Global, fields: &NamedValues, bytes: &[u8]) -> Result<Body, FormFault>
+    ensures { Gives Fails (λ t. statements t) result (option_and_then (known_tree fields.now) (template_of bytes.now)) }
+{
+    let tree = template_of(alloc, bytes)?;
+    known_tree(fields, tree)
+}
+
+#[tactic(auto, unfolding(crate::specs::Load::tree_in))]
+fn tree_in<S: Shelf>(
+    alloc: Global,
+    shelf: &mut S,
+    fields: &NamedValues,
+    name: &str,
+) -> Result<Body, LoadFault>
+    ensures keeps { S.holds shelf.new ≡ S.holds shelf.old }
+    ensures told { (files : List Entry) → S.holds shelf.old ≡ Some files → Loads statements result (tree_in files fields.now (chars name.now)) }
+    ensures causes { IfErr result (λ e. Causes e (S.misses shelf.old) (S.misses shelf.new) (S.faults shelf.old) (S.faults shelf.new)) }
+    ensures named { IfErr result (λ e. FailsAmong e (chars name.now ∷ [])) }
+    ensures misses_stay { S.misses shelf.old ≤ S.misses shelf.new }
+    ensures faults_stay { S.faults shelf.old ≤ S.faults shelf.new }
+{
+    let bytes = fetch_small(alloc, shelf, name)?;
+    Ok(tree_from(alloc, fields, &bytes)?)
+}
+
+#[tactic(auto, unfolding(crate::specs::Load::events_in))]
+fn events_in<S: Shelf>(
+    alloc: Global,
+    shelf: &mut S,
+    fields: &NamedValues,
+    name: &str,
+) -> Result<NamedValues, LoadFault>
+    ensures keeps { S.holds shelf.new ≡ S.holds shelf.old }
+    ensures told { (files : List Entry) → S.holds shelf.old ≡ Some files → Loads (λ e. e) result (events_in files fields.now (chars name.now)) }
+    ensures causes { IfErr result (λ e. Causes e (S.misses shelf.old) (S.misses shelf.new) (S.faults shelf.old) (S.faults shelf.new)) }
+    ensures named { IfErr result (λ e. FailsAmong e (chars name.now ∷ [])) }
+    ensures misses_stay { S.misses shelf.old ≤ S.misses shelf.new }
+    ensures faults_stay { S.faults shelf.old ≤ S.faults shelf.new }
+{
+    let bytes = fetch_small(alloc, shelf, name)?;
+    Ok(script_from(alloc, fields, &bytes)?)
+}
+
+/// An app and its script: the tree of the template, the fields with their first values, and the fields that
+/// the events set, with their values.
+#[derive(Drop)]
+pub struct App {
+    pub tree: Body,
+    pub fields: NamedValues,
+    pub events: NamedValues,
+}
+
+/// Loads an app and its script, or answers the first refusal: the manifest is fetched and read, then the
+/// template, then the script.
+#[tactic(auto, unfolding(crate::specs::Load::load_of))]
+pub fn load<S: Shelf>(
+    alloc: Global,
+    shelf: &mut S,
+    manifest: &str,
+    script: &str,
+) -> Result<App, LoadFault>
+    ensures keeps { S.holds shelf.new ≡ S.holds shelf.old }
+    ensures told { (files : List Entry) → S.holds shelf.old ≡ Some files
+        → Loads seen_app result (load_of files (chars manifest.now) (chars script.now)) }
+    ensures causes { IfErr result (λ e. Causes e (S.misses shelf.old) (S.misses shelf.new) (S.faults shelf.old) (S.faults shelf.new)) }
+    ensures named { (files : List Entry) → S.holds shelf.old ≡ Some files
+        → IfErr result (λ e. FailsAmong e (fetched files (chars manifest.now) (chars script.now))) }
+    ensures misses_stay { S.misses shelf.old ≤ S.misses shelf.new }
+    ensures faults_stay { S.faults shelf.old ≤ S.faults shelf.new }
+{
+    let found = manifest_in(alloc, shelf, manifest)?;
+    let tree = tree_in(alloc, shelf, &found.fields, found.file.as_str())?;
+    let events = events_in(alloc, shelf, &found.fields, script)?;
+    Ok(App {
+        tree,
+        fields: found.fields,
+        events,
+    })
+}
