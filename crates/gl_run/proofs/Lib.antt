@@ -5,6 +5,7 @@ pub mod Fetched
 pub mod Loops
 pub mod Members
 pub mod Numbering
+pub mod Outputs
 pub mod Pages
 pub mod PathOrder
 pub mod Playing
@@ -12,3 +13,4 @@ pub mod Saying
 pub mod Sessions
 pub mod TreeLines
 pub mod Utf8
+pub mod Words

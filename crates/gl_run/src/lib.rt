@@ -12,9 +12,11 @@ mod page;
 mod session;
 mod status;
 mod template;
+mod top;
 
 pub use ending::RunFault;
 pub use fault::FormFault;
 pub use load::LoadFault;
 pub use session::PlayFault;
 pub use status::Status;
+pub use top::{Last, run};
