@@ -1,9 +1,15 @@
 pub mod Ascii
 pub mod Fetch
 pub mod Fetched
+pub mod Fronts
 pub mod Loops
+pub mod Marks
 pub mod Members
 pub mod Pages
+pub mod Plain
 pub mod Playing
+pub mod ReadSpells
 pub mod Sessions
+pub mod Spelled
+pub mod SpellsRead
 pub mod Utf8

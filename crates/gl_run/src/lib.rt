@@ -3,6 +3,7 @@
 
 mod fault;
 mod known;
+pub mod laws;
 mod load;
 mod manifest;
 mod names;
