@@ -1,9 +1,9 @@
 -- The bytes of a name in braces, and those of tags.
-use Rattle.std.proofs.Common.{◌≡◌, ℕ, List, [], ◌∷◌, ◌++◌, Bool, true, false, ◌&&◌, refl, sym, ap, ◌∙◌, append_assoc}
+use Rattle.std.proofs.Common.{◌≡◌, ℕ, List, [], ◌++◌, Bool, true, false, ◌&&◌, refl, ap, ◌∙◌, append_assoc}
 use Rattle.std.specs.Prelude.{codes}
 use Rattle.std.specs.Str.{all_scalars, IsAscii}
 use Rattle.std.proofs.lemmas.Str.{encodes-append, encodes-IsAscii, chars-IsAscii, scalars-chars, IsUtf8-from_ascii}
-use Rattle.gl_base.specs.Texts.{Text, bytes_of, is_ascii_text}
+use Rattle.gl_base.specs.Texts.{Text, bytes_of}
 use Rattle.gl_base.proofs.Chars.{ascii}
 use Rattle.gl_ast.specs.Template.{put, this, element, Body}
 use Rattle.gl_run.specs.Names.{is_name, is_tag}

@@ -1,10 +1,10 @@
 -- What a reading of a statement or of statements has read.
-use Rattle.std.proofs.Common.{◌≡◌, ℕ, List, [], ◌∷◌, ◌++◌, Bool, true, false, ◌&&◌, refl, sym, ap, ◌∙◌, append_assoc}
+use Rattle.std.proofs.Common.{◌≡◌, ℕ, List, ◌++◌, Bool, true, false, ◌&&◌, refl, sym, ap, ◌∙◌, append_assoc}
 use Rattle.std.specs.Str.{all_scalars}
 use Rattle.std.proofs.lemmas.Str.{encodes-append}
 use Rattle.gl_base.specs.Texts.{bytes_of}
-use Rattle.gl_ast.specs.Template.{Stmt, text_stmt, Body, end, stmt}
-use Rattle.gl_run.specs.Spelling.{is_plain, is_apart, spelling, spellings}
+use Rattle.gl_ast.specs.Template.{Stmt, text_stmt, element, Body, end, stmt}
+use Rattle.gl_run.specs.Spelling.{is_plain, is_inner, is_outer, is_apart, spelling, spellings}
 use Rattle.gl_run.proofs.Fronts.{begins, both}
 use Rattle.gl_run.proofs.Plain.{scalars_append}
 
@@ -31,6 +31,11 @@ pub record AreRead (form : Body → Bool) (bs : List ℕ) (b : Body) (rest : Lis
   pub cut : bs ≡ bytes_of (spellings b) ++ rest
   pub starts : text_first b ≡ true → begins is_plain bs ≡ true
 
+-- what may stand in an element may stand outside
+pub outer : (s : Stmt) → is_inner s ≡ true → is_outer s ≡ true
+outer (element tag parts b) e = absurd cc
+outer s e = e
+
 -- two texts don't stand one after the other
 pub apart : (s : Stmt) (b : Body) → (is_text s ≡ true → text_first b ≡ true → ⊥) → is_apart s b ≡ true
 apart (text_stmt t) (stmt (text_stmt u) b) never = absurd (never refl refl)
@@ -45,11 +50,11 @@ none_read form e bs = record { of_form = e; of_scalars = refl; cut = refl; start
 pub more_read : (f : Stmt → Bool) (form : Body → Bool) → ((s : Stmt) (b : Body) → form (stmt s b) ≡ (f s && (is_apart s b && form b))) → (bs : List ℕ) (s : Stmt) (mid : List ℕ) (b : Body) (rest : List ℕ) → IsRead f bs s mid → AreRead form mid b rest → AreRead form bs (stmt s b) rest
 more_read f form step bs s mid b rest p q = record {
   of_form =
-    let h = apart s b (λ t u. not_both (begins is_plain mid) (p.longest t) (q.starts u)) in
-    step s b ∙ both (f s) (is_apart s b && form b) p.of_form (both (is_apart s b) (form b) h q.of_form);
+      let h = apart s b (λ t u. not_both (begins is_plain mid) (p.longest t) (q.starts u)) in
+      step s b ∙ both (f s) (is_apart s b && form b) p.of_form (both (is_apart s b) (form b) h q.of_form);
   of_scalars = scalars_append (spelling s) (spellings b) ∙ both (all_scalars (spelling s)) (all_scalars (spellings b)) p.of_scalars q.of_scalars;
   cut =
-    p.cut ∙ ap (λ l. bytes_of (spelling s) ++ l) q.cut ∙ sym (append_assoc (bytes_of (spelling s)) (bytes_of (spellings b)) rest)
-    ∙ ap (λ l. l ++ rest) (sym (encodes-append (spelling s) (spellings b)));
-  starts = p.starts
+      p.cut ∙ ap (λ l. bytes_of (spelling s) ++ l) q.cut ∙ sym (append_assoc (bytes_of (spelling s)) (bytes_of (spellings b)) rest)
+      ∙ ap (λ l. l ++ rest) (sym (encodes-append (spelling s) (spellings b)));
+  starts = p.starts;
 }

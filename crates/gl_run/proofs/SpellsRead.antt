@@ -1,5 +1,5 @@
 -- What is read as a tree spells that tree.
-use Rattle.std.proofs.Common.{◌≡◌, ℕ, zero, suc, List, [], ◌∷◌, ◌++◌, Bool, true, false, ◌&&◌, Option, Some, None, length, take, drop, refl, sym, ap, ◌∙◌, subst, append-nil, arith}
+use Rattle.std.proofs.Common.{◌≡◌, ℕ, zero, suc, List, [], ◌∷◌, ◌++◌, Bool, true, false, ◌&&◌, Option, Some, length, take, drop, refl, sym, ap, ◌∙◌, subst, append-nil, arith}
 use Rattle.std.specs.Prelude.{nat_lt, codes, slice_index, ◌==◌, if◌then◌else◌}
 use Rattle.std.specs.List.{prefix_len, list_all}
 use Rattle.std.specs.Str.{is_utf8, chars}
@@ -10,14 +10,14 @@ use Rattle.std.proofs.lemmas.Option.{cond_some, option_and_then_some, same_Some}
 use Rattle.std.proofs.lemmas.Str.{IsUtf8-from_is_utf8, encodes-chars, scalars-chars}
 use Rattle.gl_base.specs.Answers.{◌>>=◌}
 use Rattle.gl_base.specs.Texts.{bytes_of}
-use Rattle.gl_ast.specs.Template.{Stmt, text_stmt, put, this, element, Body, end, stmt, body_of}
+use Rattle.gl_ast.specs.Template.{Stmt, text_stmt, put, this, element, body_of}
 use Rattle.gl_run.specs.Names.{in_name, in_tag, is_name, is_tag}
-use Rattle.gl_run.specs.Spelling.{Spells, is_plain, is_inner, is_outer, are_inner, are_outer, spelling, spellings}
-use Rattle.gl_run.specs.Template.{after, text_at, put_at, inner_at, ends_inner, inners_at, element_at, statement_at, statements_of, template_of}
-use Rattle.gl_run.proofs.Fronts.{begins, both, first, second, front_passes, front_stops, front_begins, after_is}
+use Rattle.gl_run.specs.Spelling.{Spells, is_plain, is_inner, is_outer, are_inner, are_outer, spellings}
+use Rattle.gl_run.specs.Template.{text_at, put_at, inner_at, ends_inner, inners_at, element_at, statement_at, statements_of, template_of}
+use Rattle.gl_run.proofs.Fronts.{both, first, second, front_passes, front_stops, front_begins, after_is}
 use Rattle.gl_run.proofs.Marks.{put_bytes, put_scalars, element_bytes, element_scalars}
 use Rattle.gl_run.proofs.Plain.{plain_chars}
-use Rattle.gl_run.proofs.Spelled.{IsRead, AreRead, none_read, more_read}
+use Rattle.gl_run.proofs.Spelled.{IsRead, AreRead, none_read, more_read, outer}
 
 not_empty : (t b : List ℕ) → bytes_of t ≡ b → nat_lt 0 (length b) ≡ true → nat_lt 0 (length t) ≡ true
 not_empty [] b e h = rw (sym e) at h
@@ -33,7 +33,7 @@ text_is bs n e h u =
       of_scalars = scalars-chars (take n bs) utf8;
       cut = sym (take-append-drop n bs) ∙ ap (λ l. l ++ drop n bs) (sym front);
       starts = λ _. front_begins is_plain bs (rw e at h);
-      longest = λ _. rw e (front_stops is_plain bs)
+      longest = λ _. rw e (front_stops is_plain bs);
     }
 
 text_read : (bs : List ℕ) (x : Stmt × List ℕ) → text_at bs ≡ Some x → IsRead is_inner bs x.0 x.1
@@ -49,7 +49,7 @@ put_is bs name rest n p q e = record {
   of_scalars = put_scalars (take n name) e;
   cut = p ∙ ap (λ l. codes "{{this." ++ l) (sym (take-append-drop n name) ∙ ap (λ l. take n name ++ l) q) ∙ sym (put_bytes (take n name) rest e);
   starts = λ f. absurd cc;
-  longest = λ f. absurd cc
+  longest = λ f. absurd cc;
 }
 
 put_read : (bs : List ℕ) (x : Stmt × List ℕ) → put_at bs ≡ Some x → IsRead is_inner bs x.0 x.1
@@ -88,13 +88,13 @@ element_is bs name inside close tail rest n b p q inner r s t e =
     let tag = take n name in
     let after_body : b.1 ≡ codes "</" ++ (tag ++ (codes ">" ++ rest)) = r ∙ ap (λ l. codes "</" ++ l) (s ∙ ap (λ l. tag ++ l) t) in
     let after_tag : drop n name ≡ codes ">" ++ (bytes_of (spellings (body_of b.0)) ++ (codes "</" ++ (tag ++ (codes ">" ++ rest)))) =
-        q ∙ ap (λ l. codes ">" ++ l) (inner.cut ∙ ap (λ l. bytes_of (spellings (body_of b.0)) ++ l) after_body) in
+    q ∙ ap (λ l. codes ">" ++ l) (inner.cut ∙ ap (λ l. bytes_of (spellings (body_of b.0)) ++ l) after_body) in
     record {
       of_form = both (is_tag tag) (are_inner (body_of b.0)) e inner.of_form;
       of_scalars = element_scalars tag (body_of b.0) e ∙ inner.of_scalars;
       cut = p ∙ ap (λ l. codes "<" ++ l) (sym (take-append-drop n name) ∙ ap (λ l. tag ++ l) after_tag) ∙ sym (element_bytes tag (body_of b.0) rest e);
       starts = λ f. absurd cc;
-      longest = λ f. absurd cc
+      longest = λ f. absurd cc;
     }
 
 element_read : (bs : List ℕ) (x : Stmt × List ℕ) → element_at bs ≡ Some x → IsRead is_outer bs x.0 x.1
@@ -105,12 +105,8 @@ element_read bs x e =
     let n = prefix_len in_tag name in
     let h = cond_some (is_tag (take n name)) (element (take n name) [] (body_of b.0), rest) x last in
     subst (λ (y : Stmt × List ℕ). IsRead is_outer bs y.0 y.1) h.1 (element_is bs name inside close tail rest n b
-      (after_is (codes "<") bs name p) (after_is (codes ">") (drop n name) inside q) (inners_read (length inside) inside b r)
-      (after_is (codes "</") b.1 close s) (after_is (take n name) close tail t) (after_is (codes ">") tail rest u) h.0)))))))
-
-outer : (s : Stmt) → is_inner s ≡ true → is_outer s ≡ true
-outer (element tag parts b) e = absurd cc
-outer s e = e
+    (after_is (codes "<") bs name p) (after_is (codes ">") (drop n name) inside q) (inners_read (length inside) inside b r)
+    (after_is (codes "</") b.1 close s) (after_is (take n name) close tail t) (after_is (codes ">") tail rest u) h.0)))))))
 
 as_outer : (bs : List ℕ) (s : Stmt) (rest : List ℕ) → IsRead is_inner bs s rest → IsRead is_outer bs s rest
 as_outer bs s rest r = record { of_form = outer s r.of_form; of_scalars = r.of_scalars; cut = r.cut; starts = r.starts; longest = r.longest }
