@@ -1,4 +1,5 @@
 pub mod Forms
+pub mod Lines
 pub mod Load
 pub mod Loads
 pub mod Manifest
@@ -11,6 +12,7 @@ pub mod Places
 pub mod Plays
 pub mod Print
 pub mod Render
+pub mod Run
 pub mod Seen
 pub mod Session
 pub mod Spelling

@@ -1,9 +1,11 @@
 //! The command line of the renderer, over a shelf of files and two sinks.
 #![tactic(auto)]
 
+mod ending;
 mod fault;
 mod known;
 pub mod laws;
+mod line;
 mod load;
 mod manifest;
 mod names;
@@ -12,6 +14,8 @@ mod session;
 mod status;
 mod template;
 
+pub use ending::RunFault;
 pub use fault::FormFault;
 pub use load::LoadFault;
+pub use session::PlayFault;
 pub use status::Status;

@@ -1,4 +1,5 @@
 pub mod Code
+pub mod Helpers
 pub mod Named
 pub mod Quote
 pub mod Scalar

@@ -1,0 +1,22 @@
+pub mod Above
+pub mod Alike
+pub mod Calls
+mod CaseTodo
+mod CasesActions
+mod CasesLists
+mod CasesNames
+mod CasesTexts
+pub mod Drawn
+pub mod Equal
+pub mod Frame
+pub mod Getters
+pub mod Modifiers
+pub mod Numbers
+pub mod Once
+pub mod Pieces
+pub mod Plain
+pub mod Reach
+pub mod Sessions
+pub mod Settled
+pub mod Touched
+pub mod Under

@@ -1,0 +1,13 @@
+pub mod Actions
+pub mod App
+pub mod Changes
+pub mod Eval
+pub mod Known
+pub mod Laws
+pub mod Parts
+pub mod Path
+pub mod Print
+pub mod Render
+pub mod Scope
+pub mod Session
+pub mod Work

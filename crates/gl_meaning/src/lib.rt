@@ -1,0 +1,10 @@
+//! What an application means: what is rendered from its templates and cells, what an event sets, and
+//! what a session writes turn by turn.
+//!
+//! The definitions stand in `specs/`, over plain lists, numbers and texts, and each is computed on
+//! worked cases in `proofs/`. They render the whole tree anew at each turn, and know nothing of how a
+//! program does it. `docs/MEANING.md` tells them in plain words. The module `laws` has what follows
+//! from them.
+#![tactic(auto)]
+
+pub mod laws;

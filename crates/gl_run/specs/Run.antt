@@ -1,0 +1,79 @@
+-- How a run ends, and why.
+use Rattle.std.specs.Prelude.{◌≡◌, ◌<◌, ◌⊎◌, ℕ, List, [], ◌∷◌, ◌++◌, codes, Option, Some, None, Result, Ok, Err}
+use Rattle.gl_base.specs.Texts.{Text, bytes_of, joined}
+use Rattle.gl_base.specs.Taking.{Takes}
+use Rattle.gl_value.specs.Quote.{quoted}
+use Rattle.gl_outside.specs.Shelf.{Entry}
+use Rattle.gl_run.specs.Load.{absent, not_built, fetched}
+use Rattle.gl_run.specs.Loads.{IsAmong, load_fault}
+use Rattle.gl_run.specs.Output.{Output, refusal_line, usage_line}
+use Rattle.gl_run.specs.declared.status.Status.{Status}
+use Rattle.gl_run.specs.declared.status.Status.TheVariants as status
+use Rattle.gl_run.specs.declared.load.LoadFault.{LoadFault}
+use Rattle.gl_run.specs.declared.load.LoadFault.TheVariants as load
+use Rattle.gl_run.specs.declared.session.PlayFault.{PlayFault}
+use Rattle.gl_run.specs.declared.session.PlayFault.TheVariants as play
+use Rattle.gl_run.specs.declared.ending.RunFault.{RunFault}
+use Rattle.gl_run.specs.declared.ending.RunFault.TheVariants as v
+
+-- all was written, or why not
+abbrev pub Ending : Type 0
+Ending = Result (Unit {0}) RunFault
+
+abbrev pub status_of : Ending → Status
+status_of (Ok x) = status.Done
+status_of (Err v.Usage) = status.Usage
+status_of (Err (v.Absent file)) = status.Refused
+status_of (Err v.NotBuilt) = status.Refused
+status_of (Err (v.ReadFault file)) = status.ReadFault
+status_of (Err v.WriteFault) = status.WriteFault
+status_of (Err v.Memory) = status.NoMemory
+
+abbrev pub read_fault_line : Text → Text
+read_fault_line file = quoted file ++ codes ": read fault\n"
+
+-- the line on `err`: none where all was written
+abbrev pub line_of : Ending → Text
+line_of (Ok x) = []
+line_of (Err v.Usage) = usage_line
+line_of (Err (v.Absent file)) = refusal_line (absent file)
+line_of (Err v.NotBuilt) = refusal_line not_built
+line_of (Err (v.ReadFault file)) = read_fault_line file
+line_of (Err v.WriteFault) = codes "write fault\n"
+line_of (Err v.Memory) = codes "out of memory\n"
+
+-- A file is absent only where the shelf's misses rose; it can't be read only where the shelf's faults rose; a write fails only
+-- where the faults of `out` rose.
+abbrev pub HasCause : Ending → ℕ → ℕ → ℕ → ℕ → ℕ → ℕ → Type 0
+HasCause (Err (v.Absent file)) misses misses_now faults faults_now writes writes_now = misses < misses_now
+HasCause (Err (v.ReadFault file)) misses misses_now faults faults_now writes writes_now = faults < faults_now
+HasCause (Err v.WriteFault) misses misses_now faults faults_now writes writes_now = writes < writes_now
+HasCause ending misses misses_now faults faults_now writes writes_now = Unit {0}
+
+-- the files that the words have fetched, in order
+abbrev pub fetched_by : Option (Text × Text) → List Entry → List Text
+fetched_by None files = []
+fetched_by (Some w) files = fetched files w.0 w.1
+
+-- Over a shelf that tells its files: where no device and no memory failed, the line is the output's; a file that can't be read
+-- is one that is fetched, where no step before it refuses.
+abbrev pub Tells : Ending → Output → List Text → Type 0
+Tells (Err (v.ReadFault file)) o names = IsAmong file names
+Tells (Err v.WriteFault) o names = Unit {0}
+Tells (Err v.Memory) o names = Unit {0}
+Tells ending o names = line_of ending ≡ o.line
+
+-- where no device failed, all is as the output says, but for want of memory
+abbrev pub Completes : Status → Option (List ℕ) → Option (List ℕ) → Output → Type 0
+Completes s old new o = (s ≡ status.NoMemory) ⊎ ((o.status ≡ s) × Takes old new (bytes_of (joined o.texts)))
+
+-- the ending of a run whose load, or whose play, failed
+abbrev pub load_ending : LoadFault → RunFault
+load_ending (load.Absent file) = v.Absent file
+load_ending load.NotBuilt = v.NotBuilt
+load_ending (load.ReadFault file) = v.ReadFault file
+load_ending load.Memory = v.Memory
+
+abbrev pub play_ending : PlayFault → RunFault
+play_ending play.WriteFault = v.WriteFault
+play_ending play.Memory = v.Memory
