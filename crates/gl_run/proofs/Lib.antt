@@ -15,6 +15,7 @@ pub mod ReadSpells
 pub mod Saying
 pub mod Sessions
 pub mod Spelled
+pub mod SpellingRows
 pub mod SpellsRead
 pub mod TreeLines
 pub mod Utf8
