@@ -1,5 +1,5 @@
 -- A template and its bytes, both ways.
-use Rattle.std.proofs.Common.{◌≡◌, List, [], ◌∷◌, Option, Some, refl}
+use Rattle.std.proofs.Common.{◌≡◌, List, [], ◌∷◌, Some, refl}
 use Rattle.std.specs.Prelude.{codes}
 use Rattle.std.proofs.Math.Utf8.{encode}
 use Rattle.gl_ast.specs.Template.{Stmt, text_stmt, put, this, element, end, stmt, body_of}
