@@ -4,6 +4,7 @@
 mod ending;
 mod fault;
 mod known;
+pub mod laws;
 mod line;
 mod load;
 mod manifest;
