@@ -21,3 +21,6 @@ pub use load::LoadFault;
 pub use session::PlayFault;
 pub use status::Status;
 pub use top::{Last, run};
+
+#[cfg(test)]
+mod tests;

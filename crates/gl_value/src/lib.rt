@@ -12,3 +12,6 @@ pub use quoting::{push_quoted, quote};
 pub use text::Text;
 pub use texts::Texts;
 pub use value::{GREATEST, Value};
+
+#[cfg(test)]
+mod tests;
