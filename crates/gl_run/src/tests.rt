@@ -2,19 +2,20 @@
 use super::*;
 use gl_outside::{Calls, CalmShelf, CalmSink, Cut, Cuts, File, Files, MemShelf, MemSink};
 use std::alloc::{AllocError, Global};
+use std::process::Abort;
 use std::test::Fail;
 
 // What it shows, the words, the three files (a file without text is not there), the status, `out` and `err`.
 type Row = (
     &'static str,
-    [&'static str; 3],
+    &'static [&'static str],
     [&'static str; 3],
     Status,
     &'static str,
     &'static str,
 );
 
-const RUN: [&str; 3] = ["run", "m.json", "s.json"];
+const RUN: &[&str] = &["run", "m.json", "s.json"];
 
 const ONE: &str =
     "{\"classes\":{\"App\":{\"fields\":{\"n\":0},\"template\":\"app.hbs\"}},\"root\":\"App\"}";
@@ -123,7 +124,7 @@ const ROWS: [Row; 13] = [
     ),
     (
         "a name that is quoted",
-        ["run", "a\"\u{1f}\u{e9}\n", "s.json"],
+        &["run", "a\"\u{1f}\u{e9}\n", "s.json"],
         ["", "", ""],
         Status::Refused,
         "",
@@ -131,7 +132,7 @@ const ROWS: [Row; 13] = [
     ),
     (
         "no such command",
-        ["go", "m.json", "s.json"],
+        &["go", "m.json", "s.json"],
         [ONE, "", "[]"],
         Status::Usage,
         "",
@@ -157,18 +158,23 @@ fn files_of(alloc: Global, texts: &[&str; 3]) -> Result<Files, AllocError> {
     Ok(files)
 }
 
+fn check_row(rt: &impl Abort, alloc: Global, row: &Row) -> Result<(), Fail> {
+    let (what, words, texts, wanted, written, line) = row;
+    let mut shelf = CalmShelf::new(files_of(alloc, texts)?);
+    let mut out = CalmSink::new(alloc);
+    let mut err = CalmSink::new(alloc);
+    let mut last = Last::new();
+    let status = run(alloc, words, &mut shelf, &mut out, &mut err, &mut last);
+    assert_eq!(rt; status, *wanted, "{}", what);
+    assert_eq!(rt; out.taken(), written.as_bytes(), "{}", what);
+    assert_eq!(rt; err.taken(), line.as_bytes(), "{}", what);
+    Ok(())
+}
+
 #[test]
 fn rows(rt: HostRuntime) -> Result<(), Fail> {
-    let alloc = rt.alloc();
-    for (what, words, texts, wanted, written, line) in &ROWS {
-        let mut shelf = CalmShelf::new(files_of(alloc, texts)?);
-        let mut out = CalmSink::new(alloc);
-        let mut err = CalmSink::new(alloc);
-        let mut last = Last::new();
-        let status = run(alloc, words, &mut shelf, &mut out, &mut err, &mut last);
-        assert_eq!(rt; status, *wanted, "{}", what);
-        assert_eq!(rt; out.taken(), written.as_bytes(), "{}", what);
-        assert_eq!(rt; err.taken(), line.as_bytes(), "{}", what);
+    for row in &ROWS {
+        check_row(&rt, rt.alloc(), row)?;
     }
     Ok(())
 }
@@ -233,7 +239,7 @@ fn failing(rt: HostRuntime) -> Result<(), Fail> {
         let mut out = MemSink::new(alloc, cuts);
         let mut err = MemSink::new(alloc, silent);
         let mut last = Last::new();
-        let status = run(alloc, &RUN, &mut shelf, &mut out, &mut err, &mut last);
+        let status = run(alloc, RUN, &mut shelf, &mut out, &mut err, &mut last);
         assert_eq!(rt; status, *wanted);
         assert_eq!(rt; out.taken(), written.as_bytes());
         assert_eq!(rt; err.taken(), line.as_bytes());
