@@ -5,7 +5,9 @@ mod CaseTodo
 mod CasesActions
 mod CasesLists
 mod CasesNames
+mod CasesScopes
 mod CasesTexts
+mod CasesTurns
 pub mod Drawn
 pub mod Equal
 pub mod Frame
