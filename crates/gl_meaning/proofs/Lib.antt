@@ -5,6 +5,7 @@ mod CaseTodo
 mod CasesActions
 mod CasesLists
 mod CasesNames
+mod CasesPaths
 mod CasesScopes
 mod CasesTexts
 mod CasesTurns
