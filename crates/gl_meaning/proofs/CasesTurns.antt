@@ -162,7 +162,7 @@ steps_with_a_condition_app = record {
         teardown = false;
         fields = ((codes "m", integer (pos 0)) ∷ (codes "n", integer (pos 0)) ∷ []);
         getters = [];
-        actions = ((codes "go", record { params = []; steps = (set_step (Some (this (codes "n") [])) (codes "n") (literal (integer (pos 1))) ∷ set_step (Some (call (codes "not") (expr (this (codes "n") []) no_exprs) no_named)) (codes "n") (literal (integer (pos 2))) ∷ set_step (Some (this (codes "n") [])) (codes "m") (literal (integer (pos 5))) ∷ []) }) ∷ []);
+        actions = ((codes "go", record { params = []; steps = (set_step (Some (call (codes "not") (expr (this (codes "n") []) no_exprs) no_named)) (codes "n") (literal (integer (pos 2))) ∷ set_step (Some (call (codes "not") (expr (this (codes "n") []) no_exprs) no_named)) (codes "n") (literal (integer (pos 1))) ∷ set_step (Some (this (codes "n") [])) (codes "m") (literal (integer (pos 5))) ∷ []) }) ∷ []);
         template = stmt (element (codes "b") (modifier (codes "on") (expr (literal (text (codes "click"))) (expr (this (codes "go") []) no_exprs)) no_named ∷ []) (stmt (put (this (codes "n") [])) (stmt (put (this (codes "m") [])) end))) end;
       }
       ∷ []
