@@ -40,7 +40,7 @@ own = numerals_by_value (AllDigits 10) tells_digits
 
 -- what is read is written so
 pub read_decimal : {E : Type 0} (bs : List ℕ) (r : Result ℕ E) (n : ℕ) → HasPlainStart bs → ParsesUnsigned 64 10 bs r → r ≡ Ok n → chars bs ≡ decimal n
-read_decimal bs r n start parsed is =
+read_decimal {E = E} bs r n start parsed is =
     let same = without_leading_plus_none bs start.1 in
     let read : ParsesUnsigned {E = E} 64 10 bs (Ok n) = rw is at parsed in
     let digits : AllDigits 10 bs = rw same at read.0.0.1 in

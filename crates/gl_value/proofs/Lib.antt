@@ -3,7 +3,9 @@ mod HelperValues
 pub mod Indexes
 pub mod Keeping
 pub mod NamedLaws
+pub mod Paths
 pub mod Plain
 pub mod Properties
+pub mod Reading
 pub mod Values
 pub mod Words

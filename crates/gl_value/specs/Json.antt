@@ -8,23 +8,26 @@ use Rattle.gl_value.specs.Scalar.{is_within}
 use Rattle.serde_json.specs.Data as json
 use Rattle.serde_json.specs.Find.{as_integer}
 
--- why JSON is no value: a number isn't a whole one, a whole number is beyond the bounds, or it is nested deeper than 100
+-- why a number is no integer of a value: it isn't whole, or it is beyond the bounds
+pub data Bad : Type 0 where
+  not_whole : Bad
+  too_large : Bad
+
+-- why JSON is no value: a number is bad, or it is nested deeper than 100
 pub data Fault : Type 0 where
-  not_whole : Fault
-  too_large : Fault
+  bad_number : Bad → Fault
   too_deep : Fault
 
--- why a number is no integer of a value
-abbrev pub integer_fault : Option ℤ → Option Fault
+abbrev pub integer_fault : Option ℤ → Option Bad
 integer_fault None = Some not_whole
 integer_fault (Some z) = if is_within z then None else Some too_large
 
-abbrev pub number_fault : json.Num → Option Fault
+abbrev pub number_fault : json.Num → Option Bad
 number_fault n = integer_fault (as_integer n)
 
--- the fault of the first bad number, in the order of indexes and keys
+-- what is wrong with the first bad number, in the order of indexes and keys
 abbrev mutual
-  pub first_bad : json.Data → Option Fault
+  pub first_bad : json.Data → Option Bad
   first_bad json.null = None
   first_bad (json.boolean b) = None
   first_bad (json.number n) = number_fault n
@@ -32,11 +35,11 @@ abbrev mutual
   first_bad (json.array ds) = first_bad_item ds
   first_bad (json.object ms) = first_bad_member ms
 
-  pub first_bad_item : json.Items → Option Fault
+  pub first_bad_item : json.Items → Option Bad
   first_bad_item json.no_items = None
   first_bad_item (json.item d ds) = option_or (first_bad d) (first_bad_item ds)
 
-  pub first_bad_member : json.Members → Option Fault
+  pub first_bad_member : json.Members → Option Bad
   first_bad_member json.no_members = None
   first_bad_member (json.member k d ms) = option_or (first_bad d) (first_bad_member ms)
 
@@ -59,8 +62,8 @@ abbrev mutual
   members_of (json.member k d ms) = (chars k, value_of d) ∷ members_of ms
 
 -- the value, or why there is none: first a bad number, and else the depth
-abbrev pub reading : {O : Type 0} → Option Fault → ℕ → Value O → Result (Value O) Fault
-reading (Some f) depth v = Err f
+abbrev pub reading : {O : Type 0} → Option Bad → ℕ → Value O → Result (Value O) Fault
+reading (Some bad) depth v = Err (bad_number bad)
 reading None depth v = if nat_lt 100 depth then Err too_deep else Ok v
 
 abbrev pub from_json : {O : Type 0} → json.Data → Result (Value O) Fault

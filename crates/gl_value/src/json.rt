@@ -3,14 +3,14 @@ ghost use Rattle.std.specs.Prelude.{◌≡◌, ◌↔◌, ◌≤◌, ◌<◌, na
 ghost use Rattle.serde_json.specs.Data as found;
 ghost use Rattle.serde_json.specs.View as seen;
 ghost use Rattle.serde_json.specs.Find.{as_integer};
-ghost use Rattle.gl_value.specs.Json.{not_whole, too_large, too_deep, number_fault, integer_fault, first_bad, first_bad_item, first_bad_member, value_of, items_of, members_of, from_json};
+ghost use Rattle.gl_value.specs.Json.{not_whole, too_large, number_fault, integer_fault, first_bad, first_bad_item, first_bad_member, value_of, items_of, members_of, from_json};
 ghost use Rattle.gl_value.specs.Proper.{Keeps, KeepAll, KeepMembers, IsProper};
 ghost use Rattle.gl_value.specs.Value.{values_of, pairs_of};
 ghost use Rattle.gl_value.specs.View.{view};
 ghost use Rattle.gl_value.specs.Faults.{fault_of};
 ghost use Rattle.gl_value.specs.declared.json.JsonFault.TheVariants.{Memory};
 
-use crate::{DEEPEST, GREATEST, List, Pair, Record, Text, Value};
+use crate::{DEEPEST, GREATEST, List, Record, Text, Value};
 use serde_json::{Map, Number};
 use std::alloc::{AllocError, AllocFailed, Global};
 use thiserror::Error;
@@ -169,11 +169,11 @@ fn list_of(alloc: Global, items: &Vec<serde_json::Value>) -> Result<List, AllocE
     ensures value { IfOk result (λ l. l ≡ items_of (seen.items_view items.now.items)) }
     ensures keeps { IfOk result (λ l. KeepAll (values_of l)) }
 {
-    let mut list = Vec::with_capacity(alloc, items.len())?;
+    let mut list = List::new(alloc);
     for item in items {
         list.push(value_of(alloc, item)?)?;
     }
-    Ok(List::from_vec(list))
+    Ok(list)
 }
 
 #[cycle(whole)]
@@ -185,13 +185,12 @@ fn record_of(
     ensures value { IfOk result (λ r. r ≡ members_of (seen.members_view members.now.entries)) }
     ensures keeps { IfOk result (λ r. KeepMembers (pairs_of r)) }
 {
-    let mut list = Vec::with_capacity(alloc, members.len())?;
+    let mut record = Record::new(alloc);
     for (name, member) in members.iter() {
         let key = Text::from_str(alloc, name.as_str())?;
-        let value = value_of(alloc, member)?;
-        list.push(Pair { key, value })?;
+        record.push(key, value_of(alloc, member)?)?;
     }
-    Ok(Record::from_vec(list))
+    Ok(record)
 }
 
 impl Value {

@@ -1,12 +1,12 @@
 // The calls of a record.
-ghost use Rattle.std.specs.Prelude.{◌≡◌, ◌<◌, ◌≤◌, [], OnOk, OnErr, length, option_map, not};
+ghost use Rattle.std.specs.Prelude.{◌≡◌, ◌<◌, ◌≤◌, [], ◌∷◌, ◌++◌, OnOk, OnErr, length, option_map, not};
 ghost use Rattle.std.specs.List.{find};
 ghost use Rattle.std.specs.Str.{bytes_eq, chars};
 ghost use Rattle.gl_base.specs.Names.{named};
 ghost use Rattle.gl_value.specs.View.{view, seen_pairs};
 
-use crate::{Pair, Record, Value};
-use std::alloc::Global;
+use crate::{Pair, Record, Text, Value};
+use std::alloc::{AllocError, Global};
 
 impl Record {
     /// The empty record. It takes no memory.
@@ -43,6 +43,15 @@ impl Record {
         ensures { result ≡ length self.now }
     {
         self.list.len()
+    }
+
+    /// Adds a pair at the end, as it stands: its key is to be greater, by bytes, than those there.
+    pub fn push(&mut self, key: Text, value: Value) -> Result<(), AllocError>
+        ensures ok { OnOk result (self.new ≡ self.old ++ (key, view value) ∷ []) }
+        ensures err { OnErr result (self.new ≡ self.old) }
+    {
+        self.list.push(Pair { key, value })?;
+        Ok(())
     }
 
     /// The value at a key.
