@@ -5,7 +5,9 @@ pub mod Found
 pub mod Helpers
 pub mod Index
 pub mod Json
+pub mod Laws
 pub mod Named
+pub mod Owners
 pub mod Plain
 pub mod Proper
 pub mod Quote

@@ -4,6 +4,7 @@
 mod comparing;
 mod copying;
 mod json;
+pub mod laws;
 mod list;
 mod named;
 mod plain_form;
