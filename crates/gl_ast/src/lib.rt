@@ -4,3 +4,6 @@
 mod stmt;
 
 pub use stmt::{Body, Stmt, Str};
+
+#[cfg(test)]
+mod tests;

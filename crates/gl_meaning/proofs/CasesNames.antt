@@ -3,7 +3,7 @@ use Rattle.std.specs.Prelude.{◌≡◌, pos, List, [], ◌∷◌, false, codes,
 use Rattle.std.proofs.Common.{inl}
 use Rattle.gl_base.specs.Texts.{Text}
 use Rattle.gl_value.specs.Value.{integer}
-use Rattle.gl_ast.specs.Template.{Expr, literal, this, bare, call, no_exprs, expr, no_named, live, attribute, modifier, put, element, component_stmt, each, let_stmt, Body, end, stmt, no_slots, block}
+use Rattle.gl_ast.specs.Template.{Expr, literal, this, bare, call, cat, no_exprs, expr, no_named, named_expr, live, attribute, modifier, put, element, component_stmt, if_stmt, each, let_stmt, yield, Body, end, stmt, no_slots, block}
 use Rattle.gl_meaning.specs.App.{set_step, call_step, Action, Class, App}
 use Rattle.gl_meaning.specs.Known.{Kind, component_kind, helper_kind, modifier_kind, member_kind, local_kind, field_kind, Place, first_unknown, unknowns, mention, onward, IsCyclic}
 
@@ -57,6 +57,23 @@ parameters_of_a_block = refl
 a_called_name : unknowns (with_template (stmt (let_stmt (expr (literal (integer (pos 1))) no_exprs) (codes "nope" ∷ []) (stmt (put (bare (codes "nope") [])) (stmt (put (call (codes "nope") (expr (bare (codes "nope") []) no_exprs) no_named)) end))) end)) ≡ in_app helper_kind (codes "nope") ∷ []
 a_called_name = refl
 
+-- <p title="a{{x}}"></p>{{yield y}}{{#if z}}{{/if}}{{if 1 k=w}}: in a quoted value a lone name may be a helper's, elsewhere it is a parameter's
+lone_names : unknowns (with_template (
+    stmt (element (codes "p") (attribute (codes "title") (live (cat (expr (literal (integer (pos 1))) (expr (bare (codes "x") []) no_exprs)))) ∷ []) end)
+    (stmt (yield (expr (bare (codes "y") []) no_exprs) (codes "default"))
+    (stmt (if_stmt (bare (codes "z") []) false end end)
+    (stmt (put (call (codes "if") (expr (literal (integer (pos 1))) no_exprs) (named_expr (codes "k") (bare (codes "w") []) no_named))) end)))
+    )) ≡ in_app helper_kind (codes "x") ∷ in_app local_kind (codes "y") ∷ in_app local_kind (codes "z") ∷ in_app local_kind (codes "w") ∷ []
+lone_names = refl
+
+-- {{#let 1 as |a|}}<App as |b|>{{a}}{{b}}</App>{{/let}}: parameters of blocks one in the other
+parameters_in_parameters : unknowns (with_template (stmt (let_stmt (expr (literal (integer (pos 1))) no_exprs) (codes "a" ∷ []) (stmt (let_stmt no_exprs (codes "c" ∷ []) (stmt (component_stmt (codes "App") [] [] (block (codes "default") (codes "b" ∷ []) (stmt (put (bare (codes "a") [])) (stmt (put (bare (codes "b") [])) (stmt (put (bare (codes "c") [])) end))) no_slots)) end)) end)) end)) ≡ []
+parameters_in_parameters = refl
+
+-- {{this.n}}{{this.g}}{{this.go}}: a field, a getter and an action
+members_of_a_class : unknowns (app_of ((codes "g", literal (integer (pos 1))) ∷ []) ((codes "go", record { params = []; steps = [] }) ∷ []) (stmt (put (this (codes "n") [])) (stmt (put (this (codes "g") [])) (stmt (put (this (codes "go") [])) end)))) ≡ []
+members_of_a_class = refl
+
 -- the root, the template, the getters, the actions: `when` before `set` before `to`, and the values of `call`
 the_whole_order : unknowns (record {
   root = codes "Main";
@@ -68,11 +85,11 @@ the_whole_order : unknowns (record {
         codes "go",
         record {
           params = codes "v" ∷ [];
-          steps = set_step (Some (bare (codes "a") [])) (codes "b") (this (codes "c") []) ∷ call_step (Some (bare (codes "v") [])) (codes "d") [] (expr (bare (codes "e") []) no_exprs) ∷ [];
+          steps = set_step (Some (bare (codes "a") [])) (codes "b") (this (codes "c") []) ∷ call_step (Some (bare (codes "d") [])) (codes "v") [] (expr (bare (codes "e") []) no_exprs) ∷ [];
         },
       ) ∷ [])
       (stmt (put (this (codes "m") [])) end) ∷ [];
-}) ≡ in_manifest component_kind (codes "Main") ∷ in_app member_kind (codes "m") ∷ in_manifest member_kind (codes "h") ∷ in_manifest local_kind (codes "a") ∷ in_manifest field_kind (codes "b") ∷ in_manifest member_kind (codes "c") ∷ in_manifest local_kind (codes "e") ∷ []
+}) ≡ in_manifest component_kind (codes "Main") ∷ in_app member_kind (codes "m") ∷ in_manifest member_kind (codes "h") ∷ in_manifest local_kind (codes "a") ∷ in_manifest field_kind (codes "b") ∷ in_manifest member_kind (codes "c") ∷ in_manifest local_kind (codes "d") ∷ in_manifest local_kind (codes "e") ∷ []
 the_whole_order = refl
 
 -- two getters that mention one another: the first by name
@@ -88,3 +105,17 @@ untaken = (codes "c", call (codes "if") (expr (literal (integer (pos 0))) (expr 
 
 cycle_in_an_untaken_branch : IsCyclic (app_of untaken [] end) (record { of_class = class_of untaken [] end; name = codes "c" })
 cycle_in_an_untaken_branch = inl (refl, mention refl (inl refl))
+
+-- (hash k=this.d): named arguments count
+abbrev by_name : List (Text × Expr)
+by_name = (codes "d", call (codes "hash") no_exprs (named_expr (codes "k") (this (codes "d") []) no_named)) ∷ []
+
+cycle_by_a_named_argument : IsCyclic (app_of by_name [] end) (record { of_class = class_of by_name [] end; name = codes "d" })
+cycle_by_a_named_argument = inl (refl, mention refl (inl refl))
+
+-- a quoted value too
+abbrev in_parts : List (Text × Expr)
+in_parts = (codes "e", cat (expr (literal (integer (pos 0))) (expr (this (codes "e") []) no_exprs))) ∷ []
+
+cycle_in_a_quoted_value : IsCyclic (app_of in_parts [] end) (record { of_class = class_of in_parts [] end; name = codes "e" })
+cycle_in_a_quoted_value = inl (refl, mention refl (inl refl))

@@ -5,7 +5,10 @@ mod CaseTodo
 mod CasesActions
 mod CasesLists
 mod CasesNames
+mod CasesPaths
+mod CasesScopes
 mod CasesTexts
+mod CasesTurns
 pub mod Drawn
 pub mod Equal
 pub mod Frame

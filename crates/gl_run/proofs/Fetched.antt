@@ -1,5 +1,5 @@
 -- Which file can't be read, among those that a load fetches.
-use Rattle.std.proofs.Common.{◌≡◌, List, [], ◌∷◌, Ok, inl, inr, ◌∙◌}
+use Rattle.std.proofs.Common.{◌≡◌, List, [], ◌∷◌, Ok, inl, inr}
 use Rattle.gl_base.specs.Texts.{Text}
 use Rattle.gl_ast.specs.Template.{Stmt}
 use Rattle.gl_outside.specs.Shelf.{Entry}

@@ -1,5 +1,5 @@
 -- How many nodes and lines a list of statements has.
-use Rattle.std.proofs.Common.{◌≡◌, ◌+◌, ◌<◌, ◌≤◌, ℕ, zero, suc, List, [], ◌∷◌, map, length, get_or, arith}
+use Rattle.std.proofs.Common.{◌<◌, ◌≤◌, ℕ, zero, suc, List, [], ◌∷◌, map, length, get_or, arith}
 use Rattle.gl_ast.specs.declared.stmt.Stmt.{Stmt}
 use Rattle.gl_ast.specs.Template.{body_of}
 use Rattle.gl_ast.specs.View.{view}

@@ -1,8 +1,8 @@
 -- Pages that are written one after another.
 use Rattle.std.proofs.Common.{◌≡◌, Err, ℕ, ◌+◌, List, [], ◌∷◌, Option, take, drop, refl}
 use Rattle.gl_base.specs.Texts.{Text, bytes_of, joined}
-use Rattle.gl_base.specs.Taking.{Takes, TakesSome}
-use Rattle.gl_base.proofs.Taken.{takes_nothing, takes_front}
+use Rattle.gl_base.specs.Taking.{Takes}
+use Rattle.gl_base.proofs.Taken.{takes_front}
 use Rattle.gl_value.specs.Named.{set_named}
 use Rattle.gl_ast.specs.Template.{Body}
 use Rattle.gl_run.specs.Render.{Cells}

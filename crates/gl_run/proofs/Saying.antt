@@ -6,7 +6,7 @@ use Rattle.gl_base.proofs.Chars.{written_more}
 use Rattle.gl_base.specs.Texts.{Text, bytes_of}
 use Rattle.gl_base.specs.Taking.{Takes, TakesFront}
 use Rattle.gl_base.proofs.Taken.{takes_nothing, takes_more, front_more, front_of, front_whole, front_nothing}
-use Rattle.gl_outside.specs.Sink.{last_count, Wanted}
+use Rattle.gl_outside.specs.Sink.{Wanted}
 use Rattle.gl_run.specs.Lines.{IsLoud, Taken, SaysOn, Says}
 
 at_most : (a b : ℕ) → a ≤ b → (a < b) ⊎ (a ≡ b)

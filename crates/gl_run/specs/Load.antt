@@ -1,9 +1,7 @@
 -- What a run loads, or why it refuses.
-use Rattle.std.specs.Prelude.{ℕ, List, [], ◌∷◌, ◌++◌, codes, Bool, true, false, ◌&&◌, Option, Some, None, Result, Ok, Err, if◌then◌else◌, nat_le, length, is_some, option_and_then}
+use Rattle.std.specs.Prelude.{ℕ, List, [], ◌∷◌, Bool, true, false, ◌&&◌, Option, Some, None, Result, Ok, Err, if◌then◌else◌, nat_le, length, is_some, option_and_then}
 use Rattle.gl_base.specs.Texts.{Text, bytes_of}
 use Rattle.gl_base.specs.Names.{named}
-use Rattle.gl_value.specs.Value.{Value}
-use Rattle.gl_value.specs.Quote.{quoted}
 use Rattle.gl_ast.specs.Template.{Expr, this, Stmt, put, element, Body, end, stmt, body_of}
 use Rattle.gl_outside.specs.Shelf.{Entry, file_of}
 use Rattle.gl_run.specs.Manifest.{Manifest, manifest_from, script_from}

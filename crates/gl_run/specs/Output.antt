@@ -1,11 +1,11 @@
 -- What the program writes, and how it ends.
-use Rattle.std.specs.Prelude.{◌≡◌, ◌<◌, ◌⊎◌, ℕ, List, [], ◌∷◌, ◌++◌, codes, Option, Some, None, Result, Ok, Err, if◌then◌else◌}
+use Rattle.std.specs.Prelude.{◌≡◌, ℕ, List, [], ◌∷◌, ◌++◌, codes, Option, Some, None, Result, Ok, Err, if◌then◌else◌}
 use Rattle.std.specs.Str.{bytes_eq}
 use Rattle.gl_base.specs.Texts.{Text, bytes_of, joined}
 use Rattle.gl_base.specs.Taking.{Takes, TakesFront, TakesSome}
 use Rattle.gl_value.specs.Quote.{quoted}
 use Rattle.gl_outside.specs.Shelf.{Entry}
-use Rattle.gl_run.specs.Load.{Refusal, absent, not_built, load_of, fetched}
+use Rattle.gl_run.specs.Load.{Refusal, absent, not_built, load_of}
 use Rattle.gl_run.specs.Session.{App, session}
 use Rattle.gl_run.specs.declared.status.Status.{Status}
 use Rattle.gl_run.specs.declared.status.Status.TheVariants as status

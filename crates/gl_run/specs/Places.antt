@@ -1,5 +1,5 @@
 -- What is left of a class name at a place in it.
-use Rattle.std.specs.Prelude.{◌≡◌, ℕ, List, ◌∷◌, Bool, false, Option, Some, None}
+use Rattle.std.specs.Prelude.{◌≡◌, ℕ, ◌∷◌, Bool, false, Option, Some, None}
 use Rattle.gl_base.specs.Texts.{Text}
 use Rattle.gl_run.specs.Names.{is_class_name, ends_class, after_colon}
 use Rattle.gl_run.specs.declared.names.Place.{Place}

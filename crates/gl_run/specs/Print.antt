@@ -1,5 +1,5 @@
 -- How a turn is printed.
-use Rattle.std.specs.Prelude.{ℕ, List, [], ◌∷◌, ◌++◌, codes, unwrap_or}
+use Rattle.std.specs.Prelude.{ℕ, [], ◌++◌, codes, unwrap_or}
 use Rattle.std.specs.Fmt.{decimal}
 use Rattle.gl_base.specs.Texts.{Text}
 use Rattle.gl_value.specs.Quote.{quoted}

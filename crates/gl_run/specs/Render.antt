@@ -1,5 +1,5 @@
 -- What a template renders over the values of the fields.
-use Rattle.std.specs.Prelude.{ℕ, suc, List, [], ◌∷◌, ◌++◌, unwrap_or}
+use Rattle.std.specs.Prelude.{ℕ, suc, List, [], ◌∷◌, unwrap_or}
 use Rattle.gl_base.specs.Texts.{Text}
 use Rattle.gl_base.specs.Names.{named}
 use Rattle.gl_value.specs.Value.{Value, undefined, text_of}

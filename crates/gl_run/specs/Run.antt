@@ -1,11 +1,11 @@
 -- How a run ends, and why.
-use Rattle.std.specs.Prelude.{◌≡◌, ◌<◌, ◌⊎◌, ℕ, List, [], ◌∷◌, ◌++◌, codes, Option, Some, None, Result, Ok, Err}
+use Rattle.std.specs.Prelude.{◌≡◌, ◌<◌, ◌⊎◌, ℕ, List, [], ◌++◌, codes, Option, Some, None, Result, Ok, Err}
 use Rattle.gl_base.specs.Texts.{Text, bytes_of, joined}
 use Rattle.gl_base.specs.Taking.{Takes}
 use Rattle.gl_value.specs.Quote.{quoted}
 use Rattle.gl_outside.specs.Shelf.{Entry}
 use Rattle.gl_run.specs.Load.{absent, not_built, fetched}
-use Rattle.gl_run.specs.Loads.{IsAmong, load_fault}
+use Rattle.gl_run.specs.Loads.{IsAmong}
 use Rattle.gl_run.specs.Output.{Output, refusal_line, usage_line}
 use Rattle.gl_run.specs.declared.status.Status.{Status}
 use Rattle.gl_run.specs.declared.status.Status.TheVariants as status
@@ -77,3 +77,11 @@ load_ending load.Memory = v.Memory
 abbrev pub play_ending : PlayFault → RunFault
 play_ending play.WriteFault = v.WriteFault
 play_ending play.Memory = v.Memory
+
+-- a run that is refused, or can't read, has written nothing
+abbrev pub Untouched : Ending → Option (List ℕ) → Option (List ℕ) → Type 0
+Untouched (Err v.Usage) old new = new ≡ old
+Untouched (Err (v.Absent file)) old new = new ≡ old
+Untouched (Err v.NotBuilt) old new = new ≡ old
+Untouched (Err (v.ReadFault file)) old new = new ≡ old
+Untouched ending old new = Unit {0}

@@ -4,6 +4,7 @@
 mod ending;
 mod fault;
 mod known;
+pub mod laws;
 mod line;
 mod load;
 mod manifest;
@@ -12,9 +13,14 @@ mod page;
 mod session;
 mod status;
 mod template;
+mod top;
 
 pub use ending::RunFault;
 pub use fault::FormFault;
 pub use load::LoadFault;
 pub use session::PlayFault;
 pub use status::Status;
+pub use top::{Last, run};
+
+#[cfg(test)]
+mod tests;

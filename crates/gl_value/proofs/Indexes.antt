@@ -31,9 +31,9 @@ no_plain_start bs u not_plain limit fits i h =
 pub not_read : {E : Type 0} (bs : List ℕ) (r : Result ℕ E) (e : E) → IsUtf8 bs → ParsesUnsigned 64 10 bs r → r ≡ Err e → (limit : ℕ) → limit < 2 ^ 64 → (i : ℕ) → i ≤ limit → bytes_eq (chars bs) (decimal i) ≡ false
 not_read bs r e u parsed is limit fits i h =
     false_from_ne_true _ (λ t.
-        let ok : r ≡ Ok i = parse-decimal 64 i bs r (omega arith) (omega arith) (bytes-decimal bs i u (omega arith) ((bytes_eq-Decides (chars bs) (decimal i)).0 t)) parsed in
-        let both : Ok i ≡ Err e = sym ok ∙ is in
-        cc)
+    let ok : r ≡ Ok i = parse-decimal 64 i bs r (omega arith) (omega arith) (bytes-decimal bs i u (omega arith) ((bytes_eq-Decides (chars bs) (decimal i)).0 t)) parsed in
+    let both : Ok i ≡ Err e = sym ok ∙ is in
+    cc)
 
 own : IsNumeralModel (AllDigits 10) (digits_value 10)
 own = numerals_by_value (AllDigits 10) tells_digits
@@ -52,8 +52,8 @@ read_decimal {E = E} bs r n start parsed is =
 pub beyond : (cs : List ℕ) (n limit : ℕ) → cs ≡ decimal n → n < 2 ^ 64 → limit < n → (i : ℕ) → i ≤ limit → bytes_eq cs (decimal i) ≡ false
 beyond cs n limit e small h i g =
     false_from_ne_true _ (λ t.
-        let same : n ≡ i = decimal_injective n i small (omega arith) (sym e ∙ (bytes_eq-Decides cs (decimal i)).0 t) in
-        absurd (omega arith))
+    let same : n ≡ i = decimal_injective n i small (omega arith) (sym e ∙ (bytes_eq-Decides cs (decimal i)).0 t) in
+    absurd (omega arith))
 
 -- the number that is read, if it is within the limit
 pub kept : (bs : List ℕ) (n : ℕ) (r : Option ℕ) → chars bs ≡ decimal n → n < 2 ^ 64 → MatchOption r (9007199254740991 < n) (λ m. (m ≡ n) × (m ≤ 9007199254740991))

@@ -6,6 +6,7 @@ pub mod NamedLaws
 pub mod Owners
 pub mod Paths
 pub mod Plain
+pub mod Propers
 pub mod Properties
 pub mod Reading
 pub mod Sameness

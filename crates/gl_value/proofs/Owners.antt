@@ -221,4 +221,4 @@ property_keeps_owners f k v = property-with f k v
 pub same_leaves_owners : {O P : Type 0} → SameLeavesOwners O P
 same_leaves_owners eq eqv law lawv f v w once =
     same-with f eq eqv v w (λ o p i j.
-        same_from_decides (eqv (f o) (f p)) (eq o p) ((λ t. once o p i j ((lawv (f o) (f p)).0 t)), (λ e. (lawv (f o) (f p)).1 (ap f e))) (law o p))
+    same_from_decides (eqv (f o) (f p)) (eq o p) ((λ t. once o p i j ((lawv (f o) (f p)).0 t)), (λ e. (lawv (f o) (f p)).1 (ap f e))) (law o p))

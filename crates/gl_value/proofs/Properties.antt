@@ -49,6 +49,6 @@ item_at-some n zero i (v ∷ vs) h e =
     rw here refl
 item_at-some n (suc k) i (v ∷ vs) h e =
     let other : bytes_eq (decimal n) (decimal (min i 9007199254740991)) ≡ false = false_from_ne_true _ (λ t.
-        let same : n ≡ min i 9007199254740991 = decimal_injective n (min i 9007199254740991) (omega arith) (omega arith) ((bytes_eq-Decides _ _).0 t) in
-        absurd (omega arith)) in
+    let same : n ≡ min i 9007199254740991 = decimal_injective n (min i 9007199254740991) (omega arith) (omega arith) ((bytes_eq-Decides _ _).0 t) in
+    absurd (omega arith)) in
     rw other (item_at-some n k (suc i) vs h (omega arith))

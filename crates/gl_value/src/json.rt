@@ -177,10 +177,7 @@ fn list_of(alloc: Global, items: &Vec<serde_json::Value>) -> Result<List, AllocE
 }
 
 #[cycle(whole)]
-fn record_of(
-    alloc: Global,
-    members: &Map<String, serde_json::Value>,
-) -> Result<Record, AllocError>
+fn record_of(alloc: Global, members: &Map<String, serde_json::Value>) -> Result<Record, AllocError>
     requires { first_bad_member (seen.members_view members.now.entries) ≡ None }
     ensures value { IfOk result (λ r. r ≡ members_of (seen.members_view members.now.entries)) }
     ensures keeps { IfOk result (λ r. KeepMembers (pairs_of r)) }

@@ -24,3 +24,6 @@ pub use quoting::{push_quoted, quote};
 pub use text::Text;
 pub use texts::Texts;
 pub use value::{Act, DEEPEST, GREATEST, List, Pair, Record, Value};
+
+#[cfg(test)]
+mod tests;

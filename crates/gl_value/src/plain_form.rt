@@ -3,6 +3,7 @@ ghost use Rattle.std.specs.Prelude.{◌≡◌, ◌<◌, IfOk, map};
 ghost use Rattle.gl_value.specs.Value.{plain};
 ghost use Rattle.gl_value.specs.View.{view};
 ghost use Rattle.gl_value.specs.Plain.{plain_pair};
+ghost use Rattle.gl_value.specs.Proper.{IsProper};
 
 use crate::{List, Pair, Record, Value};
 use std::alloc::AllocError;
@@ -14,7 +15,7 @@ impl List {
     {
         let mut list = Vec::with_capacity(*self.list.allocator(), self.list.len())?;
         for item in &self.list {
-            list.push(item.data_of()?)?;
+            list.push(item.plain()?)?;
         }
         Ok(List { list })
     }
@@ -28,7 +29,7 @@ impl Record {
         let mut list = Vec::with_capacity(*self.list.allocator(), self.list.len())?;
         for pair in &self.list {
             let key = pair.key.copy()?;
-            let value = pair.value.data_of()?;
+            let value = pair.value.plain()?;
             list.push(Pair { key, value })?;
         }
         Ok(Record { list })
@@ -36,9 +37,8 @@ impl Record {
 }
 
 impl Value {
-    /// The plain form of a value: the same value with undefined in place of each action, at any depth.
     #[cycle(plain)]
-    pub fn data_of(&self) -> Result<Value, AllocError>
+    fn plain(&self) -> Result<Value, AllocError>
         ensures { IfOk result (λ v. view v ≡ plain (view self.now)) }
     {
         match self {
@@ -50,5 +50,13 @@ impl Value {
             Value::List(list) => Ok(Value::List(list.plain()?)),
             Value::Record(record) => Ok(Value::Record(record.plain()?)),
         }
+    }
+    /// The plain form of a value: the same value with undefined in place of each action, at any depth.
+    pub fn data_of(&self) -> Result<Value, AllocError>
+        ensures value { IfOk result (λ v. view v ≡ plain (view self.now)) }
+        ensures proper { IfOk result (λ v. IsProper (view self.now) → IsProper (view v)) }
+    {
+        let value = self.plain()?;
+        Ok(value)
     }
 }

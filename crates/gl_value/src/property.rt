@@ -7,6 +7,7 @@ ghost use Rattle.gl_value.specs.Value.{same, plain, property, properties, split,
 ghost use Rattle.gl_value.specs.View.{view};
 ghost use Rattle.gl_value.specs.Found.{seen_found, or_undefined};
 ghost use Rattle.gl_value.specs.Index.{HasPlainStart};
+ghost use Rattle.gl_value.specs.Proper.{IsProper};
 
 use crate::{GREATEST, List, Record, Value};
 use std::alloc::AllocError;
@@ -54,11 +55,9 @@ fn has_plain_start(text: &str) -> bool
 
 // The index that a text writes in decimal without leading zeros, where it is at most the greatest integer.
 fn index_of(text: &str) -> Option<u64>
-    ensures {
-        MatchOption result
+    ensures { MatchOption result
         ((i : _) → i ≤ 9007199254740991 → bytes_eq (chars text.now) (decimal i) ≡ false)
-        (λ n. (n ≤ 9007199254740991) × (chars text.now ≡ decimal n))
-    }
+        (λ n. (n ≤ 9007199254740991) × (chars text.now ≡ decimal n)) }
 {
     if !has_plain_start(text) {
         return None;
@@ -117,10 +116,7 @@ impl Record {
 }
 
 impl Value {
-    /// The property of a value, lent where the value holds it: of a record the value at the key; of a list its
-    /// count for `length`, and an item for its index in decimal without leading zeros; of a text its count of
-    /// characters for `length`; and else undefined. It takes no memory.
-    pub fn find(&self, name: &str) -> Found<'_>
+    fn look_up(&self, name: &str) -> Found<'_>
         ensures { seen_found result ≡ property (chars name.now) (view self.now) }
     {
         match self {
@@ -131,9 +127,18 @@ impl Value {
         }
     }
 
-    /// The property along the path of names that a text gives, split at `.`, as [`Value::find`] finds it. It
-    /// takes no memory.
-    pub fn find_path(&self, path: &str) -> Found<'_>
+    /// The property of a value, lent where the value holds it: of a record the value at the key; of a list its
+    /// count for `length`, and an item for its index in decimal without leading zeros; of a text its count of
+    /// characters for `length`; and else undefined. It takes no memory.
+    pub fn find(&self, name: &str) -> Found<'_>
+        ensures value { seen_found result ≡ property (chars name.now) (view self.now) }
+        ensures proper { IsProper (view self.now) → IsProper (seen_found result) }
+    {
+        self.look_up(name)
+    }
+
+    // The property along the path of names, as `find_path` gives it.
+    fn follow(&self, path: &str) -> Found<'_>
         ensures { seen_found result ≡ properties (split 46 (chars path.now)) (view self.now) }
     {
         let mut found = Found::Lent(self);
@@ -145,11 +150,22 @@ impl Value {
         found.find(rest)
     }
 
+    /// The property along the path of names that a text gives, split at `.`, as [`Value::find`] finds it. It
+    /// takes no memory.
+    pub fn find_path(&self, path: &str) -> Found<'_>
+        ensures value { seen_found result ≡ properties (split 46 (chars path.now)) (view self.now) }
+        ensures proper { IsProper (view self.now) → IsProper (seen_found result) }
+    {
+        self.follow(path)
+    }
+
     /// A copy of the property that [`Value::find`] finds.
     pub fn property(&self, name: &str) -> Result<Value, AllocError>
-        ensures { IfOk result (λ v. view v ≡ property (chars name.now) (view self.now)) }
+        ensures value { IfOk result (λ v. view v ≡ property (chars name.now) (view self.now)) }
+        ensures proper { IfOk result (λ v. IsProper (view self.now) → IsProper (view v)) }
     {
-        self.find(name).copy()
+        let value = self.look_up(name).copy()?;
+        Ok(value)
     }
 }
 
@@ -159,7 +175,7 @@ impl<'a> Found<'a> {
         ensures { seen_found result ≡ property (chars name.now) (seen_found self.entry) }
     {
         match self {
-            Found::Lent(value) => value.find(name),
+            Found::Lent(value) => value.look_up(name),
             Found::Undefined | Found::Count(_) => Found::Undefined,
         }
     }
@@ -201,6 +217,14 @@ impl<'a> Found<'a> {
 /// The key of an item of a list with that key text: its index for `@index`, its plain form for `@identity`, and
 /// else the plain form of its property along the names between the `.` of the text.
 pub fn key_of(item: &Value, index: u64, key: &str) -> Result<Value, AllocError>
+    ensures value { IfOk result (λ v. view v ≡ key_of (chars key.now) index (view item.now)) }
+    ensures proper { IfOk result (λ v. IsProper (view item.now) → IsProper (view v)) }
+{
+    let value = key_value(item, index, key)?;
+    Ok(value)
+}
+
+fn key_value(item: &Value, index: u64, key: &str) -> Result<Value, AllocError>
     ensures { IfOk result (λ v. view v ≡ key_of (chars key.now) index (view item.now)) }
 {
     if is_word(key, "@index") {
@@ -209,5 +233,5 @@ pub fn key_of(item: &Value, index: u64, key: &str) -> Result<Value, AllocError>
     if is_word(key, "@identity") {
         return item.data_of();
     }
-    item.find_path(key).data_of()
+    item.follow(key).data_of()
 }

@@ -1,4 +1,4 @@
-use Rattle.std.proofs.Common.{◌≡◌, ◌≤◌, arith}
+use Rattle.std.proofs.Common.{◌≤◌, arith}
 use Rattle.gl_ast.specs.Template.{body_of}
 use Rattle.gl_ast.specs.View.{view, statements}
 use Rattle.gl_run.specs.Page.{nodes, nodes_all}

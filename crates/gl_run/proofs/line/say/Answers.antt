@@ -1,4 +1,4 @@
-use Rattle.std.proofs.Common.{inl, ◌≡◌, ◌<◌, ◌∙◌, ap, sym, rules}
+use Rattle.std.proofs.Common.{inl, ◌≡◌, ◌<◌, ◌∙◌, sym, rules}
 use Rattle.std.specs.Str.{chars}
 use Rattle.std.proofs.lemmas.Str.{encodes-chars}
 use Rattle.gl_base.specs.Texts.{bytes_of}

@@ -1,4 +1,4 @@
-use Rattle.std.proofs.Common.{◌≡◌, ◌<◌, ◌≤◌, ◌∷◌, ◌/◌, ◌%◌, ◌∙◌, [], false, rules, arith}
+use Rattle.std.proofs.Common.{◌≤◌, ◌∷◌, [], false, arith}
 use Rattle.std.proofs.lemmas.Fmt.{hex_one_digit, hex_two_digits}
 use Rattle.gl_run.proofs.Saying.{says_more}
 use Rattle.gl_run.proofs.line.say_code.Goals as goal

@@ -11,7 +11,7 @@ abbrev pub invariant-list_of-loop-item : goal.invariant-list_of-loop-item
 invariant-list_of-loop-item l = record {
   bad : first_bad_item (items_view (drop l.item-index l.item-items)) ≡ None;
   whole : l.list ++ items_of (items_view (drop l.item-index l.item-items)) ≡ items_of (items_view l.items.items);
-  keeps : KeepAll (values_of (l.list))
+  keeps : KeepAll (values_of (l.list));
 }
 
 abbrev pub invariant-record_of-loop-name : goal.invariant-record_of-loop-name
@@ -20,5 +20,5 @@ invariant-record_of-loop-name l =
     × record {
       bad : first_bad_member (members_view l.name-iterator) ≡ None;
       whole : l.record ++ members_of (members_view l.name-iterator) ≡ members_of (members_view l.members.entries);
-      keeps : KeepValues (l.record)
+      keeps : KeepValues (l.record);
     }

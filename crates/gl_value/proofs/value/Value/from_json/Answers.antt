@@ -10,8 +10,8 @@ use Rattle.gl_value.proofs.value.Value.from_json.Goals as goal
 
 pub returns-in-Some-clause-too_deep : goal.returns-in-Some-clause-too_deep
 returns-in-Some-clause-too_deep c = (
-    λ e. let same : c.in-Some.fault ≡ code.TooDeep = cc in absurd (not_as_deep (first_bad (seen.view c.args.json.now)) c.in-Some.fault c.in-Some.ensures same),
-    λ h. let none : Some c.in-Some.fault ≡ None = c.in-Some.ensures ∙ ap (option_map fault_of) h.0 in cc,
+  λ e. let same : c.in-Some.fault ≡ code.TooDeep = cc in absurd (not_as_deep (first_bad (seen.view c.args.json.now)) c.in-Some.fault c.in-Some.ensures same),
+  λ h. let none : Some c.in-Some.fault ≡ None = c.in-Some.ensures ∙ ap (option_map fault_of) h.0 in cc,
 )
 
 pub returns-clause-proper : goal.returns-clause-proper

@@ -5,7 +5,7 @@ use Rattle.std.specs.Str.{chars}
 use Rattle.gl_value.specs.Value.{properties, split}
 use Rattle.gl_value.specs.View.{view}
 use Rattle.gl_value.specs.Found.{seen_found}
-use Rattle.gl_value.proofs.value.Value.find_path.Given as goal
+use Rattle.gl_value.proofs.value.Value.follow.Given as goal
 
 -- the names that are left lead on from what was found
 abbrev pub invariant-loop-name : goal.invariant-loop-name

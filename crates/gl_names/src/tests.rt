@@ -1,0 +1,111 @@
+use super::*;
+use std::test::Fail;
+
+// The opcodes' names with their codes.
+const CODES: [(&str, u16); 45] = [
+    ("Text", 1),
+    ("Comment", 2),
+    ("Open", 3),
+    ("Attr", 4),
+    ("AttrRef", 5),
+    ("Spread", 6),
+    ("Mod", 7),
+    ("Flush", 8),
+    ("Close", 9),
+    ("Put", 10),
+    ("If", 11),
+    ("Unless", 12),
+    ("Else", 13),
+    ("EndIf", 14),
+    ("Each", 15),
+    ("Item", 16),
+    ("EndItem", 17),
+    ("EndEach", 18),
+    ("Let", 19),
+    ("Bind", 20),
+    ("EndLet", 21),
+    ("Comp", 22),
+    ("Arg", 23),
+    ("Block", 24),
+    ("Param", 25),
+    ("EndBlock", 26),
+    ("Bare", 27),
+    ("Invoke", 28),
+    ("Yield", 29),
+    ("Undef", 30),
+    ("Null", 31),
+    ("True", 32),
+    ("False", 33),
+    ("Int", 34),
+    ("Str", 35),
+    ("Local", 36),
+    ("ArgRef", 37),
+    ("Field", 38),
+    ("Getter", 39),
+    ("Action", 40),
+    ("Prop", 41),
+    ("Call", 42),
+    ("Named", 43),
+    ("Cat", 44),
+    ("Done", 45),
+];
+
+// Texts that name no opcode.
+const NO_NAMES: [&str; 8] = [
+    "",
+    "text",
+    "Tex",
+    "Texts",
+    "TextComment",
+    "EndIfEach",
+    "Done ",
+    "\u{e9}",
+];
+
+// Two rows have one name, two one number, and one name is empty.
+const ROWS: [Row; 4] = [
+    Row {
+        length: 2,
+        number: 7,
+    },
+    Row {
+        length: 2,
+        number: 8,
+    },
+    Row {
+        length: 0,
+        number: 9,
+    },
+    Row {
+        length: 1,
+        number: 7,
+    },
+];
+
+#[test]
+fn opcodes(rt: HostRuntime) {
+    let table = mnemonics();
+    for (name, code) in CODES.iter() {
+        assert_eq!(rt; table.find(*name), Some(*code));
+        assert_eq!(rt; MNEMONICS.find(*name), Some(*code));
+        assert_eq!(rt; table.name(*code), Some(*name));
+    }
+    for name in NO_NAMES.iter() {
+        assert_eq!(rt; table.find(*name), None);
+    }
+    assert_eq!(rt; table.name(0), None);
+    assert_eq!(rt; table.name(46), None);
+}
+
+#[test]
+fn rows(rt: HostRuntime) {
+    let table = NameTable::new("ababc", &ROWS);
+    assert_eq!(rt; table.find("ab"), Some(7));
+    assert_eq!(rt; table.find(""), Some(9));
+    assert_eq!(rt; table.find("c"), Some(7));
+    assert_eq!(rt; table.find("b"), None);
+    assert_eq!(rt; table.name(7), Some("ab"));
+    assert_eq!(rt; table.name(8), Some("ab"));
+    assert_eq!(rt; table.name(9), Some(""));
+    assert_eq!(rt; table.name(1), None);
+}

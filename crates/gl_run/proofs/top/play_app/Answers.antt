@@ -1,0 +1,12 @@
+use Rattle.std.proofs.lemmas.Result.{err_from_is_err_and}
+use Rattle.gl_run.specs.Loads.{seen_app}
+use Rattle.gl_run.proofs.Outputs.{played_whole, played_part}
+use Rattle.gl_run.proofs.top.play_app.Goals as goal
+
+pub returns-in_err-play-clause-told : goal.returns-in_err-play-clause-told
+returns-in_err-play-clause-told g c = λ files e.
+    let p = err_from_is_err_and c.from_residual-in_err-play.result c.from_residual-in_err-play.ensures.1 in
+    rw (p.1, p.2) (played_part _ _ _ (seen_app c.in_ok-app.app) _ (c.in_ok-app.ensures.told files e) c.in_err-play.ensures.plays)
+
+pub returns-clause-told : goal.returns-clause-told
+returns-clause-told g c = λ files e. played_whole _ _ (seen_app c.in_ok-app.app) _ (c.in_ok-app.ensures.told files e) c.in_ok-play.ensures.plays

@@ -1,0 +1,255 @@
+// Worked rows, over shelves and sinks in memory.
+use super::*;
+use gl_outside::{Calls, CalmShelf, CalmSink, Cut, Cuts, File, Files, MemShelf, MemSink};
+use std::alloc::{AllocError, Global};
+use std::process::Abort;
+use std::test::Fail;
+
+// What it shows, the words, the three files (a file without text is not there), the status, `out` and `err`.
+type Row = (
+    &'static str,
+    &'static [&'static str],
+    [&'static str; 3],
+    Status,
+    &'static str,
+    &'static str,
+);
+
+const RUN: &[&str] = &["run", "m.json", "s.json"];
+
+const ONE: &str =
+    "{\"classes\":{\"App\":{\"fields\":{\"n\":0},\"template\":\"app.hbs\"}},\"root\":\"App\"}";
+
+const NONE: &str =
+    "{\"classes\":{\"App\":{\"fields\":{},\"template\":\"app.hbs\"}},\"root\":\"App\"}";
+
+const NULL: &str =
+    "{\"classes\":{\"App\":{\"fields\":{\"n\":null},\"template\":\"app.hbs\"}},\"root\":\"App\"}";
+
+const NESTED: &str =
+    "{\"classes\":{\"My::App2\":{\"fields\":{\"n\":\"\\u0007\\\"\"},\"template\":\"app.hbs\"}},\"root\":\"My::App2\"}";
+
+const ROWS: [Row; 13] = [
+    (
+        "an empty page",
+        RUN,
+        [NONE, "", "[]"],
+        Status::Done,
+        "= 0 start\n",
+        "",
+    ),
+    (
+        "the greatest integer",
+        RUN,
+        [
+            ONE,
+            "<p>{{this.n}}</p>",
+            "[{\"set\":\"n\",\"to\":9007199254740991}]",
+        ],
+        Status::Done,
+        "= 0 start\n#1 <p>\n  #2 \"0\"\n= 1 set n\n#1 <p>\n  #2 \"9007199254740991\"\n",
+        "",
+    ),
+    (
+        "null shows nothing",
+        RUN,
+        [NULL, "a<p></p>{{this.n}}", "[{\"set\":\"n\",\"to\":\"x\"}]"],
+        Status::Done,
+        "= 0 start\n#1 \"a\"\n#2 <p>\n#3 \"\"\n= 1 set n\n#1 \"a\"\n#2 <p>\n#3 \"x\"\n",
+        "",
+    ),
+    (
+        "two parts of a class name",
+        RUN,
+        [NESTED, "{{this.n}}", "[]"],
+        Status::Done,
+        "= 0 start\n#1 \"\\u{7}\\\"\"\n",
+        "",
+    ),
+    (
+        "a helper",
+        RUN,
+        [NONE, "{{nope}}", "[]"],
+        Status::Refused,
+        "",
+        "not built yet\n",
+    ),
+    (
+        "no such field",
+        RUN,
+        [ONE, "{{this.m}}", "[]"],
+        Status::Refused,
+        "",
+        "not built yet\n",
+    ),
+    (
+        "an end tag of another",
+        RUN,
+        [ONE, "<p></b>", "[]"],
+        Status::Refused,
+        "",
+        "not built yet\n",
+    ),
+    (
+        "a void tag",
+        RUN,
+        [ONE, "<br></br>", "[]"],
+        Status::Refused,
+        "",
+        "not built yet\n",
+    ),
+    (
+        "an integer too large",
+        RUN,
+        [ONE, "", "[{\"set\":\"n\",\"to\":9007199254740992}]"],
+        Status::Refused,
+        "",
+        "not built yet\n",
+    ),
+    (
+        "an unknown field is set",
+        RUN,
+        [ONE, "", "[{\"set\":\"m\",\"to\":1}]"],
+        Status::Refused,
+        "",
+        "not built yet\n",
+    ),
+    (
+        "no manifest",
+        RUN,
+        ["", "", ""],
+        Status::Refused,
+        "",
+        "\"m.json\": absent\n",
+    ),
+    (
+        "a name that is quoted",
+        &["run", "a\"\u{1f}\u{e9}\n", "s.json"],
+        ["", "", ""],
+        Status::Refused,
+        "",
+        "\"a\\\"\\u{1f}\u{e9}\\n\": absent\n",
+    ),
+    (
+        "no such command",
+        &["go", "m.json", "s.json"],
+        [ONE, "", "[]"],
+        Status::Usage,
+        "",
+        "bad command line\n",
+    ),
+];
+
+fn file(alloc: Global, name: &str, bytes: &str) -> Result<File, AllocError> {
+    Ok(File::new(
+        String::from_str(alloc, name)?,
+        bytes.as_bytes().to_vec(alloc)?,
+    ))
+}
+
+fn files_of(alloc: Global, texts: &[&str; 3]) -> Result<Files, AllocError> {
+    let [manifest, template, script] = texts;
+    let mut files = Files::new(alloc);
+    if !manifest.is_empty() {
+        files.push(file(alloc, "m.json", manifest)?)?;
+        files.push(file(alloc, "app.hbs", template)?)?;
+        files.push(file(alloc, "s.json", script)?)?;
+    }
+    Ok(files)
+}
+
+fn check_row(rt: &impl Abort, alloc: Global, row: &Row) -> Result<(), Fail> {
+    let (what, words, texts, wanted, written, line) = row;
+    let mut shelf = CalmShelf::new(files_of(alloc, texts)?);
+    let mut out = CalmSink::new(alloc);
+    let mut err = CalmSink::new(alloc);
+    let mut last = Last::new();
+    let status = run(alloc, words, &mut shelf, &mut out, &mut err, &mut last);
+    assert_eq!(rt; status, *wanted, "{}", what);
+    assert_eq!(rt; out.taken(), written.as_bytes(), "{}", what);
+    assert_eq!(rt; err.taken(), line.as_bytes(), "{}", what);
+    Ok(())
+}
+
+#[test]
+fn rows(rt: HostRuntime) -> Result<(), Fail> {
+    for row in &ROWS {
+        check_row(&rt, rt.alloc(), row)?;
+    }
+    Ok(())
+}
+
+// A device that fails: the fetch, the put on `out` with the bytes that it takes, the put on `err`; then the status, `out` and
+// `err`. A number of 99 stands for none.
+type Failing = (u64, u64, usize, u64, Status, &'static str, &'static str);
+
+const FAILING: [Failing; 6] = [
+    (
+        0,
+        99,
+        0,
+        99,
+        Status::ReadFault,
+        "",
+        "\"m.json\": read fault\n",
+    ),
+    (
+        1,
+        99,
+        0,
+        99,
+        Status::ReadFault,
+        "",
+        "\"app.hbs\": read fault\n",
+    ),
+    (
+        2,
+        99,
+        0,
+        99,
+        Status::ReadFault,
+        "",
+        "\"s.json\": read fault\n",
+    ),
+    (99, 0, 4, 99, Status::WriteFault, "= 0 ", "write fault\n"),
+    (
+        99,
+        1,
+        7,
+        99,
+        Status::WriteFault,
+        "= 0 start\n#1 \"0\"\n= 1 set",
+        "write fault\n",
+    ),
+    (0, 99, 0, 2, Status::ReadFault, "", "\"m"),
+];
+
+#[test]
+fn failing(rt: HostRuntime) -> Result<(), Fail> {
+    let alloc = rt.alloc();
+    let texts = [ONE, "{{this.n}}", "[{\"set\":\"n\",\"to\":1}]"];
+    for (fetch, put, takes, said, wanted, written, line) in &FAILING {
+        let mut calls = Calls::new(alloc);
+        calls.push(*fetch)?;
+        let mut cuts = Cuts::new(alloc);
+        cuts.push(Cut::new(*put, *takes))?;
+        let mut silent = Cuts::new(alloc);
+        silent.push(Cut::new(*said, 0))?;
+        let mut shelf = MemShelf::new(files_of(alloc, &texts)?, calls);
+        let mut out = MemSink::new(alloc, cuts);
+        let mut err = MemSink::new(alloc, silent);
+        let mut last = Last::new();
+        let status = run(alloc, RUN, &mut shelf, &mut out, &mut err, &mut last);
+        assert_eq!(rt; status, *wanted);
+        assert_eq!(rt; out.taken(), written.as_bytes());
+        assert_eq!(rt; err.taken(), line.as_bytes());
+    }
+    Ok(())
+}
+
+#[test]
+fn codes(rt: HostRuntime) {
+    assert_eq!(rt; Status::Done.code(), 0);
+    assert_eq!(rt; Status::NestingLimit.code(), 1);
+    assert_eq!(rt; Status::NoMemory.code(), 6);
+}

@@ -1,0 +1,127 @@
+// The top call: what the program does.
+ghost use Rattle.std.specs.Prelude.{◌≡◌, ◌<◌, ◌≤◌, ◌↔◌, List, Some, None, Result, Err, IsErrOf, map, option_map, codes};
+ghost use Rattle.std.specs.Str.{chars, bytes_eq};
+ghost use Rattle.gl_outside.specs.Shelf.{Entry};
+ghost use Rattle.gl_run.specs.Lines.{Says};
+ghost use Rattle.gl_run.specs.Load.{load_of, fetched};
+ghost use Rattle.gl_run.specs.Output.{run_words, loaded_output, output_of, Answers};
+ghost use Rattle.gl_run.specs.Run.{Ending, status_of, line_of, HasCause, Tells, Completes, Untouched, fetched_by};
+
+use crate::Status;
+use crate::ending::{RunFault, say_line, status_of};
+use crate::load::load;
+use crate::session::play;
+use gl_outside::{Shelf, Sink};
+use std::alloc::Global;
+
+/// What the last run left: nothing yet.
+#[derive(Drop)]
+pub struct Last {}
+
+impl Last {
+    /// It takes no memory.
+    pub fn new() -> Last {
+        Last {}
+    }
+}
+
+// Whether the word is the command `run`.
+#[tactic(auto, using(crate::proofs::Words::run_word))]
+fn is_run(word: &str) -> bool
+    ensures { result ≡ bytes_eq (chars word.now) (codes "run") }
+{
+    word == "run"
+}
+
+// The manifest and the script that the words name.
+#[tactic(auto, unfolding(crate::specs::Output::run_words))]
+fn named_by<'a>(words: &[&'a str]) -> Option<(&'a str, &'a str)>
+    ensures { option_map (λ p. (chars p.0.now, chars p.1.now)) result ≡ run_words (map (λ w. chars w.now) words.now) }
+{
+    match words {
+        [word, manifest, script] if is_run(word) => Some((*manifest, *script)),
+        _ => None,
+    }
+}
+
+// Loads the app and plays its session.
+fn play_app<S: Shelf, K: Sink>(
+    alloc: Global,
+    manifest: &str,
+    script: &str,
+    shelf: &mut S,
+    out: &mut K,
+) -> Result<(), RunFault>
+    ensures told { (files : List Entry) → S.holds shelf.old ≡ Some files
+        → Answers (status_of result) (K.took out.old) (K.took out.new) (loaded_output (load_of files (chars manifest.now) (chars script.now))) }
+    ensures tells { (files : List Entry) → S.holds shelf.old ≡ Some files
+        → Tells result (loaded_output (load_of files (chars manifest.now) (chars script.now))) (fetched files (chars manifest.now) (chars script.now)) }
+    ensures causes { HasCause result (S.misses shelf.old) (S.misses shelf.new) (S.faults shelf.old) (S.faults shelf.new) (K.faults out.old) (K.faults out.new) }
+    ensures untouched { Untouched result (K.took out.old) (K.took out.new) }
+    ensures used { IsErrOf result RunFault.Usage → ⊥ }
+{
+    let app = load(alloc, shelf, manifest, script)?;
+    play(alloc, app.fields, &app.tree, &app.events, out)?;
+    Ok(())
+}
+
+// Does what the words say, but for the line on the error sink.
+fn attempt<S: Shelf, K: Sink>(
+    alloc: Global,
+    words: &[&str],
+    shelf: &mut S,
+    out: &mut K,
+) -> Result<(), RunFault>
+    ensures told { (files : List Entry) → S.holds shelf.old ≡ Some files
+        → Answers (status_of result) (K.took out.old) (K.took out.new) (output_of (map (λ w. chars w.now) words.now) files) }
+    ensures tells { (files : List Entry) → S.holds shelf.old ≡ Some files
+        → Tells result (output_of (map (λ w. chars w.now) words.now) files) (fetched_by (run_words (map (λ w. chars w.now) words.now)) files) }
+    ensures causes { HasCause result (S.misses shelf.old) (S.misses shelf.new) (S.faults shelf.old) (S.faults shelf.new) (K.faults out.old) (K.faults out.new) }
+    ensures untouched { Untouched result (K.took out.old) (K.took out.new) }
+    ensures used { (result ≡ Err RunFault.Usage) ↔ (run_words (map (λ w. chars w.now) words.now) ≡ None) }
+{
+    match named_by(words) {
+        Some((manifest, script)) => play_app(alloc, manifest, script, shelf, out),
+        None => Err(RunFault::Usage),
+    }
+}
+
+/// Does what the words say, over a shelf of files and two sinks, and gives the status.
+///
+/// The words are `run MANIFEST SCRIPT`; all else is [`Status::Usage`]. The manifest is fetched and read, then its
+/// template, then the script, before anything is written. Then `out` gets the text of the first turn and of
+/// the turn of each event, one put each, and `err` gets the line of the status, which is none at
+/// [`Status::Done`]. A file that is not of the small form is refused as not built yet.
+pub fn run<S: Shelf, K: Sink, E: Sink>(
+    alloc: Global,
+    words: &[&str],
+    shelf: &mut S,
+    out: &mut K,
+    err: &mut E,
+    last: &mut Last,
+) -> Status
+    // Over a shelf that tells its files, `out` took the texts of the output, or by the status a part of them.
+    ensures told { (files : List Entry) → S.holds shelf.old ≡ Some files
+        → Answers result (K.took out.old) (K.took out.new) (output_of (map (λ w. chars w.now) words.now) files) }
+    ensures complete { (files : List Entry) → S.holds shelf.old ≡ Some files
+        → S.faults shelf.new ≡ S.faults shelf.old → K.faults out.new ≡ K.faults out.old
+        → Completes result (K.took out.old) (K.took out.new) (output_of (map (λ w. chars w.now) words.now) files) }
+
+    // Why it ended so: the line on `err`, and the counts that rose. A fault of `err` changes nothing else.
+    ensures ending { (why : Ending) × (result ≡ status_of why)
+        × Says (E.took err.old) (E.took err.new) (E.faults err.old) (E.faults err.new) (E.wants err.old) (E.wants err.new) (line_of why)
+        × HasCause why (S.misses shelf.old) (S.misses shelf.new) (S.faults shelf.old) (S.faults shelf.new) (K.faults out.old) (K.faults out.new)
+        × Untouched why (K.took out.old) (K.took out.new)
+        × ((files : List Entry) → S.holds shelf.old ≡ Some files
+        → Tells why (output_of (map (λ w. chars w.now) words.now) files) (fetched_by (run_words (map (λ w. chars w.now) words.now)) files)) }
+
+    ensures usage { (result ≡ Status.Usage) ↔ (run_words (map (λ w. chars w.now) words.now) ≡ None) }
+    ensures read { result ≡ Status.ReadFault → S.faults shelf.old < S.faults shelf.new }
+    ensures write { result ≡ Status.WriteFault → K.faults out.old < K.faults out.new }
+    ensures refused { result ≡ Status.Refused → K.took out.new ≡ K.took out.old }
+    ensures limit { result ≡ Status.NestingLimit → ⊥ }
+{
+    let ending = attempt(alloc, words, shelf, out);
+    say_line(err, &ending);
+    status_of(&ending)
+}
