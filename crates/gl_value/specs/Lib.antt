@@ -1,6 +1,15 @@
 pub mod Code
+pub mod Falls
+pub mod Faults
+pub mod Found
 pub mod Helpers
+pub mod Index
+pub mod Json
+pub mod Laws
 pub mod Named
+pub mod Owners
+pub mod Plain
+pub mod Proper
 pub mod Quote
 pub mod Scalar
 pub mod Value

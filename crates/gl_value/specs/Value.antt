@@ -33,6 +33,15 @@ abbrev pub list_of : {O : Type 0} → Values O → List (Value O)
 list_of no_values = []
 list_of (value v vs) = v ∷ list_of vs
 
+-- the members that a list of keys with values makes, and back
+abbrev pub pairs_of : {O : Type 0} → List (Text × Value O) → Members O
+pairs_of [] = no_members
+pairs_of (p ∷ ps) = member p.0 p.1 (pairs_of ps)
+
+abbrev pub pair_list : {O : Type 0} → Members O → List (Text × Value O)
+pair_list no_members = []
+pair_list (member k v ms) = (k, v) ∷ pair_list ms
+
 -- a scalar has depth 0, a list or record one more than its deepest member; an action counts as the list of its arguments
 abbrev mutual
   pub depth : {O : Type 0} → Value O → ℕ

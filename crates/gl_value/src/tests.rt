@@ -3,6 +3,111 @@ use super::*;
 use std::alloc::Global;
 use std::test::Fail;
 
+// A JSON text; the truth, the text and the attribute of its value.
+const RULES: [(&str, bool, &str, Option<&str>); 14] = [
+    ("null", false, "", None),
+    ("true", true, "true", Some("")),
+    ("false", false, "false", None),
+    ("0", false, "0", Some("0")),
+    ("-1", true, "-1", Some("-1")),
+    (
+        "9007199254740991",
+        true,
+        "9007199254740991",
+        Some("9007199254740991"),
+    ),
+    ("\"\"", false, "", Some("")),
+    ("\"0\"", true, "0", Some("0")),
+    ("[]", false, "", Some("")),
+    ("[0]", true, "0", Some("0")),
+    ("[null]", true, "", Some("")),
+    ("{}", true, "[object Object]", Some("[object Object]")),
+    (
+        "[1,[true,null,\"a\"],\"\\u00e9\",{\"k\":1}]",
+        true,
+        "1,true,,a,\u{e9},[object Object]",
+        Some("1,true,,a,\u{e9},[object Object]"),
+    ),
+    ("[[],[]]", true, ",", Some(",")),
+];
+
+// Two JSON texts, and whether their values are the same.
+const PAIRS: [(&str, &str, bool); 12] = [
+    ("1", "1", true),
+    ("1", "\"1\"", false),
+    ("0", "false", false),
+    ("null", "null", true),
+    ("\"a\"", "\"b\"", false),
+    ("[1,2]", "[1,2]", true),
+    ("[1,2]", "[1]", false),
+    ("[1]", "[1,2]", false),
+    ("[1,2]", "[2,1]", false),
+    ("{\"a\":1,\"b\":[]}", "{\"b\":[],\"a\":1}", true),
+    ("{\"a\":1}", "{\"b\":1}", false),
+    ("{\"a\":1}", "{\"a\":1,\"b\":1}", false),
+];
+
+// A JSON text, a name, and the text of the value's property of that name, or none where it is undefined.
+const PROPERTIES: [(&str, &str, Option<&str>); 16] = [
+    ("{\"a\":1,\"length\":5}", "length", Some("5")),
+    ("{\"a\":1,\"b\":2}", "b", Some("2")),
+    ("{\"a\":1}", "length", None),
+    ("[7,8]", "length", Some("2")),
+    ("[]", "length", Some("0")),
+    ("[7,8]", "0", Some("7")),
+    ("[7,8]", "1", Some("8")),
+    ("[7,8]", "2", None),
+    ("[7,8]", "01", None),
+    ("[7,8]", "+1", None),
+    ("[7,8]", "-0", None),
+    ("[7,8]", "", None),
+    ("[7,8]", "18446744073709551616", None),
+    ("\"a\\u00e9\\ud83d\\ude00\"", "length", Some("3")),
+    ("\"ab\"", "0", None),
+    ("12", "length", None),
+];
+
+// A JSON text, an index, a key text, and the text of the key, or none where it is undefined.
+const KEYS: [(&str, u64, &str, Option<&str>); 8] = [
+    ("[7]", 3, "@index", Some("3")),
+    (
+        "null",
+        18446744073709551615,
+        "@index",
+        Some("9007199254740991"),
+    ),
+    ("[7,8]", 3, "@identity", Some("7,8")),
+    ("{\"a\":{\"b\":[4,5]}}", 3, "a.b.1", Some("5")),
+    ("{\"a\":{\"b\":[4,5]}}", 3, "a.b.length", Some("2")),
+    ("{\"a\":{\"b\":[4,5]}}", 3, "a.c.length", None),
+    ("{\"\":{\"\":6}}", 3, ".", Some("6")),
+    ("{\"@index\":6}", 3, "index", None),
+];
+
+// A JSON text, and why it is no value.
+const FAULTS: [(&str, JsonFault); 14] = [
+    ("1.5", JsonFault::NotWhole),
+    ("1.0", JsonFault::NotWhole),
+    ("-0", JsonFault::NotWhole),
+    ("1e2", JsonFault::NotWhole),
+    ("18446744073709551616", JsonFault::NotWhole),
+    ("9007199254740992", JsonFault::TooLarge),
+    ("-9007199254740992", JsonFault::TooLarge),
+    ("18446744073709551615", JsonFault::TooLarge),
+    ("[1,[9007199254740992],1.5]", JsonFault::TooLarge),
+    ("[1,[1.5],9007199254740992]", JsonFault::NotWhole),
+    ("{\"b\":1.5,\"a\":9007199254740992}", JsonFault::TooLarge),
+    ("{\"b\":9007199254740992,\"a\":1.5}", JsonFault::NotWhole),
+    (
+        "{\"a\":{\"z\":1.5},\"b\":9007199254740992}",
+        JsonFault::NotWhole,
+    ),
+    (
+        "{\"\\u00e9\":1.5,\"z\":9007199254740992}",
+        JsonFault::TooLarge,
+    ),
+];
+
 // A JSON text, and the text of the scalar that it is.
 const SCALARS: [(&str, Option<&str>); 11] = [
     ("null", Some("")),
@@ -94,5 +199,151 @@ fn names(rt: HostRuntime) -> Result<(), Fail> {
     assert!(rt; matches!(named.get("b"), Some(Value::Int(2))) && named.get("c").is_none());
     assert!(rt; named.len() == 3 && named.as_slice().len() == 3);
     assert!(rt; matches!(named.into_vec().last(), Some((_, Value::Bool(true)))));
+    Ok(())
+}
+
+fn value_of(alloc: Global, text: &str) -> Result<Value, Fail> {
+    let json = serde_json::Value::from_str(alloc, text)?;
+    Ok(Value::from_json(alloc, &json)?)
+}
+
+// The text of a value that isn't undefined.
+fn shown(alloc: Global, value: &Value) -> Result<Option<Text>, Fail> {
+    match value {
+        Value::Undefined => Ok(None),
+        other => Ok(Some(other.text_of(alloc)?)),
+    }
+}
+
+fn is_shown(found: &Option<Text>, wanted: &Option<&str>) -> bool {
+    match (found, wanted) {
+        (Some(found), Some(wanted)) => found.is(wanted),
+        (None, None) => true,
+        _ => false,
+    }
+}
+
+// `n` arrays, each in the one before, round a text.
+fn nested(alloc: Global, n: u32, inside: &str) -> Result<String, Fail> {
+    let mut text = String::new(alloc);
+    for _ in 0..n {
+        text.push('[')?;
+    }
+    text.push_str(inside)?;
+    for _ in 0..n {
+        text.push(']')?;
+    }
+    Ok(text)
+}
+
+#[test]
+fn rules(rt: HostRuntime) -> Result<(), Fail> {
+    let alloc = rt.alloc();
+    for (json, truth, text, attribute) in &RULES {
+        let value = value_of(alloc, json)?;
+        assert_eq!(rt; value.truthy(), *truth, "truth of {json}");
+        assert_eq!(rt; value.text_of(alloc)?.as_str(), *text);
+        assert!(rt;
+            is_shown(&value.attr_of(alloc)?, attribute),
+            "attribute of {json}"
+        );
+        assert!(rt;
+            value.copy()?.same(&value) && value.data_of()?.same(&value),
+            "copies of {json}"
+        );
+    }
+    for (one, with, wanted) in &PAIRS {
+        let one = value_of(alloc, one)?;
+        assert_eq!(rt; one.same(&value_of(alloc, with)?), *wanted, "{with}");
+    }
+    for (json, name, wanted) in &PROPERTIES {
+        let value = value_of(alloc, json)?;
+        let found = value.property(name)?;
+        assert!(rt;
+            is_shown(&shown(alloc, &found)?, wanted),
+            "property {name} of {json}"
+        );
+        assert!(rt; value.find(name).same(&found), "found {name} of {json}");
+    }
+    for (json, index, key, wanted) in &KEYS {
+        let found = key_of(&value_of(alloc, json)?, *index, key)?;
+        assert!(rt;
+            is_shown(&shown(alloc, &found)?, wanted),
+            "key {key} of {json}"
+        );
+    }
+    Ok(())
+}
+
+#[test]
+fn json(rt: HostRuntime) -> Result<(), Fail> {
+    let alloc = rt.alloc();
+    for (text, wanted) in &FAULTS {
+        let json = serde_json::Value::from_str(alloc, text)?;
+        match Value::from_json(alloc, &json) {
+            Ok(_) => assert!(rt; false, "{text} is read"),
+            Err(fault) => assert_eq!(rt; fault, *wanted, "{text}"),
+        }
+    }
+    for (depth, inside, wanted) in [
+        (100, "", None),
+        (101, "", Some(JsonFault::TooDeep)),
+        (127, "", Some(JsonFault::TooDeep)),
+        (101, "1.5", Some(JsonFault::NotWhole)),
+        (100, "{}", Some(JsonFault::TooDeep)),
+        (100, "0", None),
+    ] {
+        let json = serde_json::Value::from_str(alloc, nested(alloc, depth, inside)?.as_str())?;
+        assert_eq!(rt;
+            Value::from_json(alloc, &json).err(),
+            wanted,
+            "{depth} round {inside}"
+        );
+    }
+    Ok(())
+}
+
+// The action `go` of instance 7, with the fixed arguments 1 and an action `by` without any.
+fn action(alloc: Global) -> Result<Value, Fail> {
+    let by = Act {
+        owner: 7,
+        name: text(alloc, "by")?,
+        fixed: List::new(alloc),
+    };
+    let mut fixed = List::new(alloc);
+    fixed.push(Value::Int(1))?;
+    fixed.push(Value::Act(by))?;
+    Ok(Value::Act(Act {
+        owner: 7,
+        name: text(alloc, "go")?,
+        fixed,
+    }))
+}
+
+#[test]
+fn actions(rt: HostRuntime) -> Result<(), Fail> {
+    let alloc = rt.alloc();
+    let go = action(alloc)?;
+    assert!(rt; go.truthy() && go.attr_of(alloc)?.is_none() && go.same(&go.copy()?));
+    assert_eq!(rt; go.text_of(alloc)?.as_str(), "[action go]");
+    assert!(rt; matches!(go.data_of()?, Value::Undefined));
+    assert!(rt; matches!(key_of(&go, 0, "@identity")?, Value::Undefined));
+    let mut record = Record::new(alloc);
+    record.push(text(alloc, "a")?, go)?;
+    record.push(text(alloc, "b")?, Value::List(List::new(alloc)))?;
+    assert!(rt; record.len() == 2 && record.as_slice().len() == 2 && record.get("c").is_none());
+    let value = Value::Record(record.copy()?);
+    assert!(rt; matches!(value.find("a"), Found::Lent(Value::Act(_))));
+    assert!(rt; matches!(value.data_of()?.property("a")?, Value::Undefined));
+    assert!(rt; matches!(key_of(&value, 0, "a")?, Value::Undefined));
+    assert!(rt; matches!(value.find_path("b.length").copy()?, Value::Int(0)));
+    let mut list = List::from_vec(Vec::new(alloc));
+    list.push(Value::Record(Record::from_vec(record.into_vec())))?;
+    assert!(rt; list.len() == 1 && !list.is_empty() && list.get(1).is_none());
+    assert!(rt; list.as_slice().len() == 1 && list.copy()?.into_vec().len() == 1);
+    assert!(rt; text(alloc, "Z")?.is_before(&text(alloc, "a")?));
+    assert!(rt; !text(alloc, "\u{e9}")?.is_before(&text(alloc, "z")?));
+    laws::same_decides::<u8>();
+    laws::owners_free::<u8, u16, u32>();
     Ok(())
 }

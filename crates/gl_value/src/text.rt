@@ -3,6 +3,7 @@ ghost use Rattle.std.specs.Prelude.{◌≡◌, ◌<◌, ◌↔◌, false, ◌∷
 ghost use Rattle.std.specs.Str.{chars, bytes_eq, IsUtf8};
 ghost use Rattle.std.specs.Fmt.{decimal, digits, signed_decimal};
 ghost use Rattle.gl_base.specs.Texts.{is_ascii_text};
+ghost use Rattle.gl_value.specs.Helpers.{text_less};
 
 use std::alloc::{AllocError, Global};
 use std::marker::Model;
@@ -95,6 +96,13 @@ impl Text {
         ensures { result ≡ bytes_eq self.now other.now }
     {
         self.inner.as_str() == other.inner.as_str()
+    }
+
+    /// Whether it is less than the other, by bytes.
+    pub fn is_before(&self, other: &Text) -> bool
+        ensures { result ≡ text_less self.now other.now }
+    {
+        self.inner.as_str() < other.inner.as_str()
     }
 
     /// Adds the characters of `text` at the end.

@@ -1,75 +1,118 @@
 // The values of templates.
-ghost use Rattle.std.specs.Prelude.{◌≡◌, IfOk, IfSome, option_map, ℕ};
-ghost use Rattle.serde_json.specs.View as seen;
-ghost use Rattle.gl_value.specs.Value.{text_of};
-ghost use Rattle.gl_value.specs.Scalar.{scalar_of, IsProper};
+ghost use Rattle.std.specs.Prelude.{◌≡◌, ◌<◌};
+ghost use Rattle.gl_value.specs.Value.{truthy};
 ghost use Rattle.gl_value.specs.View.{view};
 
 use crate::Text;
-use std::alloc::{AllocError, Global};
+use std::marker::Model;
 
-/// A value: undefined, null, a Boolean, an integer within plus or minus [`GREATEST`], or a text.
+/// A value: undefined, null, a Boolean, an integer within plus or minus [`GREATEST`], a text, a list, a
+/// record or an action.
 #[derive(Drop)]
+#[cycle(value)]
 pub enum Value {
     Undefined,
     Null,
     Bool(bool),
     Int(i64),
     Text(Text),
+    List(List),
+    Record(Record),
+    Act(Act),
 }
 
 /// The greatest integer of a template.
 pub const GREATEST: i64 = 9_007_199_254_740_991;
 
+/// How deep a value may be nested: a list or a record is one deeper than the deepest of its members.
+pub const DEEPEST: u32 = 100;
+
+/// A list of values. Contracts see the values as definitions see them.
+#[derive(Drop)]
+#[cycle(value)]
+pub struct List {
+    pub(crate) list: Vec<Value>,
+}
+
+/// A key with its value.
+#[derive(Drop)]
+#[cycle(value)]
+pub struct Pair {
+    pub key: Text,
+    pub value: Value,
+}
+
+/// Keys with their values, in the byte order of the keys. Contracts see the values as definitions see them.
+#[derive(Drop)]
+#[cycle(value)]
+pub struct Record {
+    pub(crate) list: Vec<Pair>,
+}
+
+/// An action: the number of the instance that owns it, its name and its fixed arguments.
+#[derive(Drop)]
+#[cycle(value)]
+pub struct Act {
+    pub owner: u128,
+    pub name: Text,
+    pub fixed: List,
+}
+
+impl Model for List {
+    ghost use Rattle.std.specs.Prelude.{ℕ, suc, List};
+    ghost use Rattle.std.specs.Coded.{coded_list};
+    ghost use Rattle.gl_value.specs.Value as v;
+    ghost use Rattle.gl_value.specs.Code.{value_code};
+
+    ghost Value = { List (v.Value ℕ) };
+
+    ghost coded = { coded_list value_code };
+
+    ghost use Rattle.gl_value.specs.View.{seen_items};
+
+    ghost view = { λ a. seen_items a.list.items };
+
+    ghost size = { λ vs. suc (v.values_depth (v.values_of vs)) };
+
+    ghost use Rattle.gl_value.specs.Falls.{list_falls};
+
+    ghost size_decreases = { λ a h. list_falls a };
+}
+
+impl Model for Record {
+    ghost use Rattle.std.specs.Prelude.{ℕ, suc, List};
+    ghost use Rattle.std.specs.Coded.{coded_list, coded×, coded_ℕ};
+    ghost use Rattle.gl_value.specs.Value as v;
+    ghost use Rattle.gl_value.specs.Code.{value_code};
+
+    ghost Value = { List (List ℕ × v.Value ℕ) };
+
+    ghost coded = { coded_list (coded× (coded_list coded_ℕ) value_code) };
+
+    ghost use Rattle.gl_value.specs.View.{seen_pairs};
+
+    ghost view = { λ a. seen_pairs a.list.items };
+
+    ghost size = { λ ps. suc (v.members_depth (v.pairs_of ps)) };
+
+    ghost use Rattle.gl_value.specs.Falls.{record_falls};
+
+    ghost size_decreases = { λ a h. record_falls a };
+}
+
 impl Value {
-    /// The text of a value: nothing for undefined and null, `true` or `false`, an integer in decimal,
-    /// and a text itself.
-    pub fn text_of(&self, alloc: Global) -> Result<Text, AllocError>
-        ensures { IfOk result (λ t. t ≡ text_of (view self.now)) }
-    {
-        let mut text = Text::new(alloc);
-        match self {
-            Value::Undefined | Value::Null => {}
-            Value::Bool(true) => text.push_ascii("true")?,
-            Value::Bool(false) => text.push_ascii("false")?,
-            Value::Int(number) => text.push_int(*number)?,
-            Value::Text(other) => text.push_text(other)?,
-        }
-        Ok(text)
-    }
-
-    /// Another value with the same content.
-    pub fn copy(&self) -> Result<Value, AllocError>
-        ensures { IfOk result (λ v. v ≡ self.now) }
+    /// The truth of a value: false, undefined, null, 0, the empty text and the empty list are false, and all
+    /// else is true. It takes no memory.
+    pub fn truthy(&self) -> bool
+        ensures { result ≡ truthy (view self.now) }
     {
         match self {
-            Value::Undefined => Ok(Value::Undefined),
-            Value::Null => Ok(Value::Null),
-            Value::Bool(b) => Ok(Value::Bool(*b)),
-            Value::Int(number) => Ok(Value::Int(*number)),
-            Value::Text(text) => Ok(Value::Text(text.copy()?)),
+            Value::Undefined | Value::Null => false,
+            Value::Bool(b) => *b,
+            Value::Int(number) => *number != 0,
+            Value::Text(text) => !text.is_empty(),
+            Value::List(list) => !list.is_empty(),
+            Value::Record(_) | Value::Act(_) => true,
         }
-    }
-
-    /// The value that a JSON scalar stands for; `None` for a list, an object, and a number that is not
-    /// an integer within the bounds.
-    pub fn from_scalar(alloc: Global, json: &serde_json::Value) -> Result<Option<Value>, AllocError>
-        ensures value { IfOk result (λ o. option_map view o ≡ scalar_of (seen.view json.now)) }
-        ensures proper { IfOk result (λ o. IfSome o (λ v. IsProper (view v))) }
-    {
-        if json.is_null() {
-            return Ok(Some(Value::Null));
-        }
-        if let Some(b) = json.as_bool() {
-            return Ok(Some(Value::Bool(b)));
-        }
-        if let Some(text) = json.as_str() {
-            return Ok(Some(Value::Text(Text::from_str(alloc, text)?)));
-        }
-        Ok(
-            json.as_i64()
-                .filter(|n| -GREATEST <= *n && *n <= GREATEST)
-                .map(Value::Int),
-        )
     }
 }
