@@ -1,6 +1,6 @@
 -- What a single byte of a template may be. All that tells tokens apart is ASCII, so a byte of another character is
 -- none of these.
-use Rattle.std.specs.Prelude.{ℕ, List, [], ◌∷◌, Bool, false, ◌||◌, ◌&&◌, not, ◌==◌, nat_le, codes}
+use Rattle.std.specs.Prelude.{ℕ, Bool, ◌||◌, ◌&&◌, not, ◌==◌, nat_le}
 
 abbrev pub is_between : ℕ → ℕ → ℕ → Bool
 is_between low high b = nat_le low b && nat_le b high

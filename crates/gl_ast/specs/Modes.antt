@@ -1,5 +1,5 @@
 -- The token that stands at a place of a template.
-use Rattle.std.specs.Prelude.{ℕ, List, [], ◌∷◌, Bool, true, false, codes, Option, Some, None, option_map}
+use Rattle.std.specs.Prelude.{ℕ, List, [], ◌∷◌, Bool, true, false, codes, Option, None, option_map}
 use Rattle.gl_base.specs.Answers.{◌>>=◌}
 use Rattle.gl_base.specs.Names.{or_else}
 use Rattle.gl_ast.specs.Scans.{after, after_run}

@@ -1,5 +1,5 @@
 -- The tokens of a text, read forward.
-use Rattle.std.specs.Prelude.{ℕ, zero, suc, List, [], ◌∷◌, ◌+◌, ◌-◌, ◌&&◌, length, take, if◌then◌else◌, Option, Some, None}
+use Rattle.std.specs.Prelude.{ℕ, zero, suc, List, [], ◌∷◌, ◌+◌, ◌-◌, ◌&&◌, length, take, if◌then◌else◌, Option, Some}
 use Rattle.std.specs.Str.{chars}
 use Rattle.gl_base.specs.Answers.{◌>>=◌}
 use Rattle.gl_ast.specs.Marks.{is_white}

@@ -1,5 +1,5 @@
 -- The words of a template and how far each reaches: names, paths, numbers, strings, parameters and comments.
-use Rattle.std.specs.Prelude.{ℕ, List, [], ◌∷◌, ◌+◌, ◌*◌, ◌-◌, Bool, true, false, ◌||◌, not, ◌==◌, nat_le, codes, length, take, if◌then◌else◌, Option, Some, None}
+use Rattle.std.specs.Prelude.{ℕ, List, [], ◌∷◌, ◌+◌, ◌*◌, ◌-◌, Bool, false, ◌||◌, not, nat_le, codes, length, take, if◌then◌else◌, Option, Some, None}
 use Rattle.gl_base.specs.Answers.{◌>>=◌}
 use Rattle.gl_base.specs.Names.{or_else, has_text}
 use Rattle.gl_base.specs.Texts.{Text}

@@ -1,0 +1,7 @@
+//! The tokens of a template.
+#![tactic(auto)]
+
+mod class;
+mod fault;
+mod scan;
+mod sign;
