@@ -8,6 +8,8 @@ use Rattle.gl_lex.specs.declared.class.Class.{Class}
 use Rattle.gl_lex.specs.declared.class.Class.TheVariants as c
 use Rattle.gl_lex.specs.declared.sign.Sign.{Sign}
 use Rattle.gl_lex.specs.declared.sign.Sign.TheVariants as g
+use Rattle.gl_lex.specs.declared.pieces.Piece.{Piece}
+use Rattle.gl_lex.specs.declared.pieces.Piece.TheVariants as p
 
 abbrev pub test : Class → ℕ → Bool
 test c.White = s.is_white
@@ -28,3 +30,8 @@ shows g.LongEnd = shows_long_end
 shows g.ShortEnd = begins (codes "}}")
 shows g.TextEnd = ends_text
 shows (g.QuotedEnd q) = ends_quoted (quote_byte q)
+
+abbrev pub after_piece : Piece → List ℕ → Option (List ℕ)
+after_piece p.ClassPart = after_more_class
+after_piece p.Segment = after_segment
+after_piece p.Name = after_spaced_name

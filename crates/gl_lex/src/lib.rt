@@ -3,5 +3,8 @@
 
 mod class;
 mod fault;
+mod found;
+mod pieces;
 mod scan;
 mod sign;
+mod words;
