@@ -7,7 +7,7 @@ use Rattle.gl_base.specs.Names.{or_else, has_text}
 use Rattle.gl_ast.specs.Marks.{is_white, is_capital, is_small, is_digit, starts_name, in_name, in_class, in_tag, starts_attribute, in_attribute, in_unquoted}
 use Rattle.gl_ast.specs.Scans.{after, begins, after_any, after_all, from_first, after_run, after_pieces, after_closing}
 use Rattle.gl_ast.specs.Words.{read_part, reserved, after_white, after_space, after_name, after_free_name, after_class_part, after_more_class, after_parts, after_class, after_tag, after_element_name, after_end_tag, after_tag_opening, after_html_comment, after_long_end, shows_long_end, after_long_comment, after_short_comment, after_comment, after_tilde, after_opening, after_mustache, after_attribute, after_argument, after_unquoted, after_spaced_name, after_more_names, after_names, after_parameters, after_digits, after_head, after_member, after_segment, after_segments, after_path, goes_on, fits, after_natural, after_number, after_string, ends_text, ends_quoted}
-use Rattle.gl_ast.specs.Modes.{Found, found, quote_byte, content_token, tag_token, equals_token, value_end_token, value_token, expression_token, mustache_token, token}
+use Rattle.gl_ast.specs.Modes.{Found, found, quote_byte, content_opening, content_token, tag_mark, tag_token, equals_token, value_end_token, value_token, expression_mark, expression_token, mustache_token, token}
 use Rattle.gl_ast.specs.declared.mode.Quote.{Quote}
 use Rattle.gl_ast.specs.declared.mode.Quote.TheVariants.{Double, Single}
 use Rattle.gl_ast.specs.declared.mode.Around.{Around}
@@ -280,6 +280,13 @@ first_of_two bs (Some x) p s t f e = s f e
 no_step : (bs : List ℕ) → StepsIf bs None
 no_step bs f e = cc
 
+opening_steps : (bs : List ℕ) → StepsIf bs (content_opening bs)
+unfolding content_opening
+opening_steps bs =
+    first_of_two bs _ _ (found_steps _ _ (λ xs. after_opening xs >>= after (codes "#")) (moves_then after_opening (after (codes "#")) opening_moves (scans_after (codes "#") refl)) bs) (
+    first_of_two bs _ _ (found_steps _ _ (λ xs. after_opening xs >>= after (codes "/")) (moves_then after_opening (after (codes "/")) opening_moves (scans_after (codes "/") refl)) bs) (
+    first_of_two bs _ _ (found_steps _ _ after_opening opening_moves bs) (no_step bs)))
+
 content_steps : (bs : List ℕ) → StepsIf bs (content_token bs)
 unfolding content_token
 content_steps bs =
@@ -288,9 +295,20 @@ content_steps bs =
     first_of_two bs _ _ (found_steps _ _ after_end_tag end_tag_moves bs) (
     first_of_two bs _ _ (found_steps _ _ after_tag_opening tag_opening_moves bs) (
     first_of_two bs _ _ (found_steps _ _ after_comment comment_moves bs) (
-    first_of_two bs _ _ (found_steps _ _ (λ xs. after_opening xs >>= after (codes "#")) (moves_then after_opening (after (codes "#")) opening_moves (scans_after (codes "#") refl)) bs) (
-    first_of_two bs _ _ (found_steps _ _ (λ xs. after_opening xs >>= after (codes "/")) (moves_then after_opening (after (codes "/")) opening_moves (scans_after (codes "/") refl)) bs) (
-    first_of_two bs _ _ (found_steps _ _ after_opening opening_moves bs) (no_step bs))))))))
+    first_of_two bs _ _ (opening_steps bs) (no_step bs))))))
+
+value_end_steps : (bs : List ℕ) → StepsIf bs (value_end_token bs)
+unfolding value_end_token
+value_end_steps bs =
+    first_of_two bs _ _ (found_steps _ _ (after (codes ">")) (moves_after 62 [] refl) bs) (
+    first_of_two bs _ _ (found_steps _ _ (after (codes "/>")) (moves_after 47 (codes ">") refl) bs) (no_step bs))
+
+tag_mark_steps : (bs : List ℕ) → StepsIf bs (tag_mark bs)
+unfolding tag_mark
+tag_mark_steps bs =
+    first_of_two bs _ _ (found_steps _ _ (after (codes "...attributes")) (moves_after 46 (codes "..attributes") refl) bs) (
+    first_of_two bs _ _ (found_steps _ _ (after (codes "=")) (moves_after 61 [] refl) bs) (
+    first_of_two bs _ _ (value_end_steps bs) (no_step bs)))
 
 tag_steps : (bs : List ℕ) → StepsIf bs (tag_token bs)
 unfolding tag_token
@@ -298,12 +316,9 @@ tag_steps bs =
     first_of_two bs _ _ (found_steps _ _ after_parameters parameters_moves bs) (
     first_of_two bs _ _ (found_steps _ _ after_attribute attribute_moves bs) (
     first_of_two bs _ _ (found_steps _ _ after_argument argument_moves bs) (
-    first_of_two bs _ _ (found_steps _ _ (after (codes "...attributes")) (moves_after 46 (codes "..attributes") refl) bs) (
-    first_of_two bs _ _ (found_steps _ _ (after (codes "=")) (moves_after 61 [] refl) bs) (
-    first_of_two bs _ _ (found_steps _ _ (after (codes ">")) (moves_after 62 [] refl) bs) (
-    first_of_two bs _ _ (found_steps _ _ (after (codes "/>")) (moves_after 47 (codes ">") refl) bs) (
+    first_of_two bs _ _ (tag_mark_steps bs) (
     first_of_two bs _ _ (found_steps _ _ after_comment comment_moves bs) (
-    first_of_two bs _ _ (found_steps _ _ after_opening opening_moves bs) (no_step bs)))))))))
+    first_of_two bs _ _ (found_steps _ _ after_opening opening_moves bs) (no_step bs))))))
 
 equals_steps : (bs : List ℕ) → StepsIf bs (equals_token bs)
 unfolding equals_token
@@ -313,18 +328,19 @@ equals_steps bs =
     first_of_two bs _ _ (found_steps _ _ (after (39 ∷ [])) (moves_after 39 [] refl) bs) (
     first_of_two bs _ _ (found_steps _ _ after_opening opening_moves bs) (no_step bs))))
 
-value_end_steps : (bs : List ℕ) → StepsIf bs (value_end_token bs)
-unfolding value_end_token
-value_end_steps bs =
-    first_of_two bs _ _ (found_steps _ _ (after (codes ">")) (moves_after 62 [] refl) bs) (
-    first_of_two bs _ _ (found_steps _ _ (after (codes "/>")) (moves_after 47 (codes ">") refl) bs) (no_step bs))
-
 value_steps : (q : Quote) (bs : List ℕ) → StepsIf bs (value_token q bs)
 unfolding value_token
 value_steps q bs =
     first_of_two bs _ _ (found_steps _ _ (after (quote_byte q ∷ [])) (moves_after (quote_byte q) [] (low_text (quote_byte q) (quote_low q))) bs) (
     first_of_two bs _ _ (found_steps _ _ (after_run (ends_quoted (quote_byte q))) (moves_run (ends_quoted (quote_byte q)) (quoted_end_low (quote_byte q) (low_byte (quote_byte q) (quote_low q)))) bs) (
     first_of_two bs _ _ (found_steps _ _ after_opening opening_moves bs) (no_step bs)))
+
+expression_mark_steps : (mode : Mode) (bs : List ℕ) → StepsIf bs (expression_mark mode bs)
+unfolding expression_mark
+expression_mark_steps mode bs =
+    first_of_two bs _ _ (found_steps _ _ (after (codes "(")) (moves_after 40 [] refl) bs) (
+    first_of_two bs _ _ (found_steps _ _ (after (codes ")")) (moves_after 41 [] refl) bs) (
+    first_of_two bs _ _ (found_steps _ _ (after (codes "=")) (moves_after 61 [] refl) bs) (no_step bs)))
 
 expression_steps : (mode : Mode) (bs : List ℕ) → StepsIf bs (expression_token mode bs)
 unfolding expression_token
@@ -334,9 +350,7 @@ expression_steps mode bs =
     first_of_two bs _ _ (found_steps _ _ after_number number_moves bs) (
     first_of_two bs _ _ (found_steps _ _ (after_string 34) (string_moves 34 refl) bs) (
     first_of_two bs _ _ (found_steps _ _ (after_string 39) (string_moves 39 refl) bs) (
-    first_of_two bs _ _ (found_steps _ _ (after (codes "(")) (moves_after 40 [] refl) bs) (
-    first_of_two bs _ _ (found_steps _ _ (after (codes ")")) (moves_after 41 [] refl) bs) (
-    first_of_two bs _ _ (found_steps _ _ (after (codes "=")) (moves_after 61 [] refl) bs) (no_step bs))))))))
+    first_of_two bs _ _ (expression_mark_steps mode bs) (no_step bs))))))
 
 mustache_steps : (around : Around) (bs : List ℕ) → StepsIf bs (mustache_token around bs)
 unfolding mustache_token

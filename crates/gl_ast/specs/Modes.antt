@@ -47,6 +47,14 @@ abbrev pub spaced : Mode → Mode
 spaced m.ValueEnd = m.Tag
 spaced mode = mode
 
+-- the opening of a mustache in the content
+unfoldable pub content_opening : List ℕ → Option Found
+content_opening bs = first_found (
+    found k.OpenBlock (m.Mustache a.Content) (after_opening bs >>= after (codes "#"))
+    ∷ found k.OpenClosing (m.Mustache a.Content) (after_opening bs >>= after (codes "/"))
+    ∷ found k.OpenMustache (m.Mustache a.Content) (after_opening bs)
+    ∷ [])
+
 unfoldable pub content_token : List ℕ → Option Found
 content_token bs = first_found (
     found k.Text m.Content (after_run ends_text bs)
@@ -54,9 +62,22 @@ content_token bs = first_found (
     ∷ found k.EndTag m.Content (after_end_tag bs)
     ∷ found k.TagOpening m.Tag (after_tag_opening bs)
     ∷ found k.MustacheComment m.Content (after_comment bs)
-    ∷ found k.OpenBlock (m.Mustache a.Content) (after_opening bs >>= after (codes "#"))
-    ∷ found k.OpenClosing (m.Mustache a.Content) (after_opening bs >>= after (codes "/"))
-    ∷ found k.OpenMustache (m.Mustache a.Content) (after_opening bs)
+    ∷ content_opening bs
+    ∷ [])
+
+-- directly after a value only the tag's end stands
+unfoldable pub value_end_token : List ℕ → Option Found
+value_end_token bs = first_found (
+    found k.TagEnd m.Content (after (codes ">") bs)
+    ∷ found k.SelfEnd m.Content (after (codes "/>") bs)
+    ∷ [])
+
+-- `...attributes`, `=` and what ends a tag
+unfoldable pub tag_mark : List ℕ → Option Found
+tag_mark bs = first_found (
+    found k.Spread m.Tag (after (codes "...attributes") bs)
+    ∷ found k.Equals m.Equals (after (codes "=") bs)
+    ∷ value_end_token bs
     ∷ [])
 
 unfoldable pub tag_token : List ℕ → Option Found
@@ -64,10 +85,7 @@ tag_token bs = first_found (
     found k.Parameters m.Tag (after_parameters bs)
     ∷ found k.Attribute m.Tag (after_attribute bs)
     ∷ found k.Argument m.Tag (after_argument bs)
-    ∷ found k.Spread m.Tag (after (codes "...attributes") bs)
-    ∷ found k.Equals m.Equals (after (codes "=") bs)
-    ∷ found k.TagEnd m.Content (after (codes ">") bs)
-    ∷ found k.SelfEnd m.Content (after (codes "/>") bs)
+    ∷ tag_mark bs
     ∷ found k.MustacheComment m.Tag (after_comment bs)
     ∷ found k.OpenMustache (m.Mustache a.Tag) (after_opening bs)
     ∷ [])
@@ -81,18 +99,19 @@ equals_token bs = first_found (
     ∷ found k.OpenMustache (m.Mustache a.ValueEnd) (after_opening bs)
     ∷ [])
 
--- directly after a value only the tag's end stands
-unfoldable pub value_end_token : List ℕ → Option Found
-value_end_token bs = first_found (
-    found k.TagEnd m.Content (after (codes ">") bs)
-    ∷ found k.SelfEnd m.Content (after (codes "/>") bs)
-    ∷ [])
-
 unfoldable pub value_token : Quote → List ℕ → Option Found
 value_token q bs = first_found (
     found k.CloseQuote m.ValueEnd (after (quote_byte q ∷ []) bs)
     ∷ found k.Text (m.Value q) (after_run (ends_quoted (quote_byte q)) bs)
     ∷ found k.OpenMustache (m.Mustache (a.Value q)) (after_opening bs)
+    ∷ [])
+
+-- `(`, `)` and `=`
+unfoldable pub expression_mark : Mode → List ℕ → Option Found
+expression_mark mode bs = first_found (
+    found k.OpenParen mode (after (codes "(") bs)
+    ∷ found k.CloseParen mode (after (codes ")") bs)
+    ∷ found k.Equals mode (after (codes "=") bs)
     ∷ [])
 
 -- a token of an expression, in this mode
@@ -103,9 +122,7 @@ expression_token mode bs = first_found (
     ∷ found k.Number mode (after_number bs)
     ∷ found k.StringLit mode (after_string 34 bs)
     ∷ found k.StringLit mode (after_string 39 bs)
-    ∷ found k.OpenParen mode (after (codes "(") bs)
-    ∷ found k.CloseParen mode (after (codes ")") bs)
-    ∷ found k.Equals mode (after (codes "=") bs)
+    ∷ expression_mark mode bs
     ∷ [])
 
 unfoldable pub mustache_token : Around → List ℕ → Option Found

@@ -4,6 +4,8 @@
 mod class;
 mod fault;
 mod found;
+mod marks;
+mod modes;
 mod pieces;
 mod scan;
 mod sign;

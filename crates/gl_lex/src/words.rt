@@ -256,3 +256,17 @@ pub fn after_string(quote: u8, bytes: &[u8]) -> Option<&[u8]>
     let inner = after(&[quote], bytes)?;
     after_closing(quote, inner)
 }
+
+/// After an attribute's name.
+pub fn after_attribute(bytes: &[u8]) -> Option<&[u8]>
+    ensures { option_map (λ r. r.now) result ≡ w.after_attribute bytes.now }
+{
+    after_word(Class::AttributeStart, Class::Attribute, bytes)
+}
+
+/// After a value without quotes.
+pub fn after_unquoted(bytes: &[u8]) -> Option<&[u8]>
+    ensures { option_map (λ r. r.now) result ≡ w.after_unquoted bytes.now }
+{
+    after_word(Class::Unquoted, Class::Unquoted, bytes)
+}
