@@ -16,7 +16,7 @@ use Rattle.gl_ast.specs.declared.mode.Mode.TheVariants as m
 use Rattle.gl_ast.specs.declared.token.TokenKind.{TokenKind}
 use Rattle.gl_ast.proofs.Forward.{Steps, Scans, Moves, leaves_any, leaves_all, leaves_pieces, scans_total, scans_then, scans_or, moves_then, moves_or, moves_scan, scans_after, moves_after, moves_word, moves_until, moves_run, scans_first, scans_closing, IsLowSign, bind_some, leaves_step, same_byte, low_byte, low_text}
 
-white_low : (b : ℕ) → is_white b ≡ true → b < 128
+pub white_low : (b : ℕ) → is_white b ≡ true → b < 128
 white_low b e = grind (arith, nat_tests)
 
 name_low : (b : ℕ) → starts_name b ≡ true → b < 128

@@ -1,5 +1,5 @@
 -- Tests of the front of a list of bytes.
-use Rattle.std.proofs.Common.{◌≡◌, ℕ, zero, suc, List, [], ◌∷◌, Bool, true, false, Option, Some, None, cond, ◌&&◌, length, take, drop, refl, sym, ap, ◌∙◌, arith, eqb, option_map}
+use Rattle.std.proofs.Common.{◌≡◌, ℕ, List, [], ◌∷◌, true, false, Option, Some, None, cond, ◌&&◌, length, take, drop, refl, sym, ap, ◌∙◌, arith, eqb, option_map}
 use Rattle.std.specs.Prelude.{◌+◌, is_some}
 use Rattle.std.specs.Borrow.{Bor}
 use Rattle.std.specs.Option.{MatchOption}
@@ -18,14 +18,14 @@ after_is (c ∷ cs) [] = refl
 after_is (c ∷ cs) (b ∷ bs) =
     rw (eqb_turn c b)
     (elim (eqb b c) as (λ t. cond t (after cs bs) None ≡ cond (t && pointwise eqb (take (length cs) bs) cs) (Some (drop (length cs) bs)) None)
-      [ true ↦ after_is cs bs | false ↦ refl ])
+    [ true ↦ after_is cs bs | false ↦ refl ])
 
 pub begins_is : (front bs : List ℕ) → starts_with eqb bs front ≡ begins front bs
 begins_is [] bs = refl
 begins_is (c ∷ cs) [] = refl
 begins_is (c ∷ cs) (b ∷ bs) =
     elim (eqb c b) as (λ t. (t && starts_with eqb bs cs) ≡ is_some (cond t (after cs bs) None))
-      [ true ↦ begins_is cs bs | false ↦ refl ]
+    [ true ↦ begins_is cs bs | false ↦ refl ]
 
 pub stripped : (r : Option (Bor (List ℕ))) (front bs : List ℕ)
     → MatchOption r (pointwise eqb (take (length front) bs) front ≡ false) (λ x. (pointwise eqb (take (length front) bs) front ≡ true) × (x.now ≡ drop (length front) bs) × (length x.now + length front ≡ length bs))

@@ -1,5 +1,5 @@
 -- Pieces, and numbers that are too large.
-use Rattle.std.proofs.Common.{◌≡◌, ◌<◌, ◌≤◌, ◌+◌, ◌-◌, ◌*◌, ℕ, List, [], ◌∷◌, false, Option, Some, length, refl, ap, arith, leb, length-append}
+use Rattle.std.proofs.Common.{◌≡◌, ◌<◌, ◌≤◌, ◌+◌, ◌-◌, ◌*◌, ℕ, List, [], ◌∷◌, false, length, ap, arith, leb, length-append}
 use Rattle.std.proofs.lemmas.Bool.Decides.{nat_tests}
 use Rattle.gl_ast.specs.Words.{number_from}
 use Rattle.gl_ast.proofs.Forward.{Moves, Steps}

@@ -1,5 +1,5 @@
 -- Where no long comment ends.
-use Rattle.std.specs.Prelude.{ℕ, List, ◌++◌, ◌≡◌, ◌≤◌, length, Option, None}
+use Rattle.std.specs.Prelude.{ℕ, List, ◌++◌, ◌≡◌, ◌≤◌, length, None}
 use Rattle.gl_ast.specs.Scans.{from_first}
 use Rattle.gl_ast.specs.Words.{shows_long_end}
 

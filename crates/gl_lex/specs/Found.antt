@@ -1,5 +1,4 @@
 -- What the code found, in the terms of the definitions.
-use Rattle.std.specs.Prelude.{ℕ, List, Option, option_map}
 use Rattle.gl_ast.specs.Modes as d
 use Rattle.gl_lex.specs.declared.found.Found.{Found}
 

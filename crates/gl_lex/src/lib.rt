@@ -4,9 +4,15 @@
 mod class;
 mod fault;
 mod found;
+mod lexer;
 mod marks;
 mod modes;
 mod pieces;
 mod scan;
 mod sign;
+#[cfg(test)]
+mod tests;
 mod words;
+
+pub use fault::LexFault;
+pub use lexer::{expression_tokens, tokens};
