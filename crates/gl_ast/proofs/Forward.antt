@@ -108,7 +108,7 @@ pub low_text : (b : ℕ) → ltb b 128 ≡ true → is_ascii_text (b ∷ []) ≡
 low_text b e = rw e refl
 
 -- a byte of ASCII, and then what leaves the rest
-ascii_then : (b : ℕ) (bs rest : List ℕ) → b < 128 → Leaves bs rest → Leaves (b ∷ bs) rest
+pub ascii_then : (b : ℕ) (bs rest : List ℕ) → b < 128 → Leaves bs rest → Leaves (b ∷ bs) rest
 ascii_then b bs rest h p = (b ∷ p.0, ap (λ l. b ∷ l) p.1, λ u. p.2 (tail_text b bs h u))
 
 ascii_step : (b : ℕ) (bs rest : List ℕ) → b < 128 → Leaves bs rest → Steps (b ∷ bs) rest
