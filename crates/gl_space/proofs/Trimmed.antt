@@ -1,5 +1,5 @@
 -- What is kept of a text is what stands between the two runs that are removed, and it may be cut out there.
-use Rattle.std.proofs.Common.{◌≡◌, ◌≤◌, ◌<◌, ◌+◌, ◌-◌, ℕ, zero, suc, List, [], ◌∷◌, ◌++◌, Bool, true, false, ◌&&◌, ◌||◌, cond, ltb, length, take, drop, refl, sym, ap, subst, ◌∙◌, arith, add-one, zero-add, lit<, eqb, is_some, Option, Some, None, get_or, length-append, length-drop}
+use Rattle.std.proofs.Common.{◌≡◌, ◌≤◌, ◌<◌, ◌+◌, ◌-◌, ℕ, zero, suc, List, [], ◌∷◌, ◌++◌, Bool, true, false, ◌&&◌, cond, ltb, length, take, drop, refl, sym, ap, subst, ◌∙◌, arith, add-one, eqb, is_some, Option, Some, None, get_or, length-append, length-drop}
 use Rattle.std.specs.Prelude.{codes}
 use Rattle.std.specs.List.{list_all, prefix_len}
 use Rattle.std.specs.Str.{IsUtf8, IsCharBoundary}
@@ -9,7 +9,7 @@ use Rattle.std.proofs.lemmas.Str.{IsCharBoundary-before_ascii, IsCharBoundary-fr
 use Rattle.std.proofs.lemmas.Bool.Decides.{nat_tests}
 use Rattle.gl_ast.specs.Marks.{is_white, is_blank}
 use Rattle.gl_ast.specs.Scans.{begins, after}
-use Rattle.gl_ast.specs.Settling.{strips, front_width, break_width, in_back, removed, kept_from, kept}
+use Rattle.gl_ast.specs.Settling.{strips, front_width, break_width, kept_from, kept}
 use Rattle.gl_ast.specs.declared.edge.Edge.{Edge}
 use Rattle.gl_ast.specs.declared.edge.Edge.TheVariants.{Keep, Line, White}
 use Rattle.gl_ast.proofs.Forward.{Leaves, leaves_nothing, leaves_more, ascii_then, both, if_some, same_byte}
@@ -125,9 +125,9 @@ feed_within b (c ∷ bs) (Some x) e = omega arith
 break_within : (text : List ℕ) → break_width text ≤ length text
 break_within [] = omega arith
 break_within (b ∷ bs) =
-    elim (eqb b 10) as (λ t. cond t 1 (cond (eqb b 13 && begins (codes "\n") bs) 2 0) ≤ length (b ∷ bs))
-    [ true ↦ omega arith
-    | false ↦ elim (eqb b 13) as (λ t. cond (t && begins (codes "\n") bs) 2 0 ≤ length (b ∷ bs)) [ true ↦ feed_within b bs (after (codes "\n") bs) refl | false ↦ omega arith ]
+    elim (eqb b 10) as (λ t. cond t 1 (cond (eqb b 13 && begins (codes "\n") bs) 2 0) ≤ length (b ∷ bs)) [
+      | true ↦ omega arith
+      | false ↦ elim (eqb b 13) as (λ t. cond (t && begins (codes "\n") bs) 2 0 ≤ length (b ∷ bs)) [ true ↦ feed_within b bs (after (codes "\n") bs) refl | false ↦ omega arith ]
     ]
 
 pub front_leaves : (edge : Edge) (text : List ℕ) → Leaves text (drop (front_width edge text) text)
@@ -136,7 +136,7 @@ front_leaves White text = run_leaves is_white white_low text
 front_leaves Line text =
     let blanks = drop (prefix_len is_blank text) text in
     subst (λ (l : List ℕ). Leaves text l) (drop-drop (break_width blanks) (prefix_len is_blank text) text)
-      (leaves_more text blanks (drop (break_width blanks) blanks) (run_leaves is_blank (strips_low Line) text) (break_leaves blanks))
+    (leaves_more text blanks (drop (break_width blanks) blanks) (run_leaves is_blank (strips_low Line) text) (break_leaves blanks))
 
 pub front_within : (edge : Edge) (text : List ℕ) → front_width edge text ≤ length text
 front_within Keep text = omega arith

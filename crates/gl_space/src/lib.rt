@@ -3,7 +3,7 @@
 
 mod line;
 mod mark;
-// mod settle;
+mod pass;
 mod trim;
 
-// pub use settle::settle;
+pub use pass::settle;

@@ -1,5 +1,4 @@
-use Rattle.std.proofs.Common.{◌≡◌, ◌<◌, length, sym, ◌∙◌, arith, rules}
-use Rattle.gl_ast.specs.Settling.{opens_line}
+use Rattle.std.proofs.Common.{sym, ◌∙◌, arith}
 use Rattle.gl_space.proofs.Lines.{line_split, line_empty}
 use Rattle.gl_space.proofs.line.opens_line.Goals as goal
 

@@ -1,6 +1,5 @@
-use Rattle.std.proofs.Common.{◌≡◌, ◌<◌, ◌≤◌, length, take, drop, sym, ap, subst, ◌∙◌, arith, rules}
-use Rattle.std.specs.Str.{IsUtf8, IsCharBoundary}
-use Rattle.gl_ast.specs.Settling.{front_width, strips, kept}
+use Rattle.std.proofs.Common.{◌≡◌, length, take, drop, sym, ap, ◌∙◌, rules}
+use Rattle.gl_ast.specs.Settling.{front_width, strips}
 use Rattle.gl_space.specs.Trim.{trim}
 use Rattle.gl_space.proofs.Trimmed.{kept_is, front_border, trim_border, trim_take, strips_low}
 use Rattle.gl_space.proofs.trim.kept.Goals as goal

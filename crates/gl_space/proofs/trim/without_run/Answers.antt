@@ -1,4 +1,4 @@
-use Rattle.std.proofs.Common.{◌≡◌, ◌<◌, length, sym, ◌∙◌, arith, rules}
+use Rattle.std.proofs.Common.{sym, ◌∙◌, arith}
 use Rattle.gl_space.proofs.Lines.{trim_split}
 use Rattle.gl_space.proofs.trim.without_run.Goals as goal
 
