@@ -4,6 +4,8 @@
 mod line;
 mod mark;
 mod pass;
+#[cfg(test)]
+mod tests;
 mod trim;
 
 pub use pass::settle;
