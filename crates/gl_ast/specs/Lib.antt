@@ -1,2 +1,9 @@
+pub mod Marks
+pub mod Modes
+pub mod References
+pub mod Scans
+pub mod Settling
 pub mod Template
+pub mod TokenReading
 pub mod View
+pub mod Words

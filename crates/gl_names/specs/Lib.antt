@@ -1,2 +1,4 @@
 pub mod Mnemonics
+pub mod References
 pub mod Table
+pub mod Void

@@ -2,6 +2,8 @@
 // with a model, and so what is to be known of one is known of the function that gives it.
 ghost use Rattle.std.specs.Prelude.{◌≡◌};
 ghost use Rattle.gl_names.specs.Mnemonics.{mnemonic_rows};
+ghost use Rattle.gl_names.specs.References.{reference_rows};
+ghost use Rattle.gl_names.specs.Void.{void_rows};
 
 use crate::table::{NameTable, Row};
 
@@ -70,4 +72,144 @@ pub fn mnemonics() -> NameTable<45>
     ensures { result ≡ mnemonic_rows }
 {
     MNEMONICS
+}
+
+/// The names of the character references, each with its code point: five of ASCII, and the code points from 160
+/// to 255 in order.
+pub const REFERENCES: NameTable<101> = table![
+    ("amp", 38),
+    ("lt", 60),
+    ("gt", 62),
+    ("quot", 34),
+    ("apos", 39),
+    ("nbsp", 160),
+    ("iexcl", 161),
+    ("cent", 162),
+    ("pound", 163),
+    ("curren", 164),
+    ("yen", 165),
+    ("brvbar", 166),
+    ("sect", 167),
+    ("uml", 168),
+    ("copy", 169),
+    ("ordf", 170),
+    ("laquo", 171),
+    ("not", 172),
+    ("shy", 173),
+    ("reg", 174),
+    ("macr", 175),
+    ("deg", 176),
+    ("plusmn", 177),
+    ("sup2", 178),
+    ("sup3", 179),
+    ("acute", 180),
+    ("micro", 181),
+    ("para", 182),
+    ("middot", 183),
+    ("cedil", 184),
+    ("sup1", 185),
+    ("ordm", 186),
+    ("raquo", 187),
+    ("frac14", 188),
+    ("frac12", 189),
+    ("frac34", 190),
+    ("iquest", 191),
+    ("Agrave", 192),
+    ("Aacute", 193),
+    ("Acirc", 194),
+    ("Atilde", 195),
+    ("Auml", 196),
+    ("Aring", 197),
+    ("AElig", 198),
+    ("Ccedil", 199),
+    ("Egrave", 200),
+    ("Eacute", 201),
+    ("Ecirc", 202),
+    ("Euml", 203),
+    ("Igrave", 204),
+    ("Iacute", 205),
+    ("Icirc", 206),
+    ("Iuml", 207),
+    ("ETH", 208),
+    ("Ntilde", 209),
+    ("Ograve", 210),
+    ("Oacute", 211),
+    ("Ocirc", 212),
+    ("Otilde", 213),
+    ("Ouml", 214),
+    ("times", 215),
+    ("Oslash", 216),
+    ("Ugrave", 217),
+    ("Uacute", 218),
+    ("Ucirc", 219),
+    ("Uuml", 220),
+    ("Yacute", 221),
+    ("THORN", 222),
+    ("szlig", 223),
+    ("agrave", 224),
+    ("aacute", 225),
+    ("acirc", 226),
+    ("atilde", 227),
+    ("auml", 228),
+    ("aring", 229),
+    ("aelig", 230),
+    ("ccedil", 231),
+    ("egrave", 232),
+    ("eacute", 233),
+    ("ecirc", 234),
+    ("euml", 235),
+    ("igrave", 236),
+    ("iacute", 237),
+    ("icirc", 238),
+    ("iuml", 239),
+    ("eth", 240),
+    ("ntilde", 241),
+    ("ograve", 242),
+    ("oacute", 243),
+    ("ocirc", 244),
+    ("otilde", 245),
+    ("ouml", 246),
+    ("divide", 247),
+    ("oslash", 248),
+    ("ugrave", 249),
+    ("uacute", 250),
+    ("ucirc", 251),
+    ("uuml", 252),
+    ("yacute", 253),
+    ("thorn", 254),
+    ("yuml", 255),
+];
+
+/// The table `REFERENCES`.
+#[tactic(auto, unfolding(crate::specs::References::reference_rows))]
+pub fn references() -> NameTable<101>
+    ensures { result ≡ reference_rows }
+{
+    REFERENCES
+}
+
+/// The names of the elements that have no end tag, each with its place in the order of names.
+pub const VOID: NameTable<14> = table![
+    ("area", 0),
+    ("base", 1),
+    ("br", 2),
+    ("col", 3),
+    ("embed", 4),
+    ("hr", 5),
+    ("img", 6),
+    ("input", 7),
+    ("link", 8),
+    ("meta", 9),
+    ("param", 10),
+    ("source", 11),
+    ("track", 12),
+    ("wbr", 13),
+];
+
+/// The table `VOID`.
+#[tactic(auto, unfolding(crate::specs::Void::void_rows))]
+pub fn void() -> NameTable<14>
+    ensures { result ≡ void_rows }
+{
+    VOID
 }

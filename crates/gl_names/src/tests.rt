@@ -97,6 +97,58 @@ fn opcodes(rt: HostRuntime) {
     assert_eq!(rt; table.name(46), None);
 }
 
+// Character references of each part of the table, with their code points.
+const POINTS: [(&str, u16); 12] = [
+    ("amp", 38),
+    ("lt", 60),
+    ("gt", 62),
+    ("quot", 34),
+    ("apos", 39),
+    ("nbsp", 160),
+    ("iquest", 191),
+    ("Agrave", 192),
+    ("times", 215),
+    ("szlig", 223),
+    ("eacute", 233),
+    ("yuml", 255),
+];
+
+// Texts that name no character.
+const NO_POINTS: [&str; 6] = ["", "AMP", "am", "amp;", "eacut", "zwj"];
+
+// The elements that have no end tag.
+const VOID_NAMES: [&str; 14] = [
+    "area", "base", "br", "col", "embed", "hr", "img", "input", "link", "meta", "param", "source",
+    "track", "wbr",
+];
+
+// Names of elements that have one, and other texts.
+const NO_VOID: [&str; 5] = ["p", "b", "BR", "brs", ""];
+
+#[test]
+fn points(rt: HostRuntime) {
+    let table = references();
+    for (name, point) in POINTS.iter() {
+        assert_eq!(rt; table.find(*name), Some(*point));
+        assert_eq!(rt; REFERENCES.find(*name), Some(*point));
+    }
+    for name in NO_POINTS.iter() {
+        assert_eq!(rt; table.find(*name), None);
+    }
+}
+
+#[test]
+fn elements(rt: HostRuntime) {
+    let table = void();
+    for (place, name) in (0u16..).zip(VOID_NAMES.iter()) {
+        assert_eq!(rt; table.find(*name), Some(place));
+        assert_eq!(rt; VOID.find(*name), Some(place));
+    }
+    for name in NO_VOID.iter() {
+        assert_eq!(rt; table.find(*name), None);
+    }
+}
+
 #[test]
 fn rows(rt: HostRuntime) {
     let table = NameTable::new("ababc", &ROWS);

@@ -1,0 +1,4 @@
+pub mod Cleared
+pub mod Fronts
+pub mod Steps
+pub mod Turns

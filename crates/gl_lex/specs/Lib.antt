@@ -1,0 +1,4 @@
+pub mod Class
+pub mod Clear
+pub mod Fault
+pub mod Found

@@ -1,0 +1,18 @@
+//! The tokens of a template.
+#![tactic(auto)]
+
+mod class;
+mod fault;
+mod found;
+mod lexer;
+mod marks;
+mod modes;
+mod pieces;
+mod scan;
+mod sign;
+#[cfg(test)]
+mod tests;
+mod words;
+
+pub use fault::LexFault;
+pub use lexer::{expression_tokens, tokens};

@@ -1,0 +1,11 @@
+//! White-space control and lone tags: what of the text of a template they remove.
+#![tactic(auto)]
+
+mod line;
+mod mark;
+mod pass;
+#[cfg(test)]
+mod tests;
+mod trim;
+
+pub use pass::settle;
