@@ -1,7 +1,8 @@
 -- Names are ASCII.
-use Rattle.std.proofs.Common.{◌≡◌, ◌<◌, ℕ, List, [], ◌∷◌, Bool, true, false, ◌&&◌, refl, arith, zero, suc}
+use Rattle.std.proofs.Common.{◌≡◌, ◌<◌, ℕ, List, [], ◌∷◌, Bool, true, arith, zero, suc}
 use Rattle.std.specs.List.{list_all}
 use Rattle.std.specs.Str.{is_utf8, chars, IsAscii}
+use Rattle.std.proofs.lemmas.Bool.{and_parts}
 use Rattle.std.proofs.lemmas.Bool.Decides.{nat_tests}
 use Rattle.std.proofs.lemmas.Str.{is_utf8-from_IsUtf8, IsUtf8-from_ascii, chars-IsAscii}
 use Rattle.std.proofs.lemmas.Str.Ascii.{IsAscii-nil}
@@ -20,25 +21,17 @@ ascii_cons : (c : ℕ) (cs : List ℕ) → c < 128 → IsAscii cs → IsAscii (c
 ascii_cons c cs h k zero = h
 ascii_cons c cs h k (suc i) = k i
 
-and_left : (b d : Bool) → (b && d) ≡ true → b ≡ true
-and_left true d e = refl
-and_left false d e = e
-
-and_right : (b d : Bool) → (b && d) ≡ true → d ≡ true
-and_right true d e = e
-and_right false d e = absurd cc
-
 all_ascii : (p : ℕ → Bool) → Small p → (cs : List ℕ) → list_all p cs ≡ true → IsAscii cs
 all_ascii p small [] e = IsAscii-nil
-all_ascii p small (c ∷ cs) e = ascii_cons c cs (small c (and_left (p c) (list_all p cs) e)) (all_ascii p small cs (and_right (p c) (list_all p cs) e))
+all_ascii p small (c ∷ cs) e = ascii_cons c cs (small c (and_parts (p c) (list_all p cs) e).0) (all_ascii p small cs (and_parts (p c) (list_all p cs) e).1)
 
 pub name_ascii : (s : List ℕ) → is_name s ≡ true → IsAscii s
 unfolding is_name
-name_ascii s e = all_ascii in_name in_name_small s (and_right _ (list_all in_name s) e)
+name_ascii s e = all_ascii in_name in_name_small s (and_parts _ (list_all in_name s) e).1
 
 pub tag_ascii : (s : List ℕ) → is_tag s ≡ true → IsAscii s
 unfolding is_tag
-tag_ascii s e = all_ascii in_tag in_tag_small s (and_right _ (list_all in_tag s) e)
+tag_ascii s e = all_ascii in_tag in_tag_small s (and_parts _ (list_all in_tag s) e).1
 
 pub name_utf8 : (s : List ℕ) → is_name s ≡ true → is_utf8 s ≡ true
 name_utf8 s e = is_utf8-from_IsUtf8 s (IsUtf8-from_ascii s (name_ascii s e))
