@@ -1,2 +1,3 @@
+pub mod Helpers
 pub mod Mnemonics
 pub mod Table

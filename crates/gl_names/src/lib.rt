@@ -6,5 +6,5 @@ mod table;
 #[cfg(test)]
 mod tests;
 
-pub use constants::{MNEMONICS, mnemonics};
+pub use constants::{HELPERS, MNEMONICS, helpers, mnemonics};
 pub use table::{NameTable, Row};
