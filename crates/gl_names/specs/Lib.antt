@@ -1,3 +1,4 @@
+pub mod Helpers
 pub mod Mnemonics
 pub mod References
 pub mod Table

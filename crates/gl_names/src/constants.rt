@@ -1,6 +1,7 @@
 // The tables, and functions that say what their rows are: a contract can't name a constant of a type
 // with a model, and so what is to be known of one is known of the function that gives it.
 ghost use Rattle.std.specs.Prelude.{◌≡◌};
+ghost use Rattle.gl_names.specs.Helpers.{helper_rows};
 ghost use Rattle.gl_names.specs.Mnemonics.{mnemonic_rows};
 ghost use Rattle.gl_names.specs.References.{reference_rows};
 ghost use Rattle.gl_names.specs.Void.{void_rows};
@@ -212,4 +213,48 @@ pub fn void() -> NameTable<14>
     ensures { result ≡ void_rows }
 {
     VOID
+
+/// The names of the helpers, each with its number.
+pub const HELPERS: NameTable<33> = table![
+    ("if", 0),
+    ("unless", 1),
+    ("concat", 2),
+    ("array", 3),
+    ("hash", 4),
+    ("get", 5),
+    ("fn", 6),
+    ("add", 7),
+    ("sub", 8),
+    ("mul", 9),
+    ("min", 10),
+    ("max", 11),
+    ("eq", 12),
+    ("ne", 13),
+    ("not", 14),
+    ("and", 15),
+    ("or", 16),
+    ("lt", 17),
+    ("lte", 18),
+    ("gt", 19),
+    ("gte", 20),
+    ("length", 21),
+    ("append", 22),
+    ("removeAt", 23),
+    ("put", 24),
+    ("slice", 25),
+    ("reverse", 26),
+    ("includes", 27),
+    ("where", 28),
+    ("removeWhere", 29),
+    ("updateWhere", 30),
+    ("pluck", 31),
+    ("join", 32),
+];
+
+/// The table `HELPERS`.
+#[tactic(auto, unfolding(crate::specs::Helpers::helper_rows))]
+pub fn helpers() -> NameTable<33>
+    ensures { result ≡ helper_rows }
+{
+    HELPERS
 }

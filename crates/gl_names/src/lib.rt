@@ -6,5 +6,5 @@ mod table;
 #[cfg(test)]
 mod tests;
 
-pub use constants::{MNEMONICS, REFERENCES, VOID, mnemonics, references, void};
+pub use constants::{HELPERS, MNEMONICS, REFERENCES, VOID, helpers, mnemonics, references, void};
 pub use table::{NameTable, Row};

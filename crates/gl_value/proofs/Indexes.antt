@@ -1,8 +1,8 @@
 -- Texts that write an index in decimal.
-use Rattle.std.proofs.Common.{◌≡◌, ◌≢◌, ◌<◌, ◌≤◌, ◌^◌, ℕ, zero, suc, List, Bool, true, false, length, get_or, refl, sym, ap, ◌∙◌, arith, Option, Some, None, MatchOption, Result, Ok, Err, decimal}
+use Rattle.std.proofs.Common.{◌≡◌, ◌<◌, ◌≤◌, ◌^◌, ℕ, zero, suc, List, false, refl, sym, ap, ◌∙◌, arith, Option, Some, None, MatchOption, Result, Ok, Err, decimal}
 use Rattle.std.specs.Prelude.{encode_utf8_all}
 use Rattle.std.specs.Str.{bytes_eq, chars, IsUtf8}
-use Rattle.std.specs.Str.Parse.{ParsesUnsigned, IsNumeral, AllDigits, digits_value, without_leading_plus}
+use Rattle.std.specs.Str.Parse.{ParsesUnsigned, AllDigits, digits_value}
 use Rattle.std.proofs.lemmas.Bool.{false_from_ne_true}
 use Rattle.std.proofs.lemmas.Fmt.{parse-decimal, decimal_nonempty, first_decimal, decimal_digit, decimal_injective, decimal-digits_value, IsAscii-decimal, IsAscii-from_digits}
 use Rattle.std.proofs.lemmas.Slice.Eq.{bytes_eq-Decides}

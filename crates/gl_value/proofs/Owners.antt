@@ -1,13 +1,12 @@
 -- The rules on values with other owners.
-use Rattle.std.proofs.Common.{◌≡◌, ℕ, zero, suc, max, ℤ, pos, negsuc, List, [], ◌∷◌, ◌++◌, Bool, true, false, cond, refl, sym, ap, ap₂, ◌∙◌, inl, inr, length, min, decimal}
+use Rattle.std.proofs.Common.{◌≡◌, ℕ, zero, suc, max, pos, negsuc, List, [], ◌∷◌, ◌++◌, Bool, true, false, cond, refl, ap, ap₂, ◌∙◌, inl, inr, length, min, decimal}
 use Rattle.std.specs.Prelude.{◌&&◌, codes}
-use Rattle.std.specs.Bool.{Decides}
 use Rattle.std.specs.Str.{bytes_eq}
 use Rattle.std.proofs.lemmas.Bool.Decides.{same_from_decides}
 use Rattle.gl_base.specs.Texts.{Text}
 use Rattle.gl_value.specs.Value.{Value, undefined, null, boolean, integer, text, list, pairs, action, Values, no_values, value, Members, no_members, member, depth, values_depth, members_depth, has_none, truthy, same, same_values, same_members, comma_if, text_of, texts_of, plain, plain_values, plain_members, attribute_text, values_count, count_value, member_at, item_at, property, properties, split, key_of}
-use Rattle.gl_value.specs.Owners.{with_owners, values_with, members_with, Owns, OwnsIn, OwnsAmong, IsOneToOne}
-use Rattle.gl_value.specs.Laws.{DecidesEqual, RulesLeaveOwners, PlainLeavesOwners, PropertyKeepsOwners, SameLeavesOwners}
+use Rattle.gl_value.specs.Owners.{with_owners, values_with, members_with, Owns, OwnsIn, OwnsAmong}
+use Rattle.gl_value.specs.Laws.{RulesLeaveOwners, PlainLeavesOwners, PropertyKeepsOwners, SameLeavesOwners}
 
 module _ {O P : Type 0} (f : O → P) where
   none-with : (vs : Values O) → has_none (values_with f vs) ≡ has_none vs

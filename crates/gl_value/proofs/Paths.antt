@@ -1,13 +1,10 @@
 -- The names between the dots of a text.
-use Rattle.std.proofs.Common.{◌≡◌, ◌<◌, ◌+◌, ℕ, List, [], ◌∷◌, ◌++◌, length, get_or, take, drop, refl, sym, ap, ◌∙◌, arith, cond, true, false, Option, Some, None, MatchOption, append_assoc}
-use Rattle.std.specs.Prelude.{◌==◌, encode_utf8_all}
+use Rattle.std.proofs.Common.{◌≡◌, ℕ, List, [], ◌∷◌, ◌++◌, refl, arith, true}
+use Rattle.std.specs.Prelude.{◌==◌}
 use Rattle.std.specs.Str.{chars, IsUtf8, NonePass, NoCharPasses}
-use Rattle.std.specs.Str.Pattern.{FindsChar}
-use Rattle.std.proofs.lemmas.Str.{chars-append, chars_past_char, encodes-chars, encodes_same, encode_ascii, chars_from_encodes, IsUtf8-append, IsUtf8-from_ascii}
+use Rattle.std.proofs.lemmas.Str.{chars-append, chars_past_char, encode_ascii, chars_from_encodes, IsUtf8-append, IsUtf8-from_ascii}
 use Rattle.gl_base.proofs.Chars.{ascii}
-use Rattle.std.proofs.lemmas.Str.Pattern.{IsSplitOnceResult, split_parts}
-use Rattle.gl_value.specs.Value.{split, before_first}
-use denote.Ref.{Bor}
+use Rattle.gl_value.specs.Value.{split}
 
 -- a text without the character is one piece
 pub split-none : (c : ℕ) (cs : List ℕ) → NonePass (λ d. d == c) cs → split c cs ≡ cs ∷ []

@@ -1,5 +1,5 @@
 -- Plain forms of lists and of members, item by item.
-use Rattle.std.proofs.Common.{◌≡◌, ℕ, List, [], ◌∷◌, map, refl, sym, ap}
+use Rattle.std.proofs.Common.{◌≡◌, List, [], ◌∷◌, map, refl, ap}
 use Rattle.gl_base.specs.Texts.{Text}
 use Rattle.gl_value.specs.Value.{Value, value, member, values_of, pairs_of, plain, plain_values, plain_members}
 use Rattle.gl_value.specs.Plain.{plain_pair}

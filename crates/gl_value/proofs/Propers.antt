@@ -1,12 +1,10 @@
 -- What the rules give of a proper value is proper.
-use Rattle.std.proofs.Common.{◌≡◌, ◌≤◌, ◌<◌, ℕ, zero, suc, min, max, ℤ, pos, List, [], ◌∷◌, Bool, true, false, cond, refl, arith, length, codes, decimal}
-use Rattle.std.specs.Prelude.{◌≤ℤ◌}
+use Rattle.std.proofs.Common.{◌≤◌, ℕ, suc, min, List, [], ◌∷◌, Bool, true, false, cond, arith, length, codes, decimal}
 use Rattle.std.specs.Str.{bytes_eq}
 use Rattle.std.proofs.lemmas.Int.{ints}
 use Rattle.gl_base.specs.Texts.{Text}
 use Rattle.gl_value.specs.Value.{Value, undefined, null, boolean, integer, text, list, pairs, action, Values, no_values, value, Members, no_members, member, depth, values_depth, members_depth, plain, plain_values, plain_members, values_count, count_value, member_at, item_at, property, properties, split, key_of}
 use Rattle.gl_value.specs.Proper.{IsBefore, Keeps, KeepAll, KeepMembers, IsProper}
-use Rattle.gl_value.specs.Scalar.{least, greatest}
 
 module _ {O : Type 0} (P : Type 0) where
   before_plain : (k : Text) (ms : Members O) → IsBefore k ms → IsBefore k (plain_members {P = P} ms)

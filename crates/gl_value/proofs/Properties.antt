@@ -1,22 +1,16 @@
 -- What a look-up of a property finds.
-use Rattle.std.proofs.Common.{◌≡◌, ◌≢◌, ◌<◌, ◌≤◌, ◌+◌, ◌-◌, ◌^◌, ℕ, zero, suc, min, List, [], ◌∷◌, ◌++◌, Bool, true, false, cond, not, map, length, get_or, drop, refl, sym, ap, ◌∙◌, arith, Option, Some, None, Result, Ok, Err, option_map, decimal}
-use Rattle.std.specs.Prelude.{◌==◌, slice_get, encode_utf8_all}
+use Rattle.std.proofs.Common.{◌≡◌, ◌≤◌, ◌+◌, ℕ, zero, suc, min, List, [], ◌∷◌, Bool, true, false, cond, refl, ap, arith, Option, Some, option_map, decimal}
+use Rattle.std.specs.Prelude.{slice_get}
 use Rattle.std.specs.List.{find}
-use Rattle.std.specs.Result.{OkIff}
-use Rattle.std.specs.Str.{bytes_eq, chars, IsUtf8, IsAscii}
-use Rattle.std.specs.Str.Parse.{ParsesUnsigned, IsNumeral, AllDigits, digits_value, without_leading_plus}
+use Rattle.std.specs.Str.{bytes_eq}
 use Rattle.std.proofs.lemmas.Bool.{false_from_ne_true}
-use Rattle.std.proofs.lemmas.Bool.Decides.{nat_tests}
-use Rattle.std.proofs.lemmas.Fmt.{parse-decimal, decimal_nonempty, first_decimal, decimal_injective, decimal-digits_value, IsAscii-decimal, IsAscii-from_digits, decimal_is_IsNumeral}
+use Rattle.std.proofs.lemmas.Fmt.{decimal_injective}
 use Rattle.std.proofs.lemmas.Slice.Eq.{bytes_eq-Decides}
-use Rattle.std.proofs.lemmas.Str.{encodes-chars, chars-IsAscii, IsUtf8-from_ascii, chars-encodes}
-use Rattle.std.proofs.lemmas.Str.Parse.{numerals_by_value, tells_digits, IsNumeralModel, without_leading_plus_none}
 use Rattle.gl_base.specs.Texts.{Text}
 use Rattle.gl_base.specs.Names.{named}
-use Rattle.gl_value.specs.Value.{Value, Values, no_values, value, Members, no_members, member, undefined, values_of, pairs_of, member_at, item_at, split, before_first}
-use Rattle.gl_value.specs.View.{view, seen_pair, seen_pairs}
+use Rattle.gl_value.specs.Value.{Value, undefined, values_of, pairs_of, member_at, item_at}
+use Rattle.gl_value.specs.View.{view, seen_pairs}
 use Rattle.gl_value.specs.Found.{or_undefined}
-use Rattle.gl_value.specs.Index.{HasPlainStart}
 use Rattle.gl_value.specs.declared.value.Pair.{Pair}
 
 -- a member is the first of its key

@@ -1,5 +1,5 @@
 -- Two values are the same just where they are equal.
-use Rattle.std.proofs.Common.{◌≡◌, ℕ, Bool, true, false, true≢false, refl, sym, ap, ap₂, subst}
+use Rattle.std.proofs.Common.{◌≡◌, Bool, true, false, true≢false, refl, sym, ap, ap₂, subst}
 use Rattle.std.specs.Prelude.{◌&&◌}
 use Rattle.std.specs.Bool.{Decides}
 use Rattle.std.specs.Str.{bytes_eq}

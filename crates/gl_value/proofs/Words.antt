@@ -1,6 +1,6 @@
 -- Words of ASCII.
-use Rattle.std.proofs.Common.{◌≡◌, ℕ, List, true, rules}
-use Rattle.std.specs.Str.{bytes_eq, chars, IsUtf8, IsAscii}
+use Rattle.std.proofs.Common.{◌≡◌, ℕ, List, true}
+use Rattle.std.specs.Str.{bytes_eq, chars, IsUtf8}
 use Rattle.std.proofs.lemmas.Str.{IsUtf8-from_ascii}
 use Rattle.gl_base.specs.Texts.{is_ascii_text}
 use Rattle.gl_base.proofs.Chars.{ascii, chars_of_ascii, bytes_eq-chars}

@@ -1,5 +1,5 @@
 -- Each value is less deep than the list or the record that holds it.
-use Rattle.std.specs.Prelude.{◌≤◌, ◌+◌, suc, List, [], ◌∷◌}
+use Rattle.std.specs.Prelude.{◌≤◌, suc, List, [], ◌∷◌}
 use Rattle.std.proofs.Common.{arith}
 use Rattle.gl_value.specs.Value.{depth, values_of, values_depth, pairs_of, members_depth}
 use Rattle.gl_value.specs.View.{view, seen_items, seen_pairs}

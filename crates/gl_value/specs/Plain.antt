@@ -1,5 +1,4 @@
 -- Plain forms, pair by pair.
-use Rattle.std.specs.Prelude.{List}
 use Rattle.gl_base.specs.Texts.{Text}
 use Rattle.gl_value.specs.Value.{Value, plain}
 

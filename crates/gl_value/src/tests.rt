@@ -236,40 +236,85 @@ fn nested(alloc: Global, n: u32, inside: &str) -> Result<String, Fail> {
     Ok(text)
 }
 
+// Whether a JSON text's value has that truth, text and attribute, and is the same as its copies.
+fn has_rules(
+    alloc: Global,
+    json: &str,
+    truth: bool,
+    text: &str,
+    attribute: &Option<&str>,
+) -> Result<bool, Fail> {
+    let value = value_of(alloc, json)?;
+    let shown = value.text_of(alloc)?;
+    let found = value.attr_of(alloc)?;
+    let copies = value.copy()?.same(&value) && value.data_of()?.same(&value);
+    Ok(value.truthy() == truth && shown.is(text) && is_shown(&found, attribute) && copies)
+}
+
 #[test]
 fn rules(rt: HostRuntime) -> Result<(), Fail> {
-    let alloc = rt.alloc();
     for (json, truth, text, attribute) in &RULES {
-        let value = value_of(alloc, json)?;
-        assert_eq!(rt; value.truthy(), *truth, "truth of {json}");
-        assert_eq!(rt; value.text_of(alloc)?.as_str(), *text);
         assert!(rt;
-            is_shown(&value.attr_of(alloc)?, attribute),
-            "attribute of {json}"
-        );
-        assert!(rt;
-            value.copy()?.same(&value) && value.data_of()?.same(&value),
-            "copies of {json}"
+            has_rules(rt.alloc(), json, *truth, text, attribute)?,
+            "{json}"
         );
     }
+    Ok(())
+}
+
+#[test]
+fn pairs(rt: HostRuntime) -> Result<(), Fail> {
+    let alloc = rt.alloc();
     for (one, with, wanted) in &PAIRS {
         let one = value_of(alloc, one)?;
         assert_eq!(rt; one.same(&value_of(alloc, with)?), *wanted, "{with}");
     }
+    Ok(())
+}
+
+// Whether a JSON text's value has that property.
+fn has_property(
+    alloc: Global,
+    json: &str,
+    name: &str,
+    wanted: &Option<&str>,
+) -> Result<bool, Fail> {
+    let value = value_of(alloc, json)?;
+    let found = value.property(name)?;
+    let text = shown(alloc, &found)?;
+    Ok(is_shown(&text, wanted) && value.find(name).same(&found))
+}
+
+#[test]
+fn properties(rt: HostRuntime) -> Result<(), Fail> {
     for (json, name, wanted) in &PROPERTIES {
-        let value = value_of(alloc, json)?;
-        let found = value.property(name)?;
         assert!(rt;
-            is_shown(&shown(alloc, &found)?, wanted),
-            "property {name} of {json}"
+            has_property(rt.alloc(), json, name, wanted)?,
+            "{name} of {json}"
         );
-        assert!(rt; value.find(name).same(&found), "found {name} of {json}");
     }
+    Ok(())
+}
+
+// Whether a JSON text's value has that key.
+fn has_key(
+    alloc: Global,
+    json: &str,
+    index: u64,
+    key: &str,
+    wanted: &Option<&str>,
+) -> Result<bool, Fail> {
+    let found = key_of(&value_of(alloc, json)?, index, key)?;
+    let text = shown(alloc, &found)?;
+    Ok(is_shown(&text, wanted))
+}
+
+#[test]
+fn keys(rt: HostRuntime) -> Result<(), Fail> {
     for (json, index, key, wanted) in &KEYS {
-        let found = key_of(&value_of(alloc, json)?, *index, key)?;
         assert!(rt;
-            is_shown(&shown(alloc, &found)?, wanted),
-            "key {key} of {json}"
+            has_key(rt.alloc(), json, *index, key, wanted)?,
+            "{key} of {json}"
         );
     }
     Ok(())
@@ -303,19 +348,14 @@ fn json(rt: HostRuntime) -> Result<(), Fail> {
     Ok(())
 }
 
-// The action `go` of instance 7, with the fixed arguments 1 and an action `by` without any.
+// The action `go` of instance 7, with the fixed argument 1.
 fn action(alloc: Global) -> Result<Value, Fail> {
-    let by = Act {
-        owner: 7,
-        name: text(alloc, "by")?,
-        fixed: List::new(alloc),
-    };
+    let name = text(alloc, "go")?;
     let mut fixed = List::new(alloc);
     fixed.push(Value::Int(1))?;
-    fixed.push(Value::Act(by))?;
     Ok(Value::Act(Act {
         owner: 7,
-        name: text(alloc, "go")?,
+        name,
         fixed,
     }))
 }
@@ -328,21 +368,44 @@ fn actions(rt: HostRuntime) -> Result<(), Fail> {
     assert_eq!(rt; go.text_of(alloc)?.as_str(), "[action go]");
     assert!(rt; matches!(go.data_of()?, Value::Undefined));
     assert!(rt; matches!(key_of(&go, 0, "@identity")?, Value::Undefined));
+    Ok(())
+}
+
+// A record with an action at `a` and an empty list at `b`.
+fn record(alloc: Global) -> Result<Record, Fail> {
     let mut record = Record::new(alloc);
-    record.push(text(alloc, "a")?, go)?;
+    record.push(text(alloc, "a")?, action(alloc)?)?;
     record.push(text(alloc, "b")?, Value::List(List::new(alloc)))?;
+    Ok(record)
+}
+
+#[test]
+fn records(rt: HostRuntime) -> Result<(), Fail> {
+    let record = record(rt.alloc())?;
     assert!(rt; record.len() == 2 && record.as_slice().len() == 2 && record.get("c").is_none());
-    let value = Value::Record(record.copy()?);
+    let value = Value::Record(record);
     assert!(rt; matches!(value.find("a"), Found::Lent(Value::Act(_))));
     assert!(rt; matches!(value.data_of()?.property("a")?, Value::Undefined));
     assert!(rt; matches!(key_of(&value, 0, "a")?, Value::Undefined));
     assert!(rt; matches!(value.find_path("b.length").copy()?, Value::Int(0)));
+    Ok(())
+}
+
+#[test]
+fn lists(rt: HostRuntime) -> Result<(), Fail> {
+    let alloc = rt.alloc();
+    let pairs = record(alloc)?.into_vec();
     let mut list = List::from_vec(Vec::new(alloc));
-    list.push(Value::Record(Record::from_vec(record.into_vec())))?;
+    list.push(Value::Record(Record::from_vec(pairs)))?;
     assert!(rt; list.len() == 1 && !list.is_empty() && list.get(1).is_none());
     assert!(rt; list.as_slice().len() == 1 && list.copy()?.into_vec().len() == 1);
-    assert!(rt; text(alloc, "Z")?.is_before(&text(alloc, "a")?));
-    assert!(rt; !text(alloc, "\u{e9}")?.is_before(&text(alloc, "z")?));
+    Ok(())
+}
+
+#[test]
+fn order(rt: HostRuntime) -> Result<(), Fail> {
+    let (upper, lower) = (text(rt.alloc(), "Z")?, text(rt.alloc(), "a")?);
+    assert!(rt; upper.is_before(&lower) && !lower.is_before(&upper) && !lower.is_before(&lower));
     laws::same_decides::<u8>();
     laws::owners_free::<u8, u16, u32>();
     Ok(())

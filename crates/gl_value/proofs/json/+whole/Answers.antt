@@ -1,8 +1,7 @@
-use Rattle.std.proofs.Common.{◌≡◌, ◌∙◌, ◌++◌, map, None, rules, append-nil, sym}
+use Rattle.std.proofs.Common.{map, rules, append-nil}
 use Rattle.std.specs.Prelude.{string_bytes}
 use Rattle.gl_base.proofs.Lists.{drop_item}
 use Rattle.serde_json.specs.View as seen
-use Rattle.gl_value.specs.Json.{members_of}
 use Rattle.gl_value.specs.View.{view}
 use Rattle.gl_value.proofs.Reading.{item_next, member_next}
 use Rattle.gl_value.proofs.Keeping.{keeps_members, keys-seen}

@@ -1,8 +1,6 @@
-use Rattle.std.proofs.Common.{◌≡◌, ◌<◌, ◌≤◌, Option, Some, None, MatchOption, arith, false, Bool, rules, refl}
+use Rattle.std.proofs.Common.{arith, rules, refl}
 use Rattle.std.proofs.lemmas.Bool.{false≢true}
-use Rattle.std.specs.Str.{bytes_eq, chars}
-use Rattle.std.specs.Fmt.{decimal}
-use Rattle.gl_value.proofs.Indexes.{no_plain_start, not_read, read_decimal, beyond, kept}
+use Rattle.gl_value.proofs.Indexes.{no_plain_start, not_read, read_decimal, kept}
 use Rattle.gl_value.proofs.property.index_of.Goals as goal
 
 pub returns-then-not-has_plain_start : goal.returns-then-not-has_plain_start

@@ -1,4 +1,4 @@
-use Rattle.std.proofs.Common.{◌≡◌, ◌∙◌, sym, ap, arith}
+use Rattle.std.proofs.Common.{◌∙◌, sym, ap, arith}
 use Rattle.gl_value.specs.Found.{or_undefined}
 use Rattle.gl_value.specs.Value.{item_at, values_of}
 use Rattle.gl_value.proofs.Properties.{item_at-some, item_at-none}

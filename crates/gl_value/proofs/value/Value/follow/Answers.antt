@@ -1,4 +1,4 @@
-use Rattle.std.proofs.Common.{◌≡◌, ◌<◌, ◌∙◌, ◌∷◌, [], rules, arith, append_assoc}
+use Rattle.std.proofs.Common.{◌∙◌, rules, arith}
 use Rattle.std.specs.Str.{IsUtf8}
 use Rattle.std.proofs.lemmas.Str.Pattern.{split_parts}
 use Rattle.gl_value.proofs.Paths.{split-end, split-next, dot-utf8}

@@ -1,4 +1,4 @@
-use Rattle.std.proofs.Common.{◌≡◌, ◌≤◌, ap, ◌∙◌, arith, Some, None, option_map}
+use Rattle.std.proofs.Common.{◌≡◌, ap, ◌∙◌, arith, Some, None, option_map}
 use Rattle.std.proofs.lemmas.Bool.Decides.{nat_tests}
 use Rattle.gl_value.specs.Value.{depth}
 use Rattle.gl_value.specs.Json.{first_bad}
