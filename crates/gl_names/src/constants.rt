@@ -213,6 +213,7 @@ pub fn void() -> NameTable<14>
     ensures { result ≡ void_rows }
 {
     VOID
+}
 
 /// The names of the helpers, each with its number.
 pub const HELPERS: NameTable<33> = table![
