@@ -6,3 +6,4 @@ pub mod Progress
 pub mod Reading
 pub mod Readings
 pub mod Spanned
+mod TokenCases

@@ -1,5 +1,5 @@
 -- What the answer of the lexer tells.
-use Rattle.std.proofs.Common.{◌≡◌, ℕ, List, Option, Some, None, Result, Ok, Err, refl, sym, ◌∙◌}
+use Rattle.std.proofs.Common.{ℕ, List, Result, Ok, Err, sym, ◌∙◌}
 use Rattle.std.specs.Prelude.{IfOk}
 use Rattle.std.specs.Str.{IsUtf8}
 use Rattle.gl_base.specs.Answers.{Gives}
