@@ -87,10 +87,10 @@ quoted_end_low quote low = low_or (λ bs. begins (quote ∷ []) bs || begins (co
     (begins_low 92 (codes "{{") (lit< tt))
 
 -- the words
-white_scans : Scans after_white
+pub white_scans : Scans after_white
 white_scans = scans_total (after_all is_white) (leaves_all is_white white_low)
 
-space_moves : Moves after_space
+pub space_moves : Moves after_space
 space_moves = moves_word is_white is_white white_low white_low
 
 name_moves : Moves after_name
@@ -205,7 +205,7 @@ spaced_name_moves = moves_then after_space after_free_name space_moves (moves_sc
 more_names_scans : Scans after_more_names
 more_names_scans = scans_total (after_pieces after_spaced_name 0) (leaves_pieces after_spaced_name spaced_name_moves)
 
-names_scans : Scans after_names
+pub names_scans : Scans after_names
 unfolding after_names
 names_scans =
     scans_then (λ bs. after_white bs >>= after_free_name >>= after_more_names) after_white

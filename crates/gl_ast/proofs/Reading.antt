@@ -1,5 +1,5 @@
 -- Laws of the reading of tokens: a step over white space, and a step over a token.
-use Rattle.std.proofs.Common.{◌≡◌, ◌≤◌, ◌<◌, ◌+◌, ◌-◌, ℕ, zero, suc, List, [], ◌∷◌, ◌++◌, Bool, true, false, ◌&&◌, cond, Option, Some, None, length, take, drop, length-append, refl, sym, ap, subst, ◌∙◌, arith, add-one, add-zero}
+use Rattle.std.proofs.Common.{◌≡◌, ◌<◌, ◌+◌, ◌-◌, ℕ, suc, List, [], ◌∷◌, ◌++◌, true, false, Option, Some, None, length, drop, length-append, refl, sym, ap, subst, ◌∙◌, arith, add-zero}
 use Rattle.std.specs.Str.{IsUtf8, IsCharBoundary}
 use Rattle.std.proofs.Math.Seq.{drop-append_seam}
 use Rattle.std.proofs.lemmas.Str.{IsCharBoundary-at_seam, IsCharBoundary-after_ascii}
@@ -36,7 +36,7 @@ white_border mode (b ∷ bs) u e =
     let one : 0 < length (b ∷ bs) = omega arith in
     IsCharBoundary-after_ascii (b ∷ bs) 0 u one (white_low b (both (skips_white mode) (is_white b) e).1)
 
-width_is : (bs : List ℕ) (f : Found) (s : Steps bs f.1) → width bs f ≡ length s.1 + 1
+pub width_is : (bs : List ℕ) (f : Found) (s : Steps bs f.1) → width bs f ≡ length s.1 + 1
 width_is bs f s = omega (arith, length-append s.1 f.1, ap length s.2)
 
 pub read_token : (mode : Mode) (at : ℕ) (bs : List ℕ) (f : Found) → stands_white mode bs ≡ false → token mode bs ≡ Some f → Steps bs f.1

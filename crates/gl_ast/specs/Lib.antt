@@ -3,7 +3,10 @@ pub mod Modes
 pub mod References
 pub mod Scans
 pub mod Settling
+pub mod Spans
 pub mod Template
 pub mod TokenReading
+pub mod Tokens
 pub mod View
+pub mod Void
 pub mod Words

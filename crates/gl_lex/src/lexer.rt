@@ -1,10 +1,12 @@
 // The tokens of a text.
-ghost use Rattle.std.specs.Prelude.{◌≡◌, ◌≤◌, ◌+◌, ◌++◌, ◌∷◌, [], OnOk, IfErr, length, drop, ◌<◌, ◌^◌};
+ghost use Rattle.std.specs.Prelude.{◌≡◌, ◌≤◌, ◌+◌, ◌++◌, ◌∷◌, [], OnOk, IfOk, IfErr, length, drop, ◌<◌, ◌^◌};
 ghost use Rattle.std.specs.Str.{chars, IsCharBoundary};
 ghost use Rattle.gl_base.specs.Answers.{Gives};
 ghost use Rattle.gl_ast.specs.Modes.{skips_white};
 ghost use Rattle.gl_ast.specs.TokenReading.{read_from, stands_white, template_tokens, lone_tokens};
-ghost use Rattle.gl_lex.specs.Fault.{Fails, IsWithin};
+ghost use Rattle.gl_ast.specs.Spans.{Spans};
+ghost use Rattle.gl_ast.specs.Tokens.{IsTokens, IsLoneTokens};
+ghost use Rattle.gl_lex.specs.Fault.{Fails, IsWithin, Tells};
 
 use crate::class::is_white;
 use crate::fault::LexFault;
@@ -12,10 +14,12 @@ use crate::modes::{skips_white, spaced, token};
 use gl_ast::{Mode, Str, Token, TokenKind, Tokens};
 use std::alloc::{AllocError, Global};
 
-/// The tokens of a template, each the longest at its place, with the slice of its span. `NoToken` where at a place
-/// none stands; its offset counts bytes and is at most the length of the text.
+/// The tokens of a template: at each place the longest that may stand there, with the slice of its span. `NoToken`
+/// exactly where the text has no such reading; its offset counts bytes, and is at most the length of the text.
 #[tactic(auto, unfolding(gl_ast::specs::TokenReading::template_tokens))]
 pub fn tokens(alloc: Global, text: &str) -> Result<Tokens, LexFault>
+    ensures reading { Tells (IsTokens text.now) result }
+    ensures spans { IfOk result (Spans text.now 0) }
     ensures value { Gives Fails (λ list. list) result (template_tokens text.now) }
     ensures within { IfErr result (IsWithin (length text.now)) }
 {
@@ -25,6 +29,8 @@ pub fn tokens(alloc: Global, text: &str) -> Result<Tokens, LexFault>
 /// The tokens of an expression that stands alone: those of a mustache, without its end.
 #[tactic(auto, unfolding(gl_ast::specs::TokenReading::lone_tokens))]
 pub fn expression_tokens(alloc: Global, text: &str) -> Result<Tokens, LexFault>
+    ensures reading { Tells (IsLoneTokens text.now) result }
+    ensures spans { IfOk result (Spans text.now 0) }
     ensures value { Gives Fails (λ list. list) result (lone_tokens text.now) }
     ensures within { IfErr result (IsWithin (length text.now)) }
 {

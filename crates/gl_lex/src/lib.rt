@@ -4,6 +4,7 @@
 mod class;
 mod fault;
 mod found;
+pub mod laws;
 mod lexer;
 mod marks;
 mod modes;

@@ -1,0 +1,6 @@
+use Rattle.gl_ast.specs.declared.mode.Mode.TheVariants as m
+use Rattle.gl_ast.proofs.Readings.{one_reading}
+use Rattle.gl_lex.proofs.laws.one_lone_reading.Goals as goal
+
+pub returns : goal.returns
+returns c = λ text list other. one_reading m.Expression 0 text list other
