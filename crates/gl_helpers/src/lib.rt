@@ -1,0 +1,10 @@
+//! The helpers of templates.
+#![tactic(auto)]
+
+mod actions;
+mod argument;
+mod choose;
+mod compare;
+mod lists;
+mod number;
+mod texts;
