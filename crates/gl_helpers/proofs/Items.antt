@@ -1,5 +1,5 @@
 -- Lists of values, item by item.
-use Rattle.std.proofs.Common.{◌≡◌, ℕ, zero, suc, List, [], ◌∷◌, ◌++◌, Bool, true, false, cond, map, refl, sym, ap, ◌∙◌, append_assoc, append-nil, Option, Some, None, ℤ, pos, ◌<◌, length, get_or, drop, add-one}
+use Rattle.std.proofs.Common.{◌≡◌, ℕ, zero, suc, List, [], ◌∷◌, ◌++◌, Bool, true, false, cond, map, refl, sym, ap, ◌∙◌, append_assoc, append-nil, Some, None, ℤ, pos, ◌<◌, length, get_or, drop, add-one}
 use Rattle.gl_base.proofs.Lists.{drop_item}
 use Rattle.gl_value.specs.Helpers.{at_places}
 use Rattle.gl_value.specs.View.{view, seen_items}
@@ -7,7 +7,8 @@ use Rattle.gl_value.specs.declared.value.Value as code
 use Rattle.std.proofs.lemmas.List.{reverse-append, map-append}
 use Rattle.std.specs.Prelude.{slice_get, reverse}
 use Rattle.gl_base.specs.Names.{at_place}
-use Rattle.gl_value.specs.Value.{Value, undefined}
+use Rattle.gl_value.specs.Value.{Value, undefined, values_of, list_of}
+use Rattle.gl_value.proofs.Values.{list_of-values_of}
 
 pub at_place-some : {O : Type 0} (i : ℕ) (vs : List (Value O)) (v : Value O) → Some v ≡ slice_get vs i → v ≡ at_place undefined i vs
 at_place-some i [] v e = cc
@@ -37,3 +38,8 @@ pub place_next : (test : ℤ → Bool) (items : List code.Value) (i : ℕ) (v : 
 place_next test items i v b done new all h is same e whole =
     let here = rw add-one at (drop_item items i v h is) in
     rw (e, kept_step b done (at_places test (suc i) (seen_items (drop (suc i) items))) (view v), same) (rw here at whole)
+
+pub list_of_values : (vs : List (Value ℕ)) → list_of (values_of vs) ≡ vs
+list_of_values = list_of-values_of
+
+pub ruleset list_laws = (list_of_values)

@@ -5,6 +5,7 @@ mod actions;
 mod argument;
 mod choose;
 mod compare;
+mod depth;
 mod lists;
 mod number;
 mod texts;

@@ -164,12 +164,7 @@ fn is_from(place: usize, from: i64) -> bool
 /// The items at places from `from` to before the number of `end`, counted from 0; to the end of them where `end`
 /// is undefined.
 #[tactic(auto, using(crate::proofs::Items::kept_laws))]
-pub fn slice(
-    alloc: Global,
-    items: &[Value],
-    from: i64,
-    end: &Value,
-) -> Result<List, AllocError>
+pub fn slice(alloc: Global, items: &[Value], from: i64, end: &Value) -> Result<List, AllocError>
     ensures { IfOk result (λ l. l ≡ at_places (λ p. not (int_lt p from) && is_before p (view end.now)) 0 (seen_items items.now)) }
 {
     let mut list = List::new(alloc);

@@ -17,3 +17,26 @@ pub fn concat(alloc: Global, values: &[Value]) -> Result<Text, AllocError>
     }
     Ok(text)
 }
+
+// Adds the texts of the items, each after a text.
+fn write_after(text: &mut Text, items: &[Value], between: &Text) -> Result<(), AllocError>
+    ensures { OnOk result (text.new ≡ text.old ++ flat_map (λ u. between.now ++ u) (map text_of (seen_items items.now))) }
+{
+    for item in items {
+        text.push_text(between)?;
+        item.write(text)?;
+    }
+    Ok(())
+}
+
+/// The texts of the items, with a text between each two.
+pub fn join(alloc: Global, items: &[Value], between: &Text) -> Result<Text, AllocError>
+    ensures { IfOk result (λ t. t ≡ joined_by between.now (map text_of (seen_items items.now))) }
+{
+    let mut text = Text::new(alloc);
+    if let Some((first, rest)) = items.split_first() {
+        first.write(&mut text)?;
+        write_after(&mut text, rest, between)?;
+    }
+    Ok(text)
+}

@@ -1,7 +1,6 @@
-use Rattle.std.proofs.Common.{◌≡◌, ◌++◌, drop, map, not}
-use Rattle.std.specs.Prelude.{filter, nat_eq, reverse}
-use Rattle.gl_value.specs.Value.{same, property}
-use Rattle.gl_value.specs.View.{view, seen_items}
+use Rattle.std.proofs.Common.{◌≡◌, ◌++◌, drop, map}
+use Rattle.gl_value.specs.Value.{property}
+use Rattle.gl_value.specs.View.{seen_items}
 use Rattle.gl_helpers.proofs.lists.pluck.Given as goal
 
 -- what is made so far, and what is left to make, are the whole

@@ -1,5 +1,5 @@
-use Rattle.std.proofs.Common.{◌≡◌, ◌++◌, drop, map, not}
-use Rattle.std.specs.Prelude.{filter, nat_eq, reverse}
+use Rattle.std.proofs.Common.{◌≡◌, ◌++◌, drop}
+use Rattle.std.specs.Prelude.{filter, nat_eq}
 use Rattle.gl_value.specs.Value.{same, property}
 use Rattle.gl_value.specs.View.{view, seen_items}
 use Rattle.gl_helpers.proofs.lists.with_property.Given as goal

@@ -1,4 +1,4 @@
-use Rattle.std.proofs.Common.{◌≡◌, not, add-one, ap, to_z, of_z, w64}
+use Rattle.std.proofs.Common.{not, add-one, ap, to_z, of_z, w64}
 use Rattle.std.specs.Ordering.{int_eq}
 use Rattle.gl_helpers.proofs.Items.{place_next}
 use Rattle.gl_helpers.proofs.lists.without_place.Goals as goal
