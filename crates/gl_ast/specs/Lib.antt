@@ -1,3 +1,4 @@
+pub mod Grammar
 pub mod Marks
 pub mod Modes
 pub mod References
@@ -6,6 +7,7 @@ pub mod Settling
 pub mod Spans
 pub mod Template
 pub mod TokenReading
+pub mod TokenText
 pub mod Tokens
 pub mod View
 pub mod Void
