@@ -1,0 +1,5 @@
+pub mod ReadExpr
+pub mod ReadItem
+pub mod ReadStmt
+pub mod ReadValue
+pub mod Take

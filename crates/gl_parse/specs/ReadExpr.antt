@@ -1,0 +1,140 @@
+-- Expressions, read from the front of the tokens.
+use Rattle.std.specs.Prelude.{ℕ, zero, suc, List, [], ◌∷◌, Bool, true, false, ◌&&◌, ◌||◌, not, length, drop, codes, if◌then◌else◌, Option, Some, None, option_map}
+use Rattle.std.specs.Str.{bytes_eq}
+use Rattle.gl_base.specs.Answers.{◌>>=◌}
+use Rattle.gl_base.specs.Names.{named, has_text}
+use Rattle.gl_base.specs.Texts.{Text}
+use Rattle.gl_value.specs.Value as v
+use Rattle.gl_ast.specs.Grammar.{deepest_calls, has_argument}
+use Rattle.gl_ast.specs.Scans.{begins}
+use Rattle.gl_ast.specs.Template.{Expr, literal, this, argument, bare, call, Exprs, no_exprs, expr, NamedExprs, no_named, named_expr, exprs_of, named_of}
+use Rattle.gl_ast.specs.TokenText.{string_of, integer_of, names_of, is_free}
+use Rattle.gl_ast.specs.Words.{reserved}
+use Rattle.gl_ast.specs.declared.token.Token.{Token}
+use Rattle.gl_ast.specs.declared.token.TokenKind.{TokenKind}
+use Rattle.gl_ast.specs.declared.token.TokenKind.TheVariants as k
+use Rattle.gl_parse.specs.Take.{Taken, stands, take_kind}
+
+-- the constants that words stand for
+abbrev pub constants : List (Text × Expr)
+constants =
+    (codes "true", literal (v.boolean true)) ∷ (codes "false", literal (v.boolean false))
+    ∷ (codes "null", literal v.null) ∷ (codes "undefined", literal v.undefined) ∷ []
+
+-- after `this`
+abbrev pub this_path : List Text → Option Expr
+this_path [] = None
+this_path (n ∷ ns) = Some (this n ns)
+
+-- after another reserved name
+abbrev pub constant_path : Text → List Text → Option Expr
+constant_path n [] = named n constants
+constant_path n (m ∷ ns) = None
+
+-- the expression that a path's names are
+unfoldable pub path_expr : List Text → Option Expr
+path_expr [] = None
+path_expr (n ∷ ns) =
+    if begins (64 ∷ []) n then Some (argument (drop 1 n) ns)
+    else (if bytes_eq n (codes "this") then this_path ns
+    else (if has_text n reserved then constant_path n ns else Some (bare n ns)))
+
+-- the expression that one token is
+unfoldable pub token_expr : TokenKind → Text → Option Expr
+token_expr k.Path x = path_expr (names_of x)
+token_expr k.Number x = Some (literal (v.integer (integer_of x)))
+token_expr k.StringLit x = Some (literal (v.text (string_of x)))
+token_expr _ x = None
+
+unfoldable pub read_token : List Token → Taken Expr
+read_token [] = None
+read_token (t ∷ ts) = option_map (λ e. (e, ts)) (token_expr t.kind t.text)
+
+-- the name that a path of one name is
+abbrev pub lone_name : List Text → Option Text
+lone_name (n ∷ []) = if is_free n then Some n else None
+lone_name _ = None
+
+-- a path of one name that is not reserved
+unfoldable pub read_name : List Token → Taken Text
+read_name ts = take_kind k.Path ts >>= λ p. option_map (λ n. (n, p.1)) (lone_name (names_of p.0))
+
+abbrev pub is_some_name : Option Text → Bool
+is_some_name None = false
+is_some_name (Some n) = true
+
+-- such a name comes first
+unfoldable pub stands_name : List Token → Bool
+stands_name [] = false
+stands_name (t ∷ ts) = stands k.Path (t ∷ ts) && is_some_name (lone_name (names_of t.text))
+
+-- a name and `=` come first
+unfoldable pub stands_named : List Token → Bool
+stands_named [] = false
+stands_named (t ∷ ts) = stands_name (t ∷ ts) && stands k.Equals ts
+
+-- the first token of an expression comes first, and is no name before `=`
+unfoldable pub starts_expr : List Token → Bool
+starts_expr ts = (stands k.Path ts || stands k.Number ts || stands k.StringLit ts || stands k.OpenParen ts) && not (stands_named ts)
+
+-- expressions one after another, at most so many, where `one` reads one of them
+unfoldable pub read_exprs : (List Token → Taken Expr) → ℕ → List Token → Taken (List Expr)
+read_exprs one zero ts = if starts_expr ts then None else Some ([], ts)
+read_exprs one (suc n) ts =
+    if starts_expr ts then (one ts >>= λ e. (read_exprs one n e.1 >>= λ more. Some (e.0 ∷ more.0, more.1))) else Some ([], ts)
+
+-- one after its name and `=`
+unfoldable pub read_pair : (List Token → Taken Expr) → List Token → Taken (Text × Expr)
+read_pair one ts = do
+  name ← read_name ts
+  mark ← take_kind k.Equals name.1
+  value ← one mark.1
+  Some ((name.0, value.0), value.1)
+
+unfoldable pub read_named : (List Token → Taken Expr) → ℕ → List Token → Taken (List (Text × Expr))
+read_named one zero ts = if stands_name ts then None else Some ([], ts)
+read_named one (suc n) ts =
+    if stands_name ts then (read_pair one ts >>= λ p. (read_named one n p.1 >>= λ more. Some (p.0 ∷ more.0, more.1))) else Some ([], ts)
+
+-- positional arguments, then named ones
+unfoldable pub read_arguments : (List Token → Taken Expr) → List Token → Taken (Exprs × NamedExprs)
+read_arguments one ts = do
+  given ← read_exprs one (length ts) ts
+  more ← read_named one (length given.1) given.1
+  Some ((exprs_of given.0, named_of more.0), more.1)
+
+-- a call in parentheses, where `one` reads the expressions in it
+unfoldable pub read_call : (List Token → Taken Expr) → List Token → Taken Expr
+read_call one ts = do
+  front ← take_kind k.OpenParen ts
+  name ← read_name front.1
+  given ← read_arguments one name.1
+  back ← take_kind k.CloseParen given.1
+  Some (call name.0 given.0.0 given.0.1, back.1)
+
+-- an expression, where so many calls may nest
+unfoldable pub read_expr : ℕ → List Token → Taken Expr
+read_expr zero ts = read_token ts
+read_expr (suc calls) ts = if stands k.OpenParen ts then read_call (read_expr calls) ts else read_token ts
+
+-- a name with its arguments is a call; a lone name is bare
+abbrev pub called : Text → Exprs → NamedExprs → Expr
+called n es ns = if has_argument es ns then call n es ns else bare n []
+
+-- a name with arguments, and no parentheses
+unfoldable pub read_called : List Token → Taken Expr
+read_called ts = do
+  name ← read_name ts
+  given ← read_arguments (read_expr deepest_calls) name.1
+  Some (called name.0 given.0.0 given.0.1, given.1)
+
+-- what stands in a mustache
+unfoldable pub read_inner : List Token → Taken Expr
+read_inner ts = if stands_name ts then read_called ts else read_expr deepest_calls ts
+
+unfoldable pub read_mustache : List Token → Taken Expr
+read_mustache ts = do
+  front ← take_kind k.OpenMustache ts
+  inner ← read_inner front.1
+  back ← take_kind k.CloseMustache inner.1
+  Some (inner.0, back.1)

@@ -1,0 +1,55 @@
+-- What an opening tag has, read from the front of the tokens.
+use Rattle.std.specs.Prelude.{ℕ, zero, suc, List, [], ◌∷◌, Bool, ◌&&◌, ◌||◌, drop, if◌then◌else◌, Option, Some, None}
+use Rattle.gl_base.specs.Answers.{◌>>=◌}
+use Rattle.gl_base.specs.Texts.{Text}
+use Rattle.gl_ast.specs.Grammar.{deepest_calls, Item, part_item, argument_item}
+use Rattle.gl_ast.specs.Settling.{is_comment}
+use Rattle.gl_ast.specs.Template.{attribute, modifier, spread}
+use Rattle.gl_ast.specs.declared.token.Token.{Token}
+use Rattle.gl_ast.specs.declared.token.TokenKind.TheVariants as k
+use Rattle.gl_parse.specs.ReadExpr.{read_name, read_arguments, read_expr}
+use Rattle.gl_parse.specs.ReadValue.{read_given}
+use Rattle.gl_parse.specs.Take.{Taken, stands, take_kind}
+
+unfoldable pub read_attribute : List Token → Taken Item
+read_attribute ts = do
+  name ← take_kind k.Attribute ts
+  value ← read_given name.1
+  Some (part_item (attribute name.0 value.0), value.1)
+
+-- an argument's name stands after `@`
+unfoldable pub read_argument : List Token → Taken Item
+read_argument ts = do
+  name ← take_kind k.Argument ts
+  value ← read_given name.1
+  Some (argument_item (drop 1 name.0) value.0, value.1)
+
+unfoldable pub read_modifier : List Token → Taken Item
+read_modifier ts = do
+  front ← take_kind k.OpenMustache ts
+  name ← read_name front.1
+  given ← read_arguments (read_expr deepest_calls) name.1
+  back ← take_kind k.CloseMustache given.1
+  Some (part_item (modifier name.0 given.0.0 given.0.1), back.1)
+
+unfoldable pub read_spread : List Token → Taken Item
+read_spread ts = take_kind k.Spread ts >>= λ mark. Some (part_item spread, mark.1)
+
+-- the first token of an item comes first; arguments are items of components alone
+unfoldable pub starts_item : Bool → List Token → Bool
+starts_item component ts = stands k.Attribute ts || stands k.OpenMustache ts || stands k.Spread ts || (component && stands k.Argument ts)
+
+unfoldable pub read_item : List Token → Taken Item
+read_item ts =
+    if stands k.Attribute ts then read_attribute ts
+    else (if stands k.OpenMustache ts then read_modifier ts
+    else (if stands k.Spread ts then read_spread ts else read_argument ts))
+
+-- the items, and mustache comments among them, of so many tokens at most
+unfoldable pub read_items : Bool → ℕ → List Token → Taken (List Item)
+read_items component n [] = Some ([], [])
+read_items component zero (t ∷ ts) = None
+read_items component (suc n) (t ∷ ts) =
+    if is_comment t.kind then read_items component n ts
+    else (if starts_item component (t ∷ ts) then (read_item (t ∷ ts) >>= λ i. (read_items component n i.1 >>= λ more. Some (i.0 ∷ more.0, more.1)))
+    else Some ([], t ∷ ts))

@@ -1,0 +1,2 @@
+//! The tree that a template or an expression spells.
+#![tactic(auto)]
