@@ -1,9 +1,15 @@
+pub mod Depth
+pub mod ExprCode
+pub mod ExprFalls
 pub mod Marks
 pub mod Modes
+pub mod PartCode
 pub mod References
 pub mod Scans
 pub mod Settling
 pub mod Spans
+pub mod StmtCode
+pub mod StmtFalls
 pub mod Template
 pub mod TokenReading
 pub mod Tokens
