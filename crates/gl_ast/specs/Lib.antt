@@ -1,10 +1,16 @@
+pub mod Depth
+pub mod ExprCode
+pub mod ExprFalls
 pub mod Grammar
 pub mod Marks
 pub mod Modes
+pub mod PartCode
 pub mod References
 pub mod Scans
 pub mod Settling
 pub mod Spans
+pub mod StmtCode
+pub mod StmtFalls
 pub mod Template
 pub mod TokenReading
 pub mod TokenText

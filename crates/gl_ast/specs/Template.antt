@@ -53,6 +53,21 @@ mutual
     no_slots : Slots
     block : Text → List Text → Body → Slots → Slots
 
+-- the arguments of these expressions
+abbrev pub exprs_of : List Expr → Exprs
+exprs_of [] = no_exprs
+exprs_of (e ∷ es) = expr e (exprs_of es)
+
+-- the named arguments of these names with expressions
+abbrev pub named_of : List (Text × Expr) → NamedExprs
+named_of [] = no_named
+named_of (n ∷ ns) = named_expr n.0 n.1 (named_of ns)
+
+-- the slots of these names, each with its parameters and its body
+abbrev pub slots_of : List (Text × (List Text × Body)) → Slots
+slots_of [] = no_slots
+slots_of (b ∷ bs) = block b.0 b.1.0 b.1.1 (slots_of bs)
+
 -- the body of these statements
 abbrev pub body_of : List Stmt → Body
 body_of [] = end

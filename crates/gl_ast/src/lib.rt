@@ -1,14 +1,24 @@
 //! The tree of a template, and its tokens.
 #![tactic(auto)]
 
+mod args;
+mod body;
 mod edge;
+mod expr;
+mod exprs;
 mod mode;
+mod pairs;
+mod part;
+mod parts;
+mod slots;
 mod stmt;
 mod token;
 
 pub use edge::Edge;
+pub use expr::{Expr, Exprs, Lit, NamedExpr, Names, Pairs, Str};
 pub use mode::{Around, Mode, Quote};
-pub use stmt::{Body, Stmt, Str};
+pub use part::{Args, Argument, AttrValue, Part, Parts};
+pub use stmt::{Block, Body, Slot, Slots, Stmt};
 pub use token::{Token, TokenKind, Tokens};
 
 #[cfg(test)]

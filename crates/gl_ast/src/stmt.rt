@@ -1,57 +1,121 @@
 // Statements and bodies.
-ghost use Rattle.std.specs.Prelude.{◌≡◌, [], ◌∷◌, ◌++◌, OnOk, OnErr, map, length, option_map, slice_get};
-ghost use Rattle.gl_ast.specs.View.{view, statements};
+use crate::{Args, Expr, Exprs, Names, Parts, Str};
+use std::marker::Model;
 
-use gl_value::Text;
-use std::alloc::{AllocError, Global};
-
-/// A text of a template.
-pub type Str = Text;
-
-/// A statement of a template: a text, `{{this.NAME}}` by its name, or an element.
-#[cycle(tree)]
+/// A statement of a template. `Put` shows the text of an expression; a component has the blocks that are passed to
+/// it as slots; `unless` turns the test of an `If`; `Each` has the name of its key; `Yield` names the slot that it
+/// shows.
 #[derive(Drop)]
+#[cycle(tree)]
 pub enum Stmt {
     Text(Str),
-    Put(Str),
-    Element { tag: Str, body: Body },
+    Comment(Str),
+    Put(Expr),
+    Element {
+        tag: Str,
+        parts: Parts,
+        body: Body,
+    },
+    Component {
+        class: Str,
+        parts: Parts,
+        args: Args,
+        slots: Slots,
+    },
+    If {
+        test: Expr,
+        unless: bool,
+        body: Body,
+        otherwise: Body,
+    },
+    Each {
+        list: Expr,
+        key: Str,
+        params: Names,
+        body: Body,
+        otherwise: Body,
+    },
+    Let {
+        values: Exprs,
+        params: Names,
+        body: Body,
+    },
+    Yield {
+        values: Exprs,
+        to: Str,
+    },
 }
 
-/// A list of statements.
-#[cycle(tree)]
+/// A list of statements. Contracts see the statements as definitions see them.
 #[derive(Drop)]
+#[cycle(tree)]
 pub struct Body {
-    list: Vec<Stmt>,
+    pub(crate) list: Vec<Stmt>,
 }
 
-impl Body {
-    /// The empty list. It takes no memory.
-    pub fn new(alloc: Global) -> Body
-        ensures { statements result ≡ [] }
-    {
-        Body {
-            list: Vec::new(alloc),
-        }
-    }
+/// A body with the names of its parameters.
+#[derive(Drop)]
+#[cycle(tree)]
+pub struct Block {
+    pub params: Names,
+    pub body: Body,
+}
 
-    /// Adds a statement at the end.
-    pub fn push(&mut self, stmt: Stmt) -> Result<(), AllocError>
-        ensures ok { OnOk result (statements self.new ≡ statements self.old ++ view stmt ∷ []) }
-        ensures err { OnErr result (statements self.new ≡ statements self.old) }
-    {
-        self.list.push(stmt)?;
-        Ok(())
-    }
+/// A block that is passed to a component, with its name.
+#[derive(Drop)]
+#[cycle(tree)]
+pub struct Slot {
+    pub name: Str,
+    pub block: Block,
+}
 
-    pub fn as_slice(&self) -> &[Stmt]
-        ensures { map view result.now ≡ statements self.now }
-    {
-        self.list.as_slice()
-    }
+/// A list of slots. Contracts see the bodies as definitions see them.
+#[derive(Drop)]
+#[cycle(tree)]
+pub struct Slots {
+    pub(crate) list: Vec<Slot>,
+}
 
-    pub fn len(&self) -> usize
-        ensures { result ≡ length (statements self.now) }
-    {
-        self.list.len()
-    }
+impl Model for Body {
+    ghost use Rattle.std.specs.Prelude.{suc, List};
+    ghost use Rattle.std.specs.Coded.{coded_list};
+    ghost use Rattle.gl_ast.specs.Template as t;
+    ghost use Rattle.gl_ast.specs.Depth.{body_depth};
+    ghost use Rattle.gl_ast.specs.StmtCode.{stmt_code};
+
+    ghost Value = { List t.Stmt };
+
+    ghost coded = { coded_list stmt_code };
+
+    ghost use Rattle.gl_ast.specs.View.{seen_stmts};
+
+    ghost view = { λ a. seen_stmts a.list.items };
+
+    ghost size = { λ ss. suc (body_depth (t.body_of ss)) };
+
+    ghost use Rattle.gl_ast.specs.StmtFalls.{body_falls};
+
+    ghost size_decreases = { λ a h. body_falls a };
+}
+
+impl Model for Slots {
+    ghost use Rattle.std.specs.Prelude.{ℕ, suc, List};
+    ghost use Rattle.std.specs.Coded.{coded_list};
+    ghost use Rattle.gl_ast.specs.Template as t;
+    ghost use Rattle.gl_ast.specs.Depth.{slots_depth};
+    ghost use Rattle.gl_ast.specs.StmtCode.{slot_code};
+
+    ghost Value = { List (List ℕ × (List (List ℕ) × t.Body)) };
+
+    ghost coded = { coded_list slot_code };
+
+    ghost use Rattle.gl_ast.specs.View.{seen_slots};
+
+    ghost view = { λ a. seen_slots a.list.items };
+
+    ghost size = { λ ss. suc (slots_depth (t.slots_of ss)) };
+
+    ghost use Rattle.gl_ast.specs.StmtFalls.{slots_falls};
+
+    ghost size_decreases = { λ a h. slots_falls a };
 }
