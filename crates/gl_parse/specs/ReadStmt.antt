@@ -199,17 +199,22 @@ read_nested inner head ts =
     if stands k.OpenBlock ts then read_block head ts
     else (if stands k.TagOpening ts then read_tag inner ts else read_flat ts)
 
+-- a block from its word on, where `one` reads the statements in it and `chained` the block that an else has as its head
+unfoldable pub read_block_with : Reader Stmt → Reader Stmt → List Token → Taken Stmt
+read_block_with one chained ts = read_head (read_body one) (read_else (read_body one) chained) ts
+
+abbrev pub read_none : List Token → Taken Stmt
+read_none ts = None
+
 -- one statement, and a block from its word on, where elements and blocks may nest so deep in them
-mutual
-  unfoldable pub read_stmt : ℕ → List Token → Taken Stmt
+unfoldable mutual
+  pub read_stmt : ℕ → List Token → Taken Stmt
   read_stmt zero ts = read_flat ts
   read_stmt (suc depth) ts = read_nested (read_body (read_stmt depth)) (read_blocks depth) ts
 
-  unfoldable pub read_blocks : ℕ → List Token → Taken Stmt
-  read_blocks zero ts = read_head (read_body read_flat) (read_else (read_body read_flat) (λ us. None)) ts
-  read_blocks (suc depth) ts =
-      read_head (read_body (read_nested (read_body (read_stmt depth)) (read_blocks depth)))
-      (read_else (read_body (read_nested (read_body (read_stmt depth)) (read_blocks depth))) (read_blocks depth)) ts
+  pub read_blocks : ℕ → List Token → Taken Stmt
+  read_blocks zero ts = read_block_with read_flat read_none ts
+  read_blocks (suc depth) ts = read_block_with (read_nested (read_body (read_stmt depth)) (read_blocks depth)) (read_blocks depth) ts
 
 -- the statements of a template, where nothing is left
 unfoldable pub whole : {A : Type 0} → Taken A → Option A
