@@ -1,3 +1,5 @@
+mod CanonRows
+mod TokenCases
 pub mod Forward
 pub mod Leads
 pub mod Longest
@@ -6,4 +8,3 @@ pub mod Progress
 pub mod Reading
 pub mod Readings
 pub mod Spanned
-mod TokenCases

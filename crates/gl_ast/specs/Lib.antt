@@ -1,3 +1,4 @@
+pub mod Canon
 pub mod Depth
 pub mod ExprCode
 pub mod ExprFalls
