@@ -18,3 +18,4 @@ pub mod Session
 pub mod Spelling
 pub mod Status
 pub mod Template
+pub mod View

@@ -2,7 +2,7 @@
 use Rattle.std.specs.Prelude.{◌≡◌, ◌<◌, ◌⊎◌, ℕ, List, [], ◌∷◌, Result, Ok, Err}
 use Rattle.gl_base.specs.Texts.{Text}
 use Rattle.gl_ast.specs.Template.{body_of}
-use Rattle.gl_ast.specs.View.{statements}
+use Rattle.gl_run.specs.View.{statements}
 use Rattle.gl_run.specs.Load.{Refusal, absent, not_built}
 use Rattle.gl_run.specs.Session as s
 use Rattle.gl_run.specs.declared.load.App.{App}

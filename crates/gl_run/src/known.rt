@@ -1,13 +1,13 @@
 // Whether each `{{this.NAME}}` of a template names a field.
 ghost use Rattle.std.specs.Prelude.{◌≡◌};
 ghost use Rattle.gl_ast.specs.Template.{body_of};
-ghost use Rattle.gl_ast.specs.View.{view, statements};
+ghost use Rattle.gl_run.specs.View.{view, statements};
 ghost use Rattle.gl_base.specs.Answers.{Gives};
 ghost use Rattle.gl_run.specs.Forms.{Fails};
 ghost use Rattle.gl_run.specs.Load.{has_fields, all_have_fields, known_tree};
 
 use crate::FormFault;
-use gl_ast::{Body, Stmt};
+use crate::tree::{Body, Stmt};
 use gl_value::NamedValues;
 
 #[cycle(known)]

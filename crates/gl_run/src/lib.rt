@@ -14,6 +14,7 @@ mod session;
 mod status;
 mod template;
 mod top;
+mod tree;
 
 pub use ending::RunFault;
 pub use fault::FormFault;

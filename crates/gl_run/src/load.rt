@@ -2,7 +2,7 @@
 ghost use Rattle.std.specs.Prelude.{◌≡◌, ◌≤◌, [], ◌∷◌, List, Some, IfErr, option_and_then};
 ghost use Rattle.std.specs.Str.{chars};
 ghost use Rattle.gl_outside.specs.Shelf.{Entry};
-ghost use Rattle.gl_ast.specs.View.{statements};
+ghost use Rattle.gl_run.specs.View.{statements};
 ghost use Rattle.gl_base.specs.Answers.{Gives};
 ghost use Rattle.gl_run.specs.Forms.{Fails};
 ghost use Rattle.gl_run.specs.Template.{template_of};
@@ -14,7 +14,7 @@ use crate::FormFault;
 use crate::known::known_tree;
 use crate::manifest::{Manifest, manifest_from, script_from};
 use crate::template::template_of;
-use gl_ast::Body;
+use crate::tree::Body;
 use gl_outside::{Shelf, ShelfFault};
 use gl_value::{NamedValues, Text};
 use std::alloc::{AllocError, Global};

@@ -1,12 +1,12 @@
 // Prints the page that a template shows over the values of its fields.
 ghost use Rattle.std.specs.Prelude.{◌≡◌, ◌+◌, ◌++◌, [], IfOk, OnOk};
 ghost use Rattle.gl_ast.specs.Template.{this, body_of};
-ghost use Rattle.gl_ast.specs.View.{view, statements};
+ghost use Rattle.gl_run.specs.View.{view, statements};
 ghost use Rattle.gl_run.specs.Render.{shown};
 ghost use Rattle.gl_run.specs.Print.{numbered, text_line, element_line, deeper};
 ghost use Rattle.gl_run.specs.Page.{nodes, nodes_all, lines_of, lines_all, page_of};
 
-use gl_ast::{Body, Stmt};
+use crate::tree::{Body, Stmt};
 use gl_value::{NamedValues, Text, push_quoted};
 use std::alloc::{AllocError, Global};
 

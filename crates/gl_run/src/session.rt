@@ -3,13 +3,13 @@ ghost use Rattle.std.specs.Prelude.{◌≡◌, ◌<◌, ◌≤◌, ◌++◌, ◌
 ghost use Rattle.gl_value.specs.Named.{set_named};
 ghost use Rattle.gl_value.specs.View as value;
 ghost use Rattle.gl_ast.specs.Template.{body_of};
-ghost use Rattle.gl_ast.specs.View.{statements};
+ghost use Rattle.gl_run.specs.View.{statements};
 ghost use Rattle.gl_run.specs.Print.{start_line, set_line};
 ghost use Rattle.gl_run.specs.Page.{set_page, start_page, pages};
 ghost use Rattle.gl_run.specs.Plays.{Puts, Plays};
 
 use crate::page::{after, push_page};
-use gl_ast::Body;
+use crate::tree::Body;
 use gl_outside::{Sink, SinkFault};
 use gl_value::{NamedValues, Text, Value};
 use std::alloc::{AllocError, Global};

@@ -3,7 +3,7 @@ ghost use Rattle.std.specs.Prelude.{◌≡◌, ◌≤◌, true, false, MatchOpti
 ghost use Rattle.std.specs.List.{prefix_len};
 ghost use Rattle.std.specs.Str.{is_utf8, chars};
 ghost use Rattle.gl_base.specs.Answers.{Gives};
-ghost use Rattle.gl_ast.specs.View.{view, statements};
+ghost use Rattle.gl_run.specs.View.{view, statements};
 ghost use Rattle.gl_run.specs.Forms.{Fails};
 ghost use Rattle.gl_run.specs.Names.{in_name, in_tag, is_name, is_tag};
 ghost use Rattle.gl_run.specs.Spelling.{is_plain};
@@ -11,7 +11,8 @@ ghost use Rattle.gl_run.specs.Template.{after, text_at, put_at, inner_at, ends_i
 
 use crate::FormFault;
 use crate::names::{in_name, in_tag, is_name, is_tag};
-use gl_ast::{Body, Stmt, Str};
+use crate::tree::{Body, Stmt};
+use gl_ast::Str;
 use std::alloc::Global;
 use std::str;
 

@@ -1,6 +1,6 @@
 use Rattle.std.proofs.Common.{◌≤◌, arith}
 use Rattle.gl_ast.specs.Template.{body_of}
-use Rattle.gl_ast.specs.View.{view, statements}
+use Rattle.gl_run.specs.View.{view, statements}
 use Rattle.gl_run.specs.Page.{nodes, nodes_all}
 use Rattle.gl_run.proofs.Pages.{nodes_within}
 use Rattle.gl_run.proofs.known.+known.Goals as goal

@@ -1,6 +1,6 @@
 use Rattle.std.proofs.Common.{◌≡◌, ◌+◌, ◌*◌, map, drop}
 use Rattle.gl_ast.specs.Template.{body_of}
-use Rattle.gl_ast.specs.View.{view, statements}
+use Rattle.gl_run.specs.View.{view, statements}
 use Rattle.gl_run.specs.Load.{all_have_fields}
 use Rattle.gl_run.specs.Page.{nodes, nodes_all}
 use Rattle.gl_run.proofs.known.+known.Given as goal

@@ -5,7 +5,7 @@ use Rattle.gl_base.proofs.Lists.{drop_item}
 use Rattle.gl_base.proofs.Taken.{takes_nothing, takes_next, takes_all, drop_next}
 use Rattle.gl_value.specs.View.{seen_entry, seen_entries}
 use Rattle.gl_ast.specs.Template.{body_of}
-use Rattle.gl_ast.specs.View.{statements}
+use Rattle.gl_run.specs.View.{statements}
 use Rattle.gl_run.specs.Page.{pages, pages_from, start_page}
 use Rattle.gl_run.proofs.Playing.{put_err, pages_step, pages_end}
 use Rattle.gl_run.proofs.session.play.Goals as goal

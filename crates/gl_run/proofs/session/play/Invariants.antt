@@ -3,7 +3,7 @@ use Rattle.gl_base.specs.Texts.{bytes_of, joined}
 use Rattle.gl_base.specs.Taking.{Takes}
 use Rattle.gl_value.specs.View.{seen_entries}
 use Rattle.gl_ast.specs.Template.{body_of}
-use Rattle.gl_ast.specs.View.{statements}
+use Rattle.gl_run.specs.View.{statements}
 use Rattle.gl_run.specs.Page.{pages, pages_from}
 use Rattle.gl_run.proofs.session.play.Given as goal
 

@@ -1,6 +1,6 @@
 use Rattle.std.proofs.Common.{◌≡◌, ◌+◌, ◌-◌, length, suc, arith, rules}
 use Rattle.std.proofs.lemmas.Result.{err_from_is_err_and}
-use Rattle.gl_ast.specs.View.{view, statements}
+use Rattle.gl_run.specs.View.{view, statements}
 use Rattle.gl_run.proofs.Loops.{inners_go, inners_fail, inners_end, inners_out, fails_on}
 use Rattle.gl_run.proofs.template.inners_of.Goals as goal
 use Rattle.gl_run.proofs.template.inners_of.Goals.{else-loop-test, then-loop-test+then-ends_inner}

@@ -1,5 +1,5 @@
 use Rattle.std.proofs.Common.{◌≡◌, ◌-◌, length}
-use Rattle.gl_ast.specs.View.{statements}
+use Rattle.gl_run.specs.View.{statements}
 use Rattle.gl_run.specs.Template.{inners_at}
 use Rattle.gl_run.proofs.Loops.{with_front}
 use Rattle.gl_run.proofs.template.inners_of.Given as goal

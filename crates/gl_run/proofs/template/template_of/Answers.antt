@@ -1,6 +1,6 @@
 use Rattle.std.proofs.Common.{◌≡◌, ◌+◌, ◌-◌, length, suc, arith, rules}
 use Rattle.std.proofs.lemmas.Result.{err_from_is_err_and}
-use Rattle.gl_ast.specs.View.{view, statements}
+use Rattle.gl_run.specs.View.{view, statements}
 use Rattle.gl_run.specs.Template.{template_of}
 use Rattle.gl_run.proofs.Loops.{statements_go, statements_fail, statements_end, statements_out, fails_on}
 use Rattle.gl_run.proofs.template.template_of.Goals as goal

@@ -1,5 +1,5 @@
 use Rattle.std.proofs.Common.{◌≡◌, ◌-◌, length}
-use Rattle.gl_ast.specs.View.{statements}
+use Rattle.gl_run.specs.View.{statements}
 use Rattle.gl_run.specs.Template.{statements_of}
 use Rattle.gl_base.specs.Reading.{after_front}
 use Rattle.gl_run.proofs.template.template_of.Given as goal
