@@ -32,6 +32,9 @@ module _ {O : Type 0} where
   pairs_of-put_all ps [] = refl
   pairs_of-put_all ps (e ∷ es) = pairs_of-put_all (put_pair e.0 e.1 ps) es ∙ ap (λ ms. members_of ms es) (pairs_of-put_pair e.0 e.1 ps)
 
+  pub put_same : (k l : Text) (x y : Value O) (ps r : List (Text × Value O)) (ms : Members O) → r ≡ put_pair k x ps → k ≡ l → x ≡ y → pairs_of ps ≡ ms → pairs_of r ≡ put_member l y ms
+  put_same k l x y ps r ms is e f g = ap pairs_of is ∙ pairs_of-put_pair k x ps ∙ rw (e, f, g) refl
+
   -- past a pair of a lesser key, at one of the same key, and before one of a greater key
   pub put_past : (k : Text) (x : Value O) (p : Text × Value O) (ps : List (Text × Value O)) → text_order p.0 k ≡ Less → put_pair k x (p ∷ ps) ≡ p ∷ put_pair k x ps
   put_past k x p ps e = rw (before_differs k p.0 e, before_not_after k p.0 e) refl

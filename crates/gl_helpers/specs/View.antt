@@ -1,5 +1,7 @@
 -- What the code's helpers and texts stand for.
+use Rattle.std.specs.Prelude.{ℕ, List}
 use Rattle.gl_base.specs.Texts.{Text}
+use Rattle.gl_value.specs.Value.{Value}
 use Rattle.gl_value.specs.Helpers.{Helper, if_helper, unless_helper, concat_helper, array_helper, hash_helper, get_helper, fn_helper, add_helper, sub_helper, mul_helper, min_helper, max_helper, eq_helper, ne_helper, not_helper, and_helper, or_helper, lt_helper, lte_helper, gt_helper, gte_helper, length_helper, append_helper, remove_at_helper, put_helper, slice_helper, reverse_helper, includes_helper, where_helper, remove_where_helper, update_where_helper, pluck_helper, join_helper}
 use Rattle.gl_helpers.specs.declared.helper.Choice.{Choice}
 use Rattle.gl_helpers.specs.declared.helper.Choice.TheVariants as choice
@@ -17,6 +19,10 @@ use Rattle.gl_helpers.specs.declared.helper.Helper.{Helper as Code}
 use Rattle.gl_helpers.specs.declared.helper.Helper.TheVariants as code
 use Rattle.gl_helpers.specs.declared.wording.Wording.{Wording}
 use Rattle.gl_helpers.specs.declared.wording.Wording.TheVariants as wording
+
+-- named arguments
+abbrev pub Names : Type 0
+Names = List (Text × Value ℕ)
 
 abbrev pub seen_choice : Choice → Helper
 seen_choice choice.If = if_helper

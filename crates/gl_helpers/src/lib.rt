@@ -3,6 +3,7 @@
 
 mod actions;
 mod argument;
+mod calls;
 mod choose;
 mod compare;
 mod depth;
@@ -12,3 +13,5 @@ mod number;
 mod records;
 mod texts;
 mod wording;
+
+pub use calls::call;

@@ -1,23 +1,27 @@
 // The helpers that make records.
-ghost use Rattle.std.specs.Prelude.{◌≡◌, ◌<◌, ◌++◌, [], ◌∷◌, ℕ, IfOk, OnOk, map};
+ghost use Rattle.std.specs.Prelude.{◌≡◌, ◌<◌, ◌++◌, [], ◌∷◌, ℕ, IfOk, OnOk, map, nat_eq};
 ghost use Rattle.std.specs.declared.cmp.Ordering.TheVariants.{Equal};
-ghost use Rattle.gl_value.specs.Helpers.{members_in};
+ghost use Rattle.gl_value.specs.Helpers.{members_in, raw_value};
 ghost use Rattle.gl_value.specs.Proper.{Keeps, KeepAll, KeepMembers};
 ghost use Rattle.gl_value.specs.Value as v;
 ghost use Rattle.gl_value.specs.Value.{pairs_of, values_of};
 ghost use Rattle.gl_value.specs.View.{view, seen_items, seen_pairs, seen_entries};
 ghost use Rattle.gl_helpers.specs.Lent.{seen_lent};
-ghost use Rattle.gl_helpers.specs.Records.{text_order, put_pair, put_all, changed, NamedProper};
+ghost use Rattle.gl_helpers.specs.Records.{text_order, put_pair, put_all, changed, AllProper, NamedProper};
+ghost use Rattle.gl_helpers.specs.View.{seen_change};
 
+use crate::argument::Arguments;
 use crate::depth::not_deep;
-use crate::lists::has_property;
-use gl_value::{List, Pair, Record, Text, Value};
+use crate::helper::Change;
+use crate::lists::{has_property, items_in};
+use crate::wording::text_in;
+use gl_value::{List, NamedValues, Pair, Record, Text, Value};
 use std::alloc::{AllocError, Global};
 use std::cmp::Ordering;
 use std::collections::BTreeMap;
 
-/// The pairs of a record, none of any other value. It takes no memory.
-pub fn pairs_in(value: &Value) -> &[Pair]
+// The pairs of a record, none of any other value. It takes no memory.
+fn pairs_in(value: &Value) -> &[Pair]
     ensures { pairs_of (seen_pairs result.now) ≡ members_in (view value.now) }
 {
     match value {
@@ -59,9 +63,9 @@ fn push_pairs(out: &mut Record, pairs: &[Pair]) -> Result<(), AllocError>
     Ok(())
 }
 
-/// The record of the pairs with a value at a key: in the place of the pair of that key, or else where the key
-/// belongs in the order of bytes.
-pub fn put(
+// The record of the pairs with a value at a key: in the place of the pair of that key, or else where the key
+// belongs in the order of bytes.
+fn put(
     alloc: Global,
     pairs: &[Pair],
     key: &Text,
@@ -93,8 +97,8 @@ fn by_name(
     Ok(map)
 }
 
-/// The record of the named arguments; of those with one name the last.
-pub fn hash(alloc: Global, named: &[(Text, Value)]) -> Result<Record, AllocError>
+// The record of the named arguments; of those with one name the last.
+fn hash(alloc: Global, named: &[(Text, Value)]) -> Result<Record, AllocError>
     ensures value { IfOk result (λ r. r ≡ put_all [] (seen_entries named.now)) }
     ensures keeps { IfOk result (λ r. NamedProper (seen_entries named.now) → KeepMembers (pairs_of r)) }
 {
@@ -105,13 +109,14 @@ pub fn hash(alloc: Global, named: &[(Text, Value)]) -> Result<Record, AllocError
     Ok(record)
 }
 
-/// What `updateWhere` does to an item: a record whose property of that name is the same as a value gets
-/// another value at a key.
-pub struct Update<'a> {
-    pub name: &'a Text,
-    pub is: &'a Value,
-    pub key: &'a Text,
-    pub value: &'a Value,
+// What `updateWhere` does to an item: a record whose property of that name is the same as a value gets
+// another value at a key.
+#[derive(Clone, Copy)]
+struct Update<'a> {
+    name: &'a Text,
+    is: &'a Value,
+    key: &'a Text,
+    value: &'a Value,
 }
 
 // The item as it is after the update.
@@ -129,8 +134,8 @@ fn updated(alloc: Global, item: &Value, update: &Update) -> Result<Value, AllocE
     }
 }
 
-/// The items as they are after the update.
-pub fn update_where(alloc: Global, items: &[Value], update: &Update) -> Result<List, AllocError>
+// The items as they are after the update.
+fn update_where(alloc: Global, items: &[Value], update: &Update) -> Result<List, AllocError>
     ensures value { IfOk result (λ l. l ≡ map (changed update.now.name.now (view update.now.is.now) update.now.key.now (view update.now.value.now)) (seen_items items.now)) }
     ensures keeps { IfOk result (λ l. KeepAll (values_of (seen_items items.now)) → Keeps (view update.now.value.now) → KeepAll (values_of l)) }
 {
@@ -139,4 +144,35 @@ pub fn update_where(alloc: Global, items: &[Value], update: &Update) -> Result<L
         list.push(updated(alloc, item, update)?)?;
     }
     Ok(list)
+}
+
+/// What such a helper gives.
+pub fn made(
+    alloc: Global,
+    helper: Change,
+    args: &Arguments,
+    named: &NamedValues,
+) -> Result<Value, AllocError>
+    ensures value { IfOk result (λ v. view v ≡ raw_value nat_eq args.now named.now (seen_change helper)) }
+    ensures keeps { IfOk result (λ v. AllProper args.now → NamedProper named.now → Keeps (view v)) }
+{
+    match helper {
+        Change::Hash => Ok(Value::Record(hash(alloc, named.as_slice())?)),
+        Change::Put => {
+            let key = text_in(alloc, args.at(1))?;
+            let record = put(alloc, pairs_in(args.at(0)), key.text(), args.at(2))?;
+            Ok(Value::Record(record))
+        }
+        Change::UpdateWhere => {
+            let name = text_in(alloc, args.at(1))?;
+            let key = text_in(alloc, args.at(3))?;
+            let update = Update {
+                name: name.text(),
+                is: args.at(2),
+                key: key.text(),
+                value: args.at(4),
+            };
+            Ok(Value::List(update_where(alloc, items_in(args.at(0)), &update)?))
+        }
+    }
 }
