@@ -1,3 +1,4 @@
 pub mod Lent
 pub mod Records
+pub mod Table
 pub mod View

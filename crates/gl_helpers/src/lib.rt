@@ -8,6 +8,7 @@ mod choose;
 mod compare;
 mod depth;
 mod helper;
+pub mod laws;
 mod lists;
 mod number;
 mod records;
@@ -15,3 +16,6 @@ mod texts;
 mod wording;
 
 pub use calls::call;
+
+#[cfg(test)]
+mod tests;

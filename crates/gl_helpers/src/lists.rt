@@ -41,7 +41,7 @@ pub fn includes(items: &[Value], value: &Value) -> bool
 fn array(alloc: Global, values: &[Value]) -> Result<List, AllocError>
     ensures { IfOk result (λ l. l ≡ seen_items values.now) }
 {
-    let mut list = List::new(alloc);
+    let mut list = List::from_vec(Vec::with_capacity(alloc, values.len())?);
     for value in values {
         list.push(value.copy()?)?;
     }
@@ -122,7 +122,7 @@ fn without_property(
 fn pluck(alloc: Global, items: &[Value], name: &Text) -> Result<List, AllocError>
     ensures { IfOk result (λ l. l ≡ map (property name.now) (seen_items items.now)) }
 {
-    let mut list = List::new(alloc);
+    let mut list = List::from_vec(Vec::with_capacity(alloc, items.len())?);
     for item in items {
         list.push(item.property(name.as_str())?)?;
     }

@@ -65,17 +65,13 @@ fn push_pairs(out: &mut Record, pairs: &[Pair]) -> Result<(), AllocError>
 
 // The record of the pairs with a value at a key: in the place of the pair of that key, or else where the key
 // belongs in the order of bytes.
-fn put(
-    alloc: Global,
-    pairs: &[Pair],
-    key: &Text,
-    value: &Value,
-) -> Result<Record, AllocError>
+fn put(alloc: Global, pairs: &[Pair], key: &Text, value: &Value) -> Result<Record, AllocError>
     ensures value { IfOk result (λ r. r ≡ put_pair key.now (view value.now) (seen_pairs pairs.now)) }
     ensures keeps { IfOk result (λ r. KeepMembers (pairs_of (seen_pairs pairs.now)) → Keeps (view value.now) → KeepMembers (pairs_of r)) }
 {
     let (before, after) = around(pairs, key);
-    let mut record = Record::new(alloc);
+    let count = before.len() + 1 + after.len();
+    let mut record = Record::from_vec(Vec::with_capacity(alloc, count)?);
     push_pairs(&mut record, before)?;
     record.push(key.copy()?, value.copy()?)?;
     push_pairs(&mut record, after)?;
@@ -83,10 +79,7 @@ fn put(
 }
 
 // The values under their names, in the order of the names; of values with one name the last.
-fn by_name(
-    alloc: Global,
-    named: &[(Text, Value)],
-) -> Result<BTreeMap<String, &Value>, AllocError>
+fn by_name(alloc: Global, named: &[(Text, Value)]) -> Result<BTreeMap<String, &Value>, AllocError>
     ensures { IfOk result (λ m. seen_lent m.entries ≡ put_all [] (seen_entries named.now)) }
 {
     let mut map = BTreeMap::new(alloc);
@@ -139,7 +132,7 @@ fn update_where(alloc: Global, items: &[Value], update: &Update) -> Result<List,
     ensures value { IfOk result (λ l. l ≡ map (changed update.now.name.now (view update.now.is.now) update.now.key.now (view update.now.value.now)) (seen_items items.now)) }
     ensures keeps { IfOk result (λ l. KeepAll (values_of (seen_items items.now)) → Keeps (view update.now.value.now) → KeepAll (values_of l)) }
 {
-    let mut list = List::new(alloc);
+    let mut list = List::from_vec(Vec::with_capacity(alloc, items.len())?);
     for item in items {
         list.push(updated(alloc, item, update)?)?;
     }

@@ -52,6 +52,10 @@ pub fn written(alloc: Global, helper: Writing, args: &Arguments) -> Result<Text,
 {
     match helper {
         Writing::Concat => concat(alloc, args.all()),
-        Writing::Join => join(alloc, items_in(args.at(0)), text_in(alloc, args.at(1))?.text()),
+        Writing::Join => join(
+            alloc,
+            items_in(args.at(0)),
+            text_in(alloc, args.at(1))?.text(),
+        ),
     }
 }

@@ -15,7 +15,7 @@ loop-item-preserved c =
     record {
       whole = made_next (changed u.name.now (view u.is.now) u.key.now (view u.value.now)) (view item) (seen_items (drop (l.item-index + 1) c.args.items.now)) (view c.in_ok-updated.field-0) l.list c.push.new.self _ c.in_ok-updated.ensures.value c.in_ok-push.ensures.ok (rw here at l.invariant.whole);
       keeps = λ all value.
-        let k = l.invariant.keeps all value in
-        let rest = rw here at k.1 in
-        (rw c.in_ok-push.ensures.ok (KeepAll-append l.list (view c.in_ok-updated.field-0) k.0 (c.in_ok-updated.ensures.keeps rest.0 value)), rest.1);
+          let k = l.invariant.keeps all value in
+          let rest = rw here at k.1 in
+          (rw c.in_ok-push.ensures.ok (KeepAll-append l.list (view c.in_ok-updated.field-0) k.0 (c.in_ok-updated.ensures.keeps rest.0 value)), rest.1);
     }
