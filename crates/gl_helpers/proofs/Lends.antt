@@ -1,13 +1,12 @@
 -- A map of names with values that are lent.
-use Rattle.std.proofs.Common.{◌≡◌, ℕ, List, [], ◌∷◌, Bool, true, false, cond, refl, sym, ap, ◌∙◌}
+use Rattle.std.proofs.Common.{◌≡◌, ℕ, List, [], ◌∷◌, refl, sym, ap, ◌∙◌}
 use Rattle.std.specs.Prelude.{String, string_bytes}
 use Rattle.std.specs.Borrow.{Bor}
 use Rattle.std.specs.BTreeMap.{insert_entry}
-use Rattle.std.specs.Cmp.Lexicographic.{slice_cmp}
 use Rattle.std.specs.List.{AllByRecursion}
 use Rattle.std.specs.List.Sorted.{IsStrictlySortedBy}
 use Rattle.std.specs.Map.{keys_of}
-use Rattle.std.specs.Ordering.{nat_cmp, is_lt, match_ordering, ordering_reverse}
+use Rattle.std.specs.Ordering.{is_lt, match_ordering, ordering_reverse}
 use Rattle.std.specs.Str.{chars}
 use Rattle.std.specs.String.{string_cmp}
 use Rattle.std.specs.declared.alloc.Global.{Global}
@@ -15,7 +14,7 @@ use Rattle.std.specs.declared.cmp.Ordering.{Ordering}
 use Rattle.std.specs.declared.cmp.Ordering.TheVariants.{Less, Equal, Greater}
 use Rattle.std.proofs.lemmas.Map.Keys.{sorted_head, sorted_tail}
 use Rattle.std.proofs.lemmas.Str.{encodes-chars, IsUtf8-string_bytes}
-use Rattle.gl_base.specs.Texts.{Text, bytes_of}
+use Rattle.gl_base.specs.Texts.{Text}
 use Rattle.gl_value.specs.Value as v
 use Rattle.gl_value.specs.View.{view, Entry, seen_entries}
 use Rattle.gl_value.specs.Value.{pairs_of}

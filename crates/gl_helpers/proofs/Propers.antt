@@ -1,5 +1,5 @@
 -- What the helpers give of proper arguments keeps the bounds and the order of keys.
-use Rattle.std.proofs.Common.{◌≡◌, ◌≤◌, ℕ, zero, suc, ℤ, pos, negsuc, List, [], ◌∷◌, ◌++◌, Bool, true, false, cond, not, map, filter, reverse, refl, sym, ap, ◌∙◌, arith}
+use Rattle.std.proofs.Common.{◌≤◌, ℕ, zero, suc, ℤ, pos, List, [], ◌∷◌, ◌++◌, Bool, true, false, cond, not, map, filter, reverse, arith}
 use Rattle.std.specs.Prelude.{◌≤ℤ◌, ◌+ℤ◌, ◌-ℤ◌, ◌*ℤ◌, ◌&&◌, int_lt, length}
 use Rattle.std.specs.Bool.{beq}
 use Rattle.std.specs.Int.{int_min, int_max}
@@ -8,13 +8,13 @@ use Rattle.std.proofs.lemmas.Int.{ints, clamps}
 use Rattle.std.proofs.lemmas.List.{reverse-append}
 use Rattle.gl_base.specs.Texts.{Text}
 use Rattle.gl_base.specs.Names.{at_place}
-use Rattle.gl_value.specs.Value.{Value, undefined, null, boolean, integer, text, list, pairs, action, Values, no_values, value, Members, no_members, values_depth, values_count, values_of, list_of, truthy, text_of, property, properties, split}
+use Rattle.gl_value.specs.Value.{Value, undefined, null, boolean, integer, text, list, pairs, action, Values, no_values, value, values_depth, values_count, values_of, list_of, truthy, text_of, property, split}
 use Rattle.gl_value.specs.Helpers.{number_of, items_in, members_in, clamp, more_fixed, rest_of, first_with, length_value, at_places, is_before, raw_value, argument, has_property}
 use Rattle.gl_value.specs.Proper.{Keeps, KeepAll, KeepMembers, IsProper}
 use Rattle.gl_value.specs.Scalar.{least, greatest}
 use Rattle.gl_value.proofs.Keeping.{KeepAll-append}
 use Rattle.gl_value.proofs.Propers.{count_proper, property_proper, properties_proper}
-use Rattle.gl_value.proofs.Values.{values_of-list_of, list_of-values_of}
+use Rattle.gl_value.proofs.Values.{values_of-list_of}
 use Rattle.gl_helpers.specs.Records.{AllProper}
 use Rattle.gl_helpers.specs.View.{seen_choice, seen_number, seen_test, seen_listing, seen_writing}
 use Rattle.gl_helpers.specs.declared.helper.Choice.{Choice}

@@ -1,5 +1,5 @@
 -- Records as lists of keys with values.
-use Rattle.std.specs.Prelude.{◌≡◌, nat_eq, ℕ, List, [], ◌∷◌, Bool, true, false, ◌&&◌, if◌then◌else◌}
+use Rattle.std.specs.Prelude.{nat_eq, ℕ, List, [], ◌∷◌, ◌&&◌, if◌then◌else◌}
 use Rattle.std.specs.Str.{bytes_eq}
 use Rattle.std.specs.List.{AllByRecursion}
 use Rattle.std.specs.Ordering.{nat_cmp}

@@ -5,8 +5,6 @@ use Rattle.std.specs.Prelude.{nat_eq, ◌≤ℤ◌}
 use Rattle.gl_value.specs.Scalar.{least, greatest}
 use Rattle.std.proofs.lemmas.Result.{IfOk-weaker}
 use Rattle.gl_value.specs.Proper.{Keeps}
-use Rattle.gl_value.specs.View.{view}
-use Rattle.gl_helpers.specs.Records.{AllProper, NamedProper}
 use Rattle.gl_helpers.proofs.Propers.{choice_keeps, number_keeps, listing_keeps}
 use Rattle.gl_helpers.proofs.calls.raw.Goals as goal
 

@@ -1,10 +1,10 @@
-use Rattle.std.proofs.Common.{◌≡◌, [], ◌∙◌, ◌++◌, refl, sym, ap, inl, inr, length, take, drop, rules, ◌≤◌, arith, ◌+◌}
+use Rattle.std.proofs.Common.{◌≡◌, [], ◌∙◌, ◌++◌, refl, sym, ap, inl, inr, take, drop, ◌+◌}
 use Rattle.std.proofs.lemmas.List.{drop_all}
 use Rattle.gl_base.proofs.Lists.{drop_item}
 use Rattle.gl_value.specs.View.{seen_pair, seen_pairs}
 use Rattle.std.specs.declared.cmp.Ordering.TheVariants.{Less}
 use Rattle.gl_helpers.specs.Records.{text_order}
-use Rattle.gl_helpers.proofs.Puts.{Orders, put_ahead, put_next, keeps_put, pairs_more, whole_rest}
+use Rattle.gl_helpers.proofs.Puts.{put_ahead, put_next, keeps_put, pairs_more, whole_rest}
 use Rattle.gl_helpers.proofs.records.around.Goals as goal
 
 pub returns-in-Equal-clause-keeps : goal.returns-in-Equal-clause-keeps

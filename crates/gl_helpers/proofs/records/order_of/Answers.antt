@@ -1,4 +1,4 @@
-use Rattle.std.proofs.Common.{◌∙◌, sym, ap, rules}
+use Rattle.std.proofs.Common.{◌∙◌, sym, ap}
 use Rattle.std.specs.Str.{chars}
 use Rattle.gl_helpers.proofs.Orders.{equal_bytes}
 use Rattle.gl_helpers.proofs.records.order_of.Goals as goal

@@ -1,6 +1,6 @@
-use Rattle.std.proofs.Common.{◌∙◌, sym, ap}
+use Rattle.std.proofs.Common.{◌∙◌, ap}
 use Rattle.gl_value.specs.View.{view}
-use Rattle.gl_helpers.specs.Records.{changed, put_pair}
+use Rattle.gl_helpers.specs.Records.{put_pair}
 use Rattle.gl_helpers.proofs.Puts.{changed_record}
 use Rattle.gl_helpers.proofs.records.updated.Goals as goal
 
