@@ -15,7 +15,7 @@ use Rattle.gl_value.specs.Scalar.{least, greatest}
 use Rattle.gl_value.proofs.Keeping.{KeepAll-append}
 use Rattle.gl_value.proofs.Propers.{count_proper, property_proper, properties_proper}
 use Rattle.gl_value.proofs.Values.{values_of-list_of}
-use Rattle.gl_helpers.specs.Records.{AllProper}
+use Rattle.gl_helpers.specs.Proper.{AllProper}
 use Rattle.gl_helpers.specs.View.{seen_choice, seen_number, seen_test, seen_listing, seen_writing}
 use Rattle.gl_helpers.specs.declared.helper.Choice.{Choice}
 use Rattle.gl_helpers.specs.declared.helper.Choice.TheVariants as choice

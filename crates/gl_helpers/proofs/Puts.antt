@@ -13,7 +13,8 @@ use Rattle.gl_value.specs.Proper.{IsBefore, Keeps, KeepMembers}
 use Rattle.gl_value.specs.View.{seen_pair, seen_pairs}
 use Rattle.gl_value.specs.declared.value.Pair.{Pair}
 use Rattle.gl_value.proofs.Keeping.{KeepValues}
-use Rattle.gl_helpers.specs.Records.{text_order, put_pair, put_all, changed, NamedProper}
+use Rattle.gl_helpers.specs.Proper.{NamedProper}
+use Rattle.gl_helpers.specs.Records.{text_order, put_pair, put_all, changed}
 use Rattle.gl_helpers.proofs.Orders.{before_differs, before_not_after, after_differs, after_less, text_itself}
 
 module _ {O : Type 0} where

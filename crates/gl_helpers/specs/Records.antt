@@ -1,14 +1,12 @@
 -- Records as lists of keys with values.
 use Rattle.std.specs.Prelude.{nat_eq, ℕ, List, [], ◌∷◌, ◌&&◌, if◌then◌else◌}
 use Rattle.std.specs.Str.{bytes_eq}
-use Rattle.std.specs.List.{AllByRecursion}
 use Rattle.std.specs.Ordering.{nat_cmp}
 use Rattle.std.specs.declared.cmp.Ordering.{Ordering}
 use Rattle.std.specs.Cmp.Lexicographic.{slice_cmp}
 use Rattle.gl_base.specs.Texts.{Text, bytes_of}
 use Rattle.gl_value.specs.Value.{Value, pairs, same, property}
 use Rattle.gl_value.specs.Helpers.{text_less, put_member, members_in, is_record, not_deep}
-use Rattle.gl_value.specs.Proper.{IsProper}
 
 -- the order of two texts, by bytes
 abbrev pub text_order : Text → Text → Ordering
@@ -27,11 +25,3 @@ put_all ps (e ∷ es) = put_all (put_pair e.0 e.1 ps) es
 -- a record whose property n is the same as w, with y at the key k; any other value as it is
 abbrev pub changed : Text → Value ℕ → Text → Value ℕ → Value ℕ → Value ℕ
 changed n w k y v = if is_record v && same nat_eq (property n v) w then not_deep (pairs (put_member k y (members_in v))) else v
-
--- each argument is proper
-abbrev pub AllProper : {O : Type 0} → List (Value O) → Type 0
-AllProper vs = AllByRecursion IsProper vs
-
--- each named argument is proper
-abbrev pub NamedProper : {O : Type 0} → List (Text × Value O) → Type 0
-NamedProper es = AllByRecursion (λ e. IsProper e.1) es

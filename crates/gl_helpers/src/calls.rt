@@ -3,7 +3,7 @@ ghost use Rattle.std.specs.Prelude.{◌≡◌, ◌<◌, nat_eq, Some, option_map
 ghost use Rattle.gl_value.specs.Helpers.{helper_numbered, helper_value, raw_value};
 ghost use Rattle.gl_value.specs.Proper.{IsProper, Keeps};
 ghost use Rattle.gl_value.specs.View.{view, seen_items};
-ghost use Rattle.gl_helpers.specs.Records.{AllProper, NamedProper};
+ghost use Rattle.gl_helpers.specs.Proper.{AllProper, NamedProper};
 ghost use Rattle.gl_helpers.specs.View.{seen_helper};
 
 use crate::argument::Arguments;

@@ -7,7 +7,8 @@ ghost use Rattle.gl_value.specs.Value as v;
 ghost use Rattle.gl_value.specs.Value.{pairs_of, values_of};
 ghost use Rattle.gl_value.specs.View.{view, seen_items, seen_pairs, seen_entries};
 ghost use Rattle.gl_helpers.specs.Lent.{seen_lent};
-ghost use Rattle.gl_helpers.specs.Records.{text_order, put_pair, put_all, changed, AllProper, NamedProper};
+ghost use Rattle.gl_helpers.specs.Proper.{AllProper, NamedProper};
+ghost use Rattle.gl_helpers.specs.Records.{text_order, put_pair, put_all, changed};
 ghost use Rattle.gl_helpers.specs.View.{seen_change};
 
 use crate::argument::Arguments;
