@@ -12,3 +12,4 @@ pub mod Frees
 pub mod Trees
 pub mod Removing
 pub mod Views
+pub mod Callers

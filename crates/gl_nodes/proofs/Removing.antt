@@ -1,17 +1,17 @@
 -- The entries of a tree after a run was removed, and what the links of its nodes say.
-use Rattle.std.proofs.Common.{is_some, ◌≡◌, ◌≢◌, ℕ, zero, suc, ◌+◌, ◌<◌, ◌≤◌, Bool, true, false, Option, Some, None, option_map, IsSome, refl, sym, ap, subst, ◌∙◌, inl, inr, arith}
-use Rattle.std.specs.Prelude.{◌⊎◌, unwrap_or, if◌then◌else◌}
+use Rattle.std.proofs.Common.{◌≡◌, ℕ, ◌+◌, ◌<◌, ◌≤◌, true, false, Option, Some, None, option_map, IsSome, refl, sym, ap, subst, ◌∙◌, inl, inr, arith}
+use Rattle.std.specs.Prelude.{unwrap_or, if◌then◌else◌}
 use Rattle.std.proofs.lemmas.Bool.{cases_lt}
 use Rattle.gl_arena.specs.Id.{Id, same_id}
 use Rattle.gl_arena.specs.Arena.{Arena, named}
 use Rattle.gl_arena.proofs.Ids.{id_cases, same_id-true}
-use Rattle.gl_nodes.specs.Forest.{Forest, end, tree, joined, first, first_or, last_or, hit, times, either, below, below_node, after_node, edit, until, from, past, run, without, IsRun}
-use Rattle.gl_nodes.specs.Links.{Links, Look, Linked, Hangs, rooted, IsForest, amend, with_next, detached, first_of, next_of}
+use Rattle.gl_nodes.specs.Forest.{Forest, end, tree, first, last_or, hit, times, either, below, after_node, edit, until, from, past, run, without, IsRun}
+use Rattle.gl_nodes.specs.Links.{Look, Linked, Hangs, rooted, amend, with_next, detached, first_of, next_of}
 use Rattle.gl_nodes.specs.Tree.{first_in}
 use Rattle.gl_nodes.specs.View.{seen_links, nodes_of, links_of, IsTree}
 use Rattle.gl_nodes.specs.Freeing.{Frees}
 use Rattle.gl_nodes.specs.declared.links.Entry.{Entry}
-use Rattle.gl_nodes.proofs.Counts.{some_same, other_id, hit-same, hit-other, last_times}
+use Rattle.gl_nodes.proofs.Counts.{other_id, hit-same, hit-other, last_times}
 use Rattle.gl_nodes.proofs.Linking.{amend-other, Linked-hangs, Linked-with_next}
 use Rattle.gl_nodes.proofs.Forests.{IsForest-same, root_off, rooted-below, below_links}
 use Rattle.gl_nodes.proofs.Cutting.{cuts}

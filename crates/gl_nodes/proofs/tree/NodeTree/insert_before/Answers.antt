@@ -1,5 +1,4 @@
-use Rattle.std.proofs.Common.{◌≡◌, ◌+◌, ◌≤◌, ℕ, Some, IsSome, sym, ap, subst, ◌∙◌, arith}
-use Rattle.std.specs.Prelude.{unwrap_or}
+use Rattle.std.proofs.Common.{◌≡◌, ◌+◌, Some, IsSome, sym, ap, subst, ◌∙◌}
 use Rattle.gl_arena.specs.Arena.{named}
 use Rattle.gl_nodes.specs.Forest as f
 use Rattle.gl_nodes.specs.Links.{forest_in, amend, only_below, attached}

@@ -1,12 +1,7 @@
-use Rattle.std.proofs.Common.{◌≡◌, ◌+◌, Some, None, refl, sym, ap, subst, ◌∙◌}
-use Rattle.std.specs.Prelude.{unwrap_or}
-use Rattle.gl_arena.specs.Id.{Id}
-use Rattle.gl_arena.specs.Arena.{Arena}
-use Rattle.gl_nodes.specs.Forest.{Forest, below, edit, moved, without, IsRun, IsAmong}
-use Rattle.gl_nodes.specs.Links.{forest_in, attached, detached, parent_of}
+use Rattle.std.proofs.Common.{Some, sym, ap, subst, ◌∙◌}
+use Rattle.gl_nodes.specs.Links.{forest_in}
 use Rattle.gl_nodes.specs.Tree.{CanMove, Moves}
-use Rattle.gl_nodes.specs.View.{seen_range, links_of, nodes_of, IsTree}
-use Rattle.gl_nodes.specs.declared.links.Entry.{Entry}
+use Rattle.gl_nodes.specs.View.{seen_range, links_of, IsTree}
 use Rattle.gl_nodes.proofs.Trees.{moved_tree, kept, shown}
 use Rattle.gl_nodes.proofs.tree.NodeTree.move_range.Goals as goal
 use Rattle.gl_nodes.proofs.tree.NodeTree.move_range.Goals.{in-Empty, in-Nodes}

@@ -1,9 +1,8 @@
-use Rattle.std.proofs.Common.{◌≡◌, Some, None, refl, sym, ap, subst, ◌∙◌}
+use Rattle.std.proofs.Common.{◌≡◌, Some, refl, sym, ap, subst, ◌∙◌}
 use Rattle.std.specs.Prelude.{unwrap_or}
-use Rattle.gl_arena.specs.Arena.{named}
 use Rattle.gl_nodes.specs.Forest.{Forest, below, edit, run, without, IsRun}
 use Rattle.gl_nodes.specs.Links.{forest_in, detached, parent_of}
-use Rattle.gl_nodes.specs.Tree.{Tree, CanRemove, Removes, Loses}
+use Rattle.gl_nodes.specs.Tree.{Tree, CanRemove, Removes}
 use Rattle.gl_nodes.specs.Freeing.{Frees}
 use Rattle.gl_nodes.specs.View.{seen_range, links_of, nodes_of, IsTree}
 use Rattle.gl_nodes.proofs.Trees.{kept, shown, parent_is}

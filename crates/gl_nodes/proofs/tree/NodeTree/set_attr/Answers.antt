@@ -1,6 +1,5 @@
-use Rattle.std.proofs.Common.{◌≡◌, ◌≢◌, Some, None, option_map, IsSome, refl, sym, ap, subst, ◌∙◌}
+use Rattle.std.proofs.Common.{option_map, IsSome, sym, ap, subst, ◌∙◌}
 use Rattle.std.specs.Str.{chars}
-use Rattle.gl_arena.specs.Id.{Id}
 use Rattle.gl_arena.specs.Arena.{named}
 use Rattle.gl_nodes.specs.Node.{attributed}
 use Rattle.gl_nodes.specs.Links.{forest_in}
