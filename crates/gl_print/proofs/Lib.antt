@@ -1,2 +1,4 @@
 pub mod Walks
 pub mod Indents
+pub mod Looking
+pub mod Printings

@@ -1,5 +1,6 @@
 -- The numbers of nodes.
-use Rattle.std.specs.Prelude.{◌≡◌, ℕ, suc, List, [], ◌∷◌, ◌++◌, Option, Some, None, if◌then◌else◌}
+use Rattle.std.specs.Prelude.{◌≡◌, ℕ, suc, List, [], ◌∷◌, ◌++◌, Option, Some, None, if◌then◌else◌, refl}
+use Rattle.std.specs.Coded.{Coded, code_by, coded×, coded_ℕ, coded_list}
 use Rattle.gl_arena.specs.Id.{Id, same_id}
 use Rattle.gl_nodes.specs.Forest.{Forest, end, tree}
 
@@ -30,3 +31,8 @@ number_one None next i rest = with_number i next (rest (suc next))
 abbrev pub number_from : (Id → Option ℕ) → ℕ → List Id → Numbers
 number_from old next [] = record { of = []; next = next }
 number_from old next (i ∷ is) = number_one (old i) next i (λ n. number_from old n is)
+
+abbrev pub numbers_code : Coded Numbers
+numbers_code =
+    code_by (List ((ℕ × ℕ) × ℕ) × ℕ) (coded× (coded_list (coded× (coded× coded_ℕ coded_ℕ) coded_ℕ)) coded_ℕ)
+    (λ m. (m.of, m.next)) (λ p. record { of = p.0; next = p.1 }) (λ _. refl)

@@ -4,4 +4,6 @@ use Rattle.gl_print.proofs.Indents.{indent-more}
 use Rattle.gl_print.proofs.lines.push_indent.Goals as goal
 
 pub loop-preserved : goal.loop-preserved
-loop-preserved c = ?
+loop-preserved c =
+    (c.in_ok-push_ascii.ensures {u = tt}).ok
+    ∙ (ap (λ t. t ++ 32 ∷ 32 ∷ []) c.loop.invariant ∙ (append_assoc c.args.out.now (indent c.loop.counter) (32 ∷ 32 ∷ []) ∙ ap (λ t. c.args.out.now ++ t) (indent-more c.loop.counter)))
