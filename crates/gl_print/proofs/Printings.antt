@@ -1,5 +1,5 @@
 -- One pass gives the lines over the numbers that nodes have afterwards.
-use Rattle.std.proofs.Common.{◌≡◌, ◌≢◌, ℕ, zero, suc, ◌+◌, ◌<◌, ◌≤◌, Bool, true, false, List, [], ◌∷◌, ◌++◌, Option, Some, None, refl, sym, ap, subst, ◌∙◌, inl, inr, arith, append_assoc}
+use Rattle.std.proofs.Common.{◌≡◌, ◌≢◌, ℕ, zero, suc, ◌+◌, ◌<◌, ◌≤◌, Bool, true, false, List, [], ◌∷◌, ◌++◌, Option, Some, None, refl, sym, ap, subst, ◌∙◌, inl, inr, arith, append_assoc, append-nil}
 use Rattle.std.specs.Prelude.{◌⊎◌, if◌then◌else◌, unwrap_or}
 use Rattle.gl_base.specs.Texts.{Text}
 use Rattle.gl_arena.specs.Id.{Id, same_id}
@@ -100,8 +100,8 @@ module _ (old : Id → Option ℕ) where
         let own : unwrap_or (at s.1 (number_from old next (nodes_in (s ∷ ss))).of) 0 ≡ n = ap (λ l. unwrap_or (at s.1 l) 0) all ∙ ap (λ o. unwrap_or o 0) (at-here s.1 n rest) in
         let tail = printed-lined (after (old s.1) next) ss (λ x. let o = once x in omega (arith, o)) in
         let same = lined-same (λ i. unwrap_or (at i rest) 0) (λ i. unwrap_or (at i (number_from old next (nodes_in (s ∷ ss))).of) 0) ss (λ x lt.
-          let off : x ≢ s.1 = λ e. let q = ap (hit x) (sym e) in let one = hit-same x in let o = once x in absurd (omega (arith, q, one, o, lt)) in
-          sym (ap (λ l. unwrap_or (at x l) 0) all ∙ ap (λ o. unwrap_or o 0) (at-other x s.1 n rest off))) in
+        let off : x ≢ s.1 = λ e. let q = ap (hit x) (sym e) in let one = hit-same x in let o = once x in absurd (omega (arith, q, one, o, lt)) in
+        sym (ap (λ l. unwrap_or (at x l) 0) all ∙ ap (λ o. unwrap_or o 0) (at-other x s.1 n rest off))) in
         ap (λ m. node_line (indent s.0) m (node s.1) ++ printed old node (after (old s.1) next) ss) (sym own)
         ∙ ap (λ t. node_line (indent s.0) (unwrap_or (at s.1 (number_from old next (nodes_in (s ∷ ss))).of) 0) (node s.1) ++ t) (tail ∙ same)
 
@@ -128,3 +128,56 @@ module _ (old : Id → Option ℕ) where
             (ap (λ o. either o (m' i)) absent ∙ (own ∙ sym (ap (λ l. either (at i l) (m i)) all ∙ ap (λ o. either o (m i)) (at-here i n rest))))
         | inr ne ↦ ap (λ o. either (at x rest) o) (others x ne) ∙ sym (ap (λ l. either (at x l) (m x)) all ∙ ap (λ o. either o (m x)) (at-other x i n rest ne))
       ]
+
+-- What was printed and numbered, and what is left.
+pub record Prints (old : Id → Option ℕ) (start : ℕ) (node : Id → Option Node) (f : Forest) (out : Text) (now : List (Id × ℕ)) (next : ℕ) (left : List (ℕ × Id)) : Type 0 where
+  pub once : (x : Id) → occurs x left ≤ 1
+  pub text : out ++ printed old node next left ≡ printed old node start (stops 0 f)
+  pub of : (x : Id) → either (at x (number_from old next (nodes_in left)).of) (at x now) ≡ at x (number_from old start (ids f)).of
+  pub last : (number_from old next (nodes_in left)).next ≡ (number_from old start (ids f)).next
+
+either_none : (o : Option ℕ) → either o None ≡ o
+either_none None = refl
+either_none (Some n) = refl
+
+pub prints_begin : (old : Id → Option ℕ) (start : ℕ) (node : Id → Option Node) (f : Forest) (now : List (Id × ℕ)) (next : ℕ) (left : List (ℕ × Id)) → ((x : Id) → times x f ≤ 1)
+    → now ≡ [] → next ≡ start → left ≡ stops 0 f → Prints old start node f [] now next left
+prints_begin old start node f now next left once none same all =
+    subst (λ s. Prints old start node f [] now next s) (sym all) (subst (λ n. Prints old start node f [] now n (stops 0 f)) (sym same) (subst (λ l. Prints old start node f [] l start (stops 0 f)) (sym none) (record {
+      once = λ x. let o = once x in let q = occurs-stops x 0 f in omega (arith, o, q);
+      text = refl;
+      of = λ x. either_none (at x (number_from old start (nodes_in (stops 0 f))).of) ∙ ap (λ l. at x (number_from old start l).of) (nodes_in-stops 0 f);
+      last = ap (λ l. (number_from old start l).next) (nodes_in-stops 0 f);
+    })))
+
+pub prints_go : (old : Id → Option ℕ) (start : ℕ) (node : Id → Option Node) (f : Forest) (out out' : Text) (now now' : List (Id × ℕ)) (next next' : ℕ) (left : List (ℕ × Id)) (s : ℕ × Id) (ss : List (ℕ × Id))
+    → left ≡ s ∷ ss → Prints old start node f out now next left → out' ≡ out ++ node_line (indent s.0) (given (old s.1) next) (node s.1)
+    → at s.1 now' ≡ Some (given (old s.1) next) → ((x : Id) → x ≢ s.1 → at x now' ≡ at x now) → next' ≡ after (old s.1) next → Prints old start node f out' now' next' ss
+prints_go old start node f out out' now now' next next' left s ss is p wrote own others goes =
+    let q : Prints old start node f out now next (s ∷ ss) = subst (λ l. Prints old start node f out now next l) is p in
+    subst (λ m. Prints old start node f out' now' m ss) (sym goes) (record {
+      once = λ x. let o = q.once x in omega (arith, o);
+      text = ap (λ t. t ++ printed old node (after (old s.1) next) ss) wrote
+          ∙ (append_assoc out (node_line (indent s.0) (given (old s.1) next) (node s.1)) (printed old node (after (old s.1) next) ss) ∙ q.text);
+      of = λ x. step-of old next s.0 s.1 ss (λ k. at k now) (λ k. at k now') q.once own others x ∙ q.of x;
+      last = sym (number_from-next old next s.1 (nodes_in ss)) ∙ q.last;
+    })
+
+-- at the end
+pub prints_text : (old : Id → Option ℕ) (start : ℕ) (node : Id → Option Node) (f : Forest) (out : Text) (now : List (Id × ℕ)) (next : ℕ) (left : List (ℕ × Id)) → left ≡ [] → ((x : Id) → times x f ≤ 1)
+    → Prints old start node f out now next left → out ≡ lines node (λ i. unwrap_or (at i now) 0) [] f
+prints_text old start node f out now next left none once p =
+    let q : Prints old start node f out now next [] = subst (λ l. Prints old start node f out now next l) none p in
+    sym (append-nil out) ∙ (q.text ∙ printed-lines old node start f (λ i. at i now) once q.of)
+
+pub prints_of : (old : Id → Option ℕ) (start : ℕ) (node : Id → Option Node) (f : Forest) (out : Text) (now : List (Id × ℕ)) (next : ℕ) (left : List (ℕ × Id)) → left ≡ []
+    → Prints old start node f out now next left → (x : Id) → at x now ≡ at x (number_from old start (ids f)).of
+prints_of old start node f out now next left none p = (subst (λ l. Prints old start node f out now next l) none p).of
+
+pub prints_next : (old : Id → Option ℕ) (start : ℕ) (node : Id → Option Node) (f : Forest) (out : Text) (now : List (Id × ℕ)) (next : ℕ) (left : List (ℕ × Id)) → left ≡ []
+    → Prints old start node f out now next left → next ≡ (number_from old start (ids f)).next
+prints_next old start node f out now next left none p = (subst (λ l. Prints old start node f out now next l) none p).last
+
+pub none_is : {A : Type 0} (o : Option A) → ((x : A) → o ≡ Some x → ⊥) → o ≡ None
+none_is None h = refl
+none_is (Some x) h = absurd (h x refl)

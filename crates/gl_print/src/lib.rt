@@ -3,8 +3,10 @@
 
 mod lines;
 mod numbers;
-mod pairs;
 mod printing;
 #[cfg(test)]
 mod tests;
 mod walk;
+
+pub use numbers::Numbers;
+pub use printing::print;

@@ -38,6 +38,17 @@ impl Numbers {
         }
     }
 
+    // The same next number, and no node with a number.
+    pub(crate) fn emptied(&self, alloc: Global) -> Numbers
+        ensures of { result.of ≡ [] }
+        ensures next { result.next ≡ self.now.next }
+    {
+        Numbers {
+            next: self.next,
+            pairs: BTreeMap::new(alloc),
+        }
+    }
+
     /// The number of a node.
     pub fn number(&self, node: NodeId) -> Option<u128>
         ensures { result ≡ n.at node self.now.of }

@@ -1,1 +1,2 @@
-// tests
+// Trees that are printed.
+use super::*;

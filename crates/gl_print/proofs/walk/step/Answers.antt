@@ -51,3 +51,6 @@ loop-walk-preserved c =
       at = subst (IsIn f) (sym c.next-walk.ensures.sibling) (sibling_in f c.in-Some-pop.id c.requires.sound.once split.1);
       above = split.0;
     }
+
+pub returns-in-Some-clause-stands : goal.returns-in-Some-clause-stands
+returns-in-Some-clause-stands c = subst (IsIn c.args.tree.now.forest) c.in-Some.is c.loop-walk.invariant.at
