@@ -1,5 +1,5 @@
 -- The numbers of nodes.
-use Rattle.std.specs.Prelude.{◌≡◌, ℕ, suc, List, [], ◌∷◌, ◌++◌, Option, Some, None, if◌then◌else◌, refl}
+use Rattle.std.specs.Prelude.{ℕ, suc, ◌==◌, List, [], ◌∷◌, ◌++◌, Option, Some, None, if◌then◌else◌, refl}
 use Rattle.std.specs.Coded.{Coded, code_by, coded×, coded_ℕ, coded_list}
 use Rattle.gl_arena.specs.Id.{Id, same_id}
 use Rattle.gl_nodes.specs.Forest.{Forest, end, tree}
@@ -36,3 +36,22 @@ abbrev pub numbers_code : Coded Numbers
 numbers_code =
     code_by (List ((ℕ × ℕ) × ℕ) × ℕ) (coded× (coded_list (coded× (coded× coded_ℕ coded_ℕ) coded_ℕ)) coded_ℕ)
     (λ m. (m.of, m.next)) (λ p. record { of = p.0; next = p.1 }) (λ _. refl)
+
+-- the node of a number
+abbrev pub node_of : ℕ → List (Id × ℕ) → Option Id
+node_of n [] = None
+node_of n (p ∷ ps) = if n == p.1 then Some p.0 else node_of n ps
+
+-- the first that is there
+abbrev pub first_of : Option ℕ → Option ℕ → Option ℕ
+first_of None o = o
+first_of (Some n) o = Some n
+
+-- the numbers once the new node of a pair has that of the old one, where the old one has a number
+unfoldable pub given_on : (Id → Option ℕ) → Id × Id → Id → Option ℕ
+given_on m p i = if same_id i p.1 then first_of (m p.0) (m i) else m i
+
+-- the same for pairs of old and new nodes, one after another
+abbrev pub carried : (Id → Option ℕ) → List (Id × Id) → Id → Option ℕ
+carried m [] = m
+carried m (p ∷ ps) = carried (given_on m p) ps

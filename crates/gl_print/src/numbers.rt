@@ -3,6 +3,7 @@ ghost use Rattle.std.specs.Prelude.{◌≡◌, ◌≢◌, ◌+◌, [], Some, Non
 ghost use Rattle.gl_arena.specs.Id.{Id};
 ghost use Rattle.gl_print.specs.Numbers as n;
 
+use crate::NodePairs;
 use gl_nodes::NodeId;
 use std::alloc::{AllocError, Global};
 use std::collections::BTreeMap;
@@ -54,6 +55,39 @@ impl Numbers {
         ensures { result ≡ n.at node self.now.of }
     {
         self.pairs.get(&node).copied()
+    }
+
+    /// The node of a number.
+    pub fn node(&self, number: u128) -> Option<NodeId>
+        ensures { result ≡ n.node_of number self.now.of }
+    {
+        for (node, given) in self.pairs.iter() {
+            if number == *given {
+                return Some(*node);
+            }
+        }
+        None
+    }
+
+    /// Gives each new node the number of its old one, where that has a number, and leaves all other numbers.
+    pub fn carry(&mut self, pairs: &NodePairs) -> Result<(), AllocError>
+        ensures of { OnOk result ((λ i. n.at i self.new.of) ≡ n.carried (λ i. n.at i self.old.of) pairs.now) }
+        ensures next { self.new.next ≡ self.old.next }
+    {
+        for pair in pairs.as_slice() {
+            self.carry_one(pair)?;
+        }
+        Ok(())
+    }
+
+    fn carry_one(&mut self, pair: &(NodeId, NodeId)) -> Result<(), AllocError>
+        ensures of { OnOk result ((λ i. n.at i self.new.of) ≡ n.given_on (λ i. n.at i self.old.of) pair.now) }
+        ensures next { self.new.next ≡ self.old.next }
+    {
+        match self.number(pair.0) {
+            Some(number) => self.put(pair.1, number),
+            None => Ok(()),
+        }
     }
 
     // Gives a node a number.

@@ -1,7 +1,6 @@
-use Rattle.std.proofs.Common.{◌≡◌, ◌<◌, ◌++◌, ◌∷◌, [], IfSome, Some, None, Ok, option_to_list, sym, ap, subst, ◌∙◌}
+use Rattle.std.proofs.Common.{◌≡◌, ◌<◌, ◌++◌, ◌∷◌, [], IfSome, Ok, option_to_list, sym, ap, subst, ◌∙◌}
 use Rattle.gl_nodes.specs.Forest.{times}
 use Rattle.gl_nodes.specs.Tree.{node_at}
-use Rattle.gl_nodes.specs.View.{seen_node}
 use Rattle.gl_print.specs.Numbers.{at}
 use Rattle.gl_print.specs.Walk.{left}
 use Rattle.gl_print.proofs.Printings.{Prints, prints_begin, prints_go, prints_text, none_is}
