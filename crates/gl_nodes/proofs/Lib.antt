@@ -1,0 +1,15 @@
+pub mod Counts
+pub mod Linking
+pub mod Joining
+pub mod Placing
+pub mod Attaching
+pub mod Forests
+pub mod Cutting
+pub mod Steps
+pub mod Entries
+pub mod AttrsLaws
+pub mod Frees
+pub mod Trees
+pub mod Removing
+pub mod Views
+pub mod Callers

@@ -1,0 +1,57 @@
+-- The numbers of nodes.
+use Rattle.std.specs.Prelude.{ℕ, suc, ◌==◌, List, [], ◌∷◌, ◌++◌, Option, Some, None, if◌then◌else◌, refl}
+use Rattle.std.specs.Coded.{Coded, code_by, coded×, coded_ℕ, coded_list}
+use Rattle.gl_arena.specs.Id.{Id, same_id}
+use Rattle.gl_nodes.specs.Forest.{Forest, end, tree}
+
+-- the numbers that nodes have, and the next one that is given
+pub record Numbers : Type 0 where
+  pub of : List (Id × ℕ)
+  pub next : ℕ
+
+-- the number of a node
+abbrev pub at : Id → List (Id × ℕ) → Option ℕ
+at i [] = None
+at i (p ∷ ps) = if same_id i p.0 then Some p.1 else at i ps
+
+-- the nodes in document order
+abbrev pub ids : Forest → List Id
+ids end = []
+ids (tree i k r) = i ∷ (ids k ++ ids r)
+
+abbrev pub with_number : Id → ℕ → Numbers → Numbers
+with_number i n rest = record { of = (i, n) ∷ rest.of; next = rest.next }
+
+abbrev pub number_one : Option ℕ → ℕ → Id → (ℕ → Numbers) → Numbers
+number_one (Some n) next i rest = with_number i n (rest next)
+number_one None next i rest = with_number i next (rest (suc next))
+
+-- A node that has a number keeps it. The others take the next one and the following ones, in document order. The numbers
+-- of nodes that are gone are dropped.
+abbrev pub number_from : (Id → Option ℕ) → ℕ → List Id → Numbers
+number_from old next [] = record { of = []; next = next }
+number_from old next (i ∷ is) = number_one (old i) next i (λ n. number_from old n is)
+
+abbrev pub numbers_code : Coded Numbers
+numbers_code =
+    code_by (List ((ℕ × ℕ) × ℕ) × ℕ) (coded× (coded_list (coded× (coded× coded_ℕ coded_ℕ) coded_ℕ)) coded_ℕ)
+    (λ m. (m.of, m.next)) (λ p. record { of = p.0; next = p.1 }) (λ _. refl)
+
+-- the node of a number
+abbrev pub node_of : ℕ → List (Id × ℕ) → Option Id
+node_of n [] = None
+node_of n (p ∷ ps) = if n == p.1 then Some p.0 else node_of n ps
+
+-- the first that is there
+abbrev pub first_of : Option ℕ → Option ℕ → Option ℕ
+first_of None o = o
+first_of (Some n) o = Some n
+
+-- the numbers once the new node of a pair has that of the old one, where the old one has a number
+unfoldable pub given_on : (Id → Option ℕ) → Id × Id → Id → Option ℕ
+given_on m p i = if same_id i p.1 then first_of (m p.0) (m i) else m i
+
+-- the same for pairs of old and new nodes, one after another
+abbrev pub carried : (Id → Option ℕ) → List (Id × Id) → Id → Option ℕ
+carried m [] = m
+carried m (p ∷ ps) = carried (given_on m p) ps
