@@ -6,6 +6,7 @@ mod decode;
 mod expression;
 mod fault;
 mod item;
+mod scan;
 mod words;
 
 pub use fault::ParseFault;
