@@ -1,12 +1,14 @@
 -- Laws of the texts that tokens stand for.
-use Rattle.std.proofs.Common.{◌≡◌, ◌≤◌, ◌<◌, ◌+◌, ◌-◌, ℕ, zero, suc, List, [], ◌∷◌, ◌++◌, Bool, true, false, length, take, drop, refl, sym, ap, ◌∙◌, append_assoc, append-nil, arith}
-use Rattle.std.specs.Prelude.{if◌then◌else◌, cond, Some, None, is_some, nat_eq, not, ◌&&◌, ◌==◌}
+use Rattle.std.proofs.Common.{◌≡◌, ◌≤◌, ◌<◌, ◌+◌, ◌-◌, ◌*◌, ℕ, zero, suc, List, [], ◌∷◌, ◌++◌, Bool, true, false, length, take, drop, refl, sym, ap, ◌∙◌, append_assoc, append-nil, arith}
+use Rattle.std.specs.Prelude.{if◌then◌else◌, cond, Some, None, is_some, nat_eq, nat_le, not, ◌&&◌, ◌==◌}
 use Rattle.std.specs.List.{prefix_len}
 use Rattle.std.specs.Str.{bytes_eq}
 use Rattle.std.proofs.lemmas.Bool.Decides.{nat_tests}
 use Rattle.gl_ast.specs.Scans.{begins}
 use Rattle.gl_ast.specs.TokenText.{unescaped, leads, ends_tag_name, end_name_of}
-use Rattle.gl_parse.specs.Pieces.{is_none_left, front, is_kept, end_name}
+use Rattle.gl_ast.specs.Words.{number_from}
+use Rattle.gl_value.specs.Value.{split, before_first}
+use Rattle.gl_parse.specs.Pieces.{is_none_left, front, is_kept, end_name, add_front}
 
 -- the first of several characters is not the last
 front_next : (c d : ℕ) (cs : List ℕ) → front (c ∷ d ∷ cs) ≡ c ∷ front (d ∷ cs)
@@ -76,3 +78,28 @@ name_more c d cs ws rest want all e f g k h =
     let same : nat_eq c c ≡ true = grind (arith, nat_tests) in
     let one : want ≡ c ∷ ws = f ∙ ap (λ x. x ∷ ws) g in
     sym (ends_not (ends_tag_name c) c (end_name cs) ws k same) ∙ ap (λ x. bytes_eq (end_name (c ∷ cs)) x) (sym one) ∙ ap (λ x. bytes_eq (end_name x) want) (sym e) ∙ h
+
+front_none : (v : List ℕ) (vs : List (List ℕ)) → add_front [] (v ∷ vs) ≡ v ∷ vs
+front_none v vs = refl
+
+pub split_front : (c : ℕ) (cs : List ℕ) → add_front [] (split c cs) ≡ split c cs
+split_front c [] = refl
+split_front c (x ∷ xs) = elim (nat_eq x c) as (λ b. add_front [] (if b then [] ∷ split c xs else before_first x (split c xs)) ≡ (if b then [] ∷ split c xs else before_first x (split c xs))) [
+  | true ↦ refl
+  | false ↦ first_is x (split c xs)
+] where
+  first_is : (x : ℕ) (vs : List (List ℕ)) → add_front [] (before_first x vs) ≡ before_first x vs
+  first_is x [] = refl
+  first_is x (v ∷ vs) = refl
+
+-- digits make a number no less
+number_grows : (n : ℕ) (cs : List ℕ) → n ≤ number_from n cs
+number_grows n [] = omega arith
+number_grows n (c ∷ cs) = let h = number_grows (n * 10 + (c - 48)) cs in omega arith
+
+-- where the number of the first digits is too large already
+pub number_too_large : (limit n c : ℕ) (cs old all : List ℕ) → old ≡ c ∷ cs → limit < n * 10 + (c - 48) → number_from n old ≡ number_from 0 all → nat_le (number_from 0 all) limit ≡ false
+number_too_large limit n c cs old all e h f =
+    let g = number_grows (n * 10 + (c - 48)) cs in
+    let same : number_from (n * 10 + (c - 48)) cs ≡ number_from 0 all = ap (λ x. number_from n x) (sym e) ∙ f in
+    grind (arith, nat_tests)

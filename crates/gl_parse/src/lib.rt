@@ -6,6 +6,8 @@ mod decode;
 mod expression;
 mod fault;
 mod item;
+mod number;
+mod path;
 mod scan;
 mod words;
 

@@ -1,10 +1,10 @@
 // What the texts of tokens stand for.
-ghost use Rattle.std.specs.Prelude.{◌≡◌, ◌++◌, ◌==◌, IfOk, OnOk, drop, take};
+ghost use Rattle.std.specs.Prelude.{◌≡◌, ◌++◌, ◌==◌, [], IfOk, OnOk, drop, take};
 ghost use Rattle.std.specs.Str.{bytes_eq};
 ghost use Rattle.std.specs.List.{prefix_len};
 ghost use Rattle.gl_ast.specs.Marks.{is_white};
 ghost use Rattle.gl_ast.specs.TokenText as text;
-ghost use Rattle.gl_parse.specs.Pieces.{is_none_left, is_kept, front};
+ghost use Rattle.gl_parse.specs.Pieces.{is_none_left, is_kept, front, some_word};
 
 use crate::scan::Scan;
 use gl_ast::{Names, Str};
@@ -133,4 +133,56 @@ pub fn is_end_of(tag: &Str, name: &Str) -> bool
         }
     }
     is_end(&want)
+}
+
+// Passes over the characters up to the first bar, and over the bar.
+fn skip_past_bar(scan: &mut Scan)
+    ensures { scan.new ≡ text.beyond 124 scan.old }
+{
+    while let Some(c) = scan.next() {
+        if c == '|' {
+            break;
+        }
+    }
+}
+
+// Adds a word, where it is not empty, and gives the empty one.
+fn add_word(alloc: Global, names: &mut Names, word: Str) -> Result<Str, AllocError>
+    ensures added { OnOk result (names.new ≡ names.old ++ some_word word) }
+    ensures empty { IfOk result (λ w. w ≡ []) }
+{
+    if word.is_empty() {
+        return Ok(word);
+    }
+    names.push(word)?;
+    Ok(Str::new(alloc))
+}
+
+// The words up to the first bar.
+fn words_to_bar(alloc: Global, scan: &mut Scan) -> Result<Names, AllocError>
+    ensures { IfOk result (λ ns. ns ≡ text.words (text.up_to 124 scan.old)) }
+{
+    let mut names = Names::new(alloc);
+    let mut word = Str::new(alloc);
+    while let Some(c) = scan.next() {
+        if c == '|' {
+            break;
+        }
+        if is_white(c) {
+            word = add_word(alloc, &mut names, word)?;
+        } else {
+            word.push_char(c)?;
+        }
+    }
+    let _ = add_word(alloc, &mut names, word)?;
+    Ok(names)
+}
+
+/// The names of parameters, which stand between two bars.
+pub fn parameters_of(alloc: Global, raw: &Str) -> Result<Names, AllocError>
+    ensures { IfOk result (λ ns. ns ≡ text.parameters_of raw.now) }
+{
+    let mut scan = Scan::new(raw);
+    skip_past_bar(&mut scan);
+    words_to_bar(alloc, &mut scan)
 }
