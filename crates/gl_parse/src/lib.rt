@@ -6,6 +6,7 @@ mod decode;
 mod expression;
 mod fault;
 mod item;
+mod name;
 mod number;
 mod path;
 mod scan;
