@@ -8,6 +8,7 @@ mod fault;
 mod item;
 mod name;
 mod number;
+mod operand;
 mod path;
 mod scan;
 mod words;

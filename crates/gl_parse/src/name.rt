@@ -4,6 +4,7 @@ ghost use Rattle.std.specs.List.{list_any};
 ghost use Rattle.std.specs.Str.{bytes_eq};
 ghost use Rattle.gl_base.specs.Answers.{Gives};
 ghost use Rattle.gl_base.specs.Names.{has_text};
+ghost use Rattle.gl_base.specs.Texts.{is_ascii_text};
 ghost use Rattle.gl_ast.specs.TokenText as text;
 ghost use Rattle.gl_ast.specs.Words.{reserved};
 ghost use Rattle.gl_parse.specs.Fault.{Fails};
@@ -46,6 +47,15 @@ pub fn is_reserved(name: &Str) -> bool
     ensures { result ≡ has_text name.now reserved }
 {
     is_one_of(&RESERVED, name)
+}
+
+/// Whether the name is this word of ASCII.
+#[tactic(auto, using(gl_base::proofs::Chars::chars_of_ascii))]
+pub fn is_text(name: &Str, word: &str) -> bool
+    requires { IsTrue (is_ascii_text word.now) }
+    ensures { result ≡ bytes_eq word.now name.now }
+{
+    name.is(word)
 }
 
 // Whether a dot stands in the text.
