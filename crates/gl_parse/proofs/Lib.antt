@@ -1,2 +1,5 @@
+pub mod Called
+pub mod Many
 pub mod Scanned
+pub mod Shorter
 pub mod TokenPieces
