@@ -2,4 +2,5 @@ pub mod Called
 pub mod Many
 pub mod Scanned
 pub mod Shorter
+pub mod ShorterValues
 pub mod TokenPieces

@@ -5,7 +5,7 @@ use Rattle.std.proofs.lemmas.Option.{option_and_then_some}
 use Rattle.gl_base.specs.Answers.{◌>>=◌}
 use Rattle.gl_ast.specs.declared.token.Token.{Token}
 use Rattle.gl_parse.specs.Fault.{Fails}
-use Rattle.gl_parse.specs.Take.{Taken, read_many}
+use Rattle.gl_parse.specs.Take.{Taken, read_many, with_front}
 use Rattle.gl_parse.specs.declared.fault.ParseFault.{ParseFault}
 use Rattle.gl_parse.specs.declared.fault.ParseFault.TheVariants as f
 
@@ -14,11 +14,7 @@ pub fails_on : {A B : Type 0} (e : ParseFault) (read : Option A) (all : Option B
 fails_on (f.NotInGrammar offset) read all h g = h g
 fails_on f.Memory read all h g = tt
 
--- a reading of a list and the rest, with a front before the list
-abbrev pub with_front : {A B : Type 0} → List A → Option (List A × B) → Option (List A × B)
-with_front front read = read >>= λ x. Some (front ++ x.0, x.1)
-
-with_front_nil : {A B : Type 0} (read : Option (List A × B)) → with_front [] read ≡ read
+pub with_front_nil : {A B : Type 0} (read : Option (List A × B)) → with_front [] read ≡ read
 with_front_nil None = refl
 with_front_nil (Some x) = refl
 
@@ -32,6 +28,9 @@ IsLeft starts one done ts all = (n : ℕ) × (length ts ≤ n) × (with_front do
 
 pub many_start : {A : Type 0} (starts : List Token → Bool) (one : List Token → Taken A) (ts : List Token) → IsLeft starts one [] ts (read_many starts one (length ts) ts)
 many_start starts one ts = (length ts, omega arith, with_front_nil (read_many starts one (length ts) ts))
+
+pub many_after : {A : Type 0} (starts : List Token → Bool) (one : List Token → Taken A) (done : List A) (ts : List Token) → IsLeft starts one done ts (with_front done (read_many starts one (length ts) ts))
+many_after starts one done ts = (length ts, omega arith, refl)
 
 step : {A : Type 0} (starts : List Token → Bool) (one : List Token → Taken A) (done : List A) (n : ℕ) (ts : List Token) (x : A × List Token) (all : Taken (List A)) → starts ts ≡ true → one ts ≡ Some x → with_front done (read_many starts one (suc n) ts) ≡ all → with_front (done ++ x.0 ∷ []) (read_many starts one n x.1) ≡ all
 unfolding read_many

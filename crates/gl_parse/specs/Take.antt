@@ -1,5 +1,5 @@
 -- The first token, by its kind.
-use Rattle.std.specs.Prelude.{ℕ, zero, suc, List, [], ◌∷◌, Bool, false, ◌&&◌, nat_eq, if◌then◌else◌, Option, Some, None}
+use Rattle.std.specs.Prelude.{ℕ, zero, suc, List, [], ◌∷◌, ◌++◌, Bool, false, ◌&&◌, nat_eq, if◌then◌else◌, Option, Some, None}
 use Rattle.std.specs.Str.{bytes_eq}
 use Rattle.gl_base.specs.Answers.{◌>>=◌}
 use Rattle.gl_base.specs.Texts.{Text}
@@ -67,3 +67,7 @@ unfoldable pub read_many : {A : Type 0} → (List Token → Bool) → (List Toke
 read_many starts one zero ts = if starts ts then None else Some ([], ts)
 read_many starts one (suc n) ts =
     if starts ts then (one ts >>= λ x. (read_many starts one n x.1 >>= λ more. Some (x.0 ∷ more.0, more.1))) else Some ([], ts)
+
+-- a reading of a list, with a front before the list
+abbrev pub with_front : {A B : Type 0} → List A → Option (List A × B) → Option (List A × B)
+with_front front read = read >>= λ x. Some (front ++ x.0, x.1)

@@ -11,6 +11,7 @@ mod number;
 mod operand;
 mod path;
 mod scan;
+mod value;
 mod words;
 
 pub use fault::ParseFault;
