@@ -1,4 +1,5 @@
 pub mod Called
+pub mod Items
 pub mod Many
 pub mod Scanned
 pub mod Shorter

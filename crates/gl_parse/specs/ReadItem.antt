@@ -1,8 +1,9 @@
 -- What an opening tag has, read from the front of the tokens.
-use Rattle.std.specs.Prelude.{ℕ, List, Bool, ◌&&◌, ◌||◌, drop, length, if◌then◌else◌, Option, Some, None, option_map}
+use Rattle.std.specs.Prelude.{ℕ, List, [], ◌∷◌, Bool, false, ◌&&◌, ◌||◌, drop, length, if◌then◌else◌, Option, Some, None, option_map}
 use Rattle.gl_base.specs.Answers.{◌>>=◌}
 use Rattle.gl_base.specs.Texts.{Text}
 use Rattle.gl_ast.specs.Grammar.{deepest_calls, Item, part_item, argument_item, after_comments, parts_among, arguments_among}
+use Rattle.gl_ast.specs.Settling.{is_comment}
 use Rattle.gl_ast.specs.Template.{AttrValue, Part, attribute, modifier, spread}
 use Rattle.gl_ast.specs.declared.token.Token.{Token}
 use Rattle.gl_ast.specs.declared.token.TokenKind.TheVariants as k
@@ -52,3 +53,8 @@ read_items component n ts =
 -- the parts and the arguments of a tag
 unfoldable pub read_tag_items : Bool → List Token → Taken (List Part × List (Text × AttrValue))
 read_tag_items component ts = option_map (λ is. ((parts_among is.0, arguments_among is.0), is.1)) (read_items component (length ts) ts)
+
+-- a mustache comment comes first
+abbrev pub starts_comment : List Token → Bool
+starts_comment [] = false
+starts_comment (t ∷ ts) = is_comment t.kind
