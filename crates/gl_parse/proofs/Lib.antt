@@ -1,6 +1,9 @@
 pub mod Called
+pub mod Chains
+pub mod Firsts
 pub mod Items
 pub mod Many
+pub mod NameLaws
 pub mod References
 pub mod Scanned
 pub mod Shorter
