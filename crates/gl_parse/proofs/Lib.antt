@@ -1,5 +1,6 @@
 pub mod Called
 pub mod Chains
+pub mod ExprLaws
 pub mod Firsts
 pub mod Items
 pub mod Many
@@ -8,4 +9,5 @@ pub mod References
 pub mod Scanned
 pub mod Shorter
 pub mod ShorterValues
+pub mod TokenLaws
 pub mod TokenPieces
