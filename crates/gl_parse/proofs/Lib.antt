@@ -9,5 +9,6 @@ pub mod References
 pub mod Scanned
 pub mod Shorter
 pub mod ShorterValues
+pub mod Starts
 pub mod TokenLaws
 pub mod TokenPieces
