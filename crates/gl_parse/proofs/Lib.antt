@@ -12,3 +12,4 @@ pub mod ShorterValues
 pub mod Starts
 pub mod TokenLaws
 pub mod TokenPieces
+pub mod ValueLaws
