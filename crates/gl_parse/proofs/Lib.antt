@@ -2,6 +2,7 @@ pub mod Called
 pub mod Chains
 pub mod ExprLaws
 pub mod Firsts
+pub mod ItemLaws
 pub mod Items
 pub mod Many
 pub mod NameLaws
