@@ -5,6 +5,7 @@ use Rattle.gl_base.specs.Answers.{◌>>=◌}
 use Rattle.gl_base.specs.Texts.{Text}
 use Rattle.gl_ast.specs.Grammar.{deepest_calls, deepest_nesting, part_item, parts_among, arguments_among, is_void, is_silent, if_word}
 use Rattle.gl_ast.specs.Marks.{is_small, is_capital}
+use Rattle.gl_ast.specs.Scans.{begins}
 use Rattle.gl_ast.specs.Settling.{settled}
 use Rattle.gl_ast.specs.Template.{Expr, Stmt, text_stmt, comment_stmt, put, element, component_stmt, if_stmt, each, let_stmt, yield, Body, end, stmt, no_slots, block, body_of, exprs_of}
 use Rattle.gl_ast.specs.TokenReading.{template_tokens, lone_tokens}
@@ -96,12 +97,20 @@ read_component inner c ts = do
     then option_map (λ t. (component_stmt c (parts_among items.0) (arguments_among items.0) no_slots, t.1)) (take_kind k.SelfEnd names.1)
     else option_map (λ b. (component_stmt c (parts_among items.0) (arguments_among items.0) (block (codes "default") names.0 b.0 no_slots), b.1)) (read_tagged inner c names.1)
 
--- an element or a component, by the first letter of its name
+-- a component or an element, by the first letter of its name
+unfoldable pub read_named_tag : Reader Body → Text → List Token → Taken Stmt
+read_named_tag inner name ts =
+    if leads is_capital name then read_component inner name ts else (if leads is_small name then read_element inner name ts else None)
+
+-- the name after `<`
+unfoldable pub opened_name : Text → Option Text
+opened_name x = if begins (60 ∷ []) x then Some (drop 1 x) else None
+
 unfoldable pub read_tag : Reader Body → List Token → Taken Stmt
 read_tag inner ts = do
   opening ← take_kind k.TagOpening ts
-  let name = drop 1 opening.0
-  if leads is_capital name then read_component inner name opening.1 else read_element inner name opening.1
+  name ← opened_name opening.0
+  read_named_tag inner name opening.1
 
 -- the key of an each
 unfoldable pub read_key : List Token → Taken Text
