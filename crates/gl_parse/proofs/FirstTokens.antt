@@ -1,5 +1,5 @@
 -- Laws of the first token.
-use Rattle.std.proofs.Common.{◌≡◌, ◌+◌, ℕ, zero, suc, List, [], ◌∷◌, Bool, true, false, ◌&&◌, Option, Some, None, length, refl, sym, ap, subst, ◌∙◌, arith, cond}
+use Rattle.std.proofs.Common.{◌≡◌, ◌+◌, ℕ, zero, suc, List, [], ◌∷◌, Bool, true, false, ◌&&◌, Option, Some, None, length, drop, refl, sym, ap, subst, ◌∙◌, arith, cond}
 use Rattle.std.specs.Prelude.{nat_eq}
 use Rattle.std.specs.Str.{bytes_eq}
 use Rattle.std.proofs.lemmas.Slice.Eq.{bytes_eq-Decides}
@@ -115,3 +115,14 @@ stands_some kind other Such ts us m = rw (m.1, m.2) refl
 pub takes_some : (kind : TokenKind) (Such : Text → Type 0) (ts us : List Token) (m : Stands kind Such ts us) → take_kind kind ts ≡ Some (m.0.text, us)
 unfolding take_kind
 takes_some kind Such ts us m = rw (m.1, is_same_kind m.0.kind kind m.2) refl
+
+-- what stands first
+pub stands_is : (kind : TokenKind) (ts : List Token) → stands kind ts ≡ true → (t : Token) × (us : List Token) × (ts ≡ t ∷ us) × (t.kind ≡ kind)
+unfolding stands
+stands_is kind [] e = let h : ⊥ = cc in absurd h
+stands_is kind (t ∷ ts) e = (t, ts, refl, same_kind_is t.kind kind e)
+
+pub stands_word_is : (w : Text) (ts : List Token) → stands_word w ts ≡ true → (t : Token) × (us : List Token) × (ts ≡ t ∷ us) × (t.kind ≡ k.Path) × (t.text ≡ w)
+unfolding stands_word
+stands_word_is w [] e = let h : ⊥ = cc in absurd h
+stands_word_is w (t ∷ ts) e = let both = and_true (same_kind t.kind k.Path) (bytes_eq t.text w) e in (t, ts, refl, same_kind_is t.kind k.Path both.0, bytes_eq_is t.text w both.1)

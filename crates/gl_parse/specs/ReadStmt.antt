@@ -20,14 +20,14 @@ use Rattle.gl_parse.specs.Take.{Taken, stands, stands_word, take_kind, take_word
 abbrev pub Reader : Type 0 → Type 0
 Reader A = List Token → Taken A
 
--- `{{` and the word else come first
-unfoldable pub stands_else : List Token → Bool
-stands_else [] = false
-stands_else (t ∷ ts) = stands k.OpenMustache (t ∷ ts) && stands_word (codes "else") ts
+-- `{{` and this word come first
+unfoldable pub stands_opened : Text → List Token → Bool
+stands_opened w [] = false
+stands_opened w (t ∷ ts) = stands k.OpenMustache (t ∷ ts) && stands_word w ts
 
 -- what ends a body: an end tag, the end of a block, an else
 unfoldable pub ends_body : List Token → Bool
-ends_body ts = stands k.EndTag ts || stands k.OpenClosing ts || stands_else ts
+ends_body ts = stands k.EndTag ts || stands k.OpenClosing ts || stands_opened (codes "else") ts
 
 -- statements, and silent tokens among them, of so many tokens at most, where `one` reads one of them
 unfoldable pub read_stmts : Reader Stmt → ℕ → List Token → Taken (List Stmt)
@@ -50,16 +50,12 @@ read_yield ts = do
   back ← take_kind k.CloseMustache values.1
   Some (yield (exprs_of values.0) (codes "default"), back.1)
 
-unfoldable pub stands_yield : List Token → Bool
-stands_yield [] = false
-stands_yield (t ∷ ts) = stands k.OpenMustache (t ∷ ts) && stands_word (codes "yield") ts
-
 -- a statement without another in it
 unfoldable pub read_flat : List Token → Taken Stmt
 read_flat ts =
     if stands k.Text ts then option_map (λ t. (text_stmt (decoded t.0), t.1)) (take_kind k.Text ts)
     else (if stands k.HtmlComment ts then option_map (λ t. (comment_stmt (comment_of t.0), t.1)) (take_kind k.HtmlComment ts)
-    else (if stands_yield ts then read_yield ts else option_map (λ e. (put e.0, e.1)) (read_mustache ts)))
+    else (if stands_opened (codes "yield") ts then read_yield ts else option_map (λ e. (put e.0, e.1)) (read_mustache ts)))
 
 -- an end tag of this name
 unfoldable pub take_end_tag : Text → List Token → Option (List Token)
@@ -176,7 +172,7 @@ read_after_else inner chained ts =
 
 unfoldable pub read_else : Reader Body → Reader Stmt → List Token → Taken Body
 read_else inner chained ts =
-    if stands_else ts then (do
+    if stands_opened (codes "else") ts then (do
       front ← take_kind k.OpenMustache ts
       word ← take_word (codes "else") front.1
       read_after_else inner chained word)
