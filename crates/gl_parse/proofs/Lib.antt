@@ -2,4 +2,5 @@ pub mod ExprLists
 pub mod FirstTokens
 pub mod FlatLaws
 pub mod Lower
+pub mod TagLaws
 pub mod Takings
