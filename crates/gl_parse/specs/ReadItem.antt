@@ -1,10 +1,10 @@
 -- What an opening tag has, read from the front of the tokens.
-use Rattle.std.specs.Prelude.{ℕ, zero, suc, List, [], ◌∷◌, Bool, ◌&&◌, ◌||◌, drop, if◌then◌else◌, Option, Some, None}
+use Rattle.std.specs.Prelude.{ℕ, zero, suc, List, [], ◌∷◌, Bool, ◌&&◌, ◌||◌, drop, length, if◌then◌else◌, Option, Some, None, option_map}
 use Rattle.gl_base.specs.Answers.{◌>>=◌}
 use Rattle.gl_base.specs.Texts.{Text}
-use Rattle.gl_ast.specs.Grammar.{deepest_calls, Item, part_item, argument_item}
+use Rattle.gl_ast.specs.Grammar.{deepest_calls, Item, part_item, argument_item, parts_among, arguments_among}
 use Rattle.gl_ast.specs.Settling.{is_comment}
-use Rattle.gl_ast.specs.Template.{attribute, modifier, spread}
+use Rattle.gl_ast.specs.Template.{AttrValue, Part, attribute, modifier, spread}
 use Rattle.gl_ast.specs.declared.token.Token.{Token}
 use Rattle.gl_ast.specs.declared.token.TokenKind.TheVariants as k
 use Rattle.gl_parse.specs.ReadExpr.{read_name, read_arguments, read_expr}
@@ -53,3 +53,7 @@ read_items component (suc n) (t ∷ ts) =
     if is_comment t.kind then read_items component n ts
     else (if starts_item component (t ∷ ts) then (read_item (t ∷ ts) >>= λ i. (read_items component n i.1 >>= λ more. Some (i.0 ∷ more.0, more.1)))
     else Some ([], t ∷ ts))
+
+-- the parts and the arguments of a tag
+unfoldable pub read_tag_items : Bool → List Token → Taken (List Part × List (Text × AttrValue))
+read_tag_items component ts = option_map (λ is. ((parts_among is.0, arguments_among is.0), is.1)) (read_items component (length ts) ts)

@@ -3,7 +3,7 @@ use Rattle.std.specs.Prelude.{ℕ, zero, suc, List, [], ◌∷◌, Bool, true, f
 use Rattle.std.specs.Str.{bytes_eq, is_utf8}
 use Rattle.gl_base.specs.Answers.{◌>>=◌}
 use Rattle.gl_base.specs.Texts.{Text}
-use Rattle.gl_ast.specs.Grammar.{deepest_calls, deepest_nesting, part_item, parts_among, arguments_among, is_void, is_silent, if_word}
+use Rattle.gl_ast.specs.Grammar.{deepest_calls, deepest_nesting, is_void, is_silent, if_word}
 use Rattle.gl_ast.specs.Marks.{is_small, is_capital}
 use Rattle.gl_ast.specs.Scans.{begins}
 use Rattle.gl_ast.specs.Settling.{settled}
@@ -13,7 +13,7 @@ use Rattle.gl_ast.specs.TokenText.{decoded, string_of, comment_of, end_name_of, 
 use Rattle.gl_ast.specs.declared.token.Token.{Token}
 use Rattle.gl_ast.specs.declared.token.TokenKind.TheVariants as k
 use Rattle.gl_parse.specs.ReadExpr.{read_exprs, read_expr, read_mustache}
-use Rattle.gl_parse.specs.ReadItem.{read_items}
+use Rattle.gl_parse.specs.ReadItem.{read_tag_items}
 use Rattle.gl_parse.specs.Take.{Taken, stands, stands_word, take_kind, take_word}
 
 -- how a reader of one statement, of a body and of a block's head look
@@ -77,9 +77,9 @@ read_element_rest inner tag ts =
 
 unfoldable pub read_element : Reader Body → Text → List Token → Taken Stmt
 read_element inner tag ts = do
-  items ← read_items false (length ts) ts
+  items ← read_tag_items false ts
   body ← read_element_rest inner tag items.1
-  Some (element tag (parts_among items.0) body.0, body.1)
+  Some (element tag items.0.0 body.0, body.1)
 
 -- `as |..|`, or no parameters
 unfoldable pub read_parameters : List Token → Taken (List Text)
@@ -87,11 +87,11 @@ read_parameters ts = if stands k.Parameters ts then option_map (λ t. (parameter
 
 unfoldable pub read_component : Reader Body → Text → List Token → Taken Stmt
 read_component inner c ts = do
-  items ← read_items true (length ts) ts
+  items ← read_tag_items true ts
   names ← read_parameters items.1
   if stands k.SelfEnd names.1
-    then option_map (λ t. (component_stmt c (parts_among items.0) (arguments_among items.0) no_slots, t.1)) (take_kind k.SelfEnd names.1)
-    else option_map (λ b. (component_stmt c (parts_among items.0) (arguments_among items.0) (block (codes "default") names.0 b.0 no_slots), b.1)) (read_tagged inner c names.1)
+    then option_map (λ t. (component_stmt c items.0.0 items.0.1 no_slots, t.1)) (take_kind k.SelfEnd names.1)
+    else option_map (λ b. (component_stmt c items.0.0 items.0.1 (block (codes "default") names.0 b.0 no_slots), b.1)) (read_tagged inner c names.1)
 
 -- a component or an element, by the first letter of its name
 unfoldable pub read_named_tag : Reader Body → Text → List Token → Taken Stmt

@@ -53,9 +53,9 @@ take_kind kind (t ∷ ts) = if same_kind t.kind kind then Some (t.text, ts) else
 -- the first token is a path that is this word
 unfoldable pub stands_word : Text → List Token → Bool
 stands_word w [] = false
-stands_word w (t ∷ ts) = same_kind t.kind k.Path && bytes_eq t.text w
+stands_word w (t ∷ ts) = same_kind t.kind k.Path && bytes_eq w t.text
 
 -- it is a path of this word, and these are the tokens after it
 unfoldable pub take_word : Text → List Token → Option (List Token)
 take_word w [] = None
-take_word w (t ∷ ts) = if same_kind t.kind k.Path && bytes_eq t.text w then Some ts else None
+take_word w (t ∷ ts) = if same_kind t.kind k.Path && bytes_eq w t.text then Some ts else None
