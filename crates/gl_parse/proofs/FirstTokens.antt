@@ -87,14 +87,14 @@ pub took_word : (w : Text) (ts us : List Token) → take_word w ts ≡ Some us �
 unfolding take_word
 took_word w [] us e = let h : ⊥ = cc in absurd h
 took_word w (t ∷ ts) us e =
-    let s = test_some (same_kind t.kind k.Path && bytes_eq t.text w) (Some ts) us e in
-    let both = and_true (same_kind t.kind k.Path) (bytes_eq t.text w) s.0 in
+    let s = test_some (same_kind t.kind k.Path && bytes_eq w t.text) (Some ts) us e in
+    let both = and_true (same_kind t.kind k.Path) (bytes_eq w t.text) s.0 in
     let r : ts ≡ us = cc (s.1) in
-    (t, ap (λ l. t ∷ l) r, same_kind_is t.kind k.Path both.0, bytes_eq_is t.text w both.1)
+    (t, ap (λ l. t ∷ l) r, same_kind_is t.kind k.Path both.0, sym (bytes_eq_is w t.text both.1))
 
 pub takes_word : (w : Text) (ts us : List Token) → Word w ts us → take_word w ts ≡ Some us
 unfolding take_word
-takes_word w ts us m = rw (m.1, is_same_kind m.0.kind k.Path m.2, is_bytes_eq m.0.text w m.3) refl
+takes_word w ts us m = rw (m.1, is_same_kind m.0.kind k.Path m.2, is_bytes_eq w m.0.text (sym m.3)) refl
 
 -- what the first token is, told by one kind of it
 pub stands_mark : (kind other : TokenKind) (ts us : List Token) → Mark kind ts us → stands other ts ≡ same_kind kind other
@@ -125,4 +125,4 @@ stands_is kind (t ∷ ts) e = (t, ts, refl, same_kind_is t.kind kind e)
 pub stands_word_is : (w : Text) (ts : List Token) → stands_word w ts ≡ true → (t : Token) × (us : List Token) × (ts ≡ t ∷ us) × (t.kind ≡ k.Path) × (t.text ≡ w)
 unfolding stands_word
 stands_word_is w [] e = let h : ⊥ = cc in absurd h
-stands_word_is w (t ∷ ts) e = let both = and_true (same_kind t.kind k.Path) (bytes_eq t.text w) e in (t, ts, refl, same_kind_is t.kind k.Path both.0, bytes_eq_is t.text w both.1)
+stands_word_is w (t ∷ ts) e = let both = and_true (same_kind t.kind k.Path) (bytes_eq w t.text) e in (t, ts, refl, same_kind_is t.kind k.Path both.0, sym (bytes_eq_is w t.text both.1))

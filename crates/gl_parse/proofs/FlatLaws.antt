@@ -104,7 +104,7 @@ reads_put ts e us m =
 -- a word after `{{`
 pub opened_word : (w : Text) (ts vs us : List Token) → Mark k.OpenMustache ts vs → Word w vs us → stands_opened w ts ≡ true
 unfolding stands_opened stands stands_word
-opened_word w ts vs us m n = rw (m.1, n.1, m.2, n.2, is_bytes_eq n.0.text w n.3) refl
+opened_word w ts vs us m n = rw (m.1, n.1, m.2, n.2, is_bytes_eq w n.0.text (sym n.3)) refl
 
 reads_yield : (ts : List Token) (es : Exprs) (us vs ws xs : List Token) → Mark k.OpenMustache ts vs → Word (codes "yield") vs ws → AreExprs deepest_calls ws es xs → Mark k.CloseMustache xs us → read_flat ts ≡ Some (yield es (codes "default"), us)
 unfolding read_flat read_yield starts_expr
