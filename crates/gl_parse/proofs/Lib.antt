@@ -1,3 +1,4 @@
+pub mod BlockLaws
 pub mod ExprLists
 pub mod FirstTokens
 pub mod FlatLaws
