@@ -168,3 +168,182 @@ else_is depth inner chained sound sound_head ts p e =
         ]
       | inr h ↦ subst P (some_is _ _ h.1) (inl (refl, refl))
     ]
+
+-- what is left closes a block
+abbrev pub Closes : List Token → Type 0
+Closes us = stands k.OpenClosing us ≡ true
+
+abbrev pub CompleteHead : ℕ → Reader Stmt → Type 0
+CompleteHead depth chained = (ts : List Token) (s : Stmt) (us : List Token) → Closes us → IsHead depth ts s us → chained ts ≡ Some (s, us)
+
+abbrev pub CompleteElse : ℕ → Reader Body → Type 0
+CompleteElse depth otherwise = (ts : List Token) (c : Body) (us : List Token) → Closes us → IsOtherwise depth ts c us → otherwise ts ≡ Some (c, us)
+
+second_of_three : (a b c : Bool) → b ≡ true → (a || b || c) ≡ true
+second_of_three true b c e = refl
+second_of_three false b c e = rw e refl
+
+third_of_three : (a b c : Bool) → c ≡ true → (a || b || c) ≡ true
+third_of_three true b c e = refl
+third_of_three false true c e = refl
+third_of_three false false c e = e
+
+closing_ends : (us : List Token) → Closes us → ends_body us ≡ true
+unfolding ends_body
+closing_ends us h = second_of_three (stands k.EndTag us) (stands k.OpenClosing us) (stands_opened (codes "else") us) h
+
+not_opened : (w : Text) (kind : TokenKind) (ts us : List Token) → Mark kind ts us → same_kind kind k.OpenMustache ≡ false → stands_opened w ts ≡ false
+unfolding stands_opened stands
+not_opened w kind ts us m e = rw (m.1, m.2, e) refl
+
+closing_no_else : (us : List Token) → Closes us → stands_opened (codes "else") us ≡ false
+closing_no_else us h = let m = stands_is k.OpenClosing us h in not_opened (codes "else") k.OpenClosing us m.1 (m.0, m.2, m.3) refl
+
+else_ends : (depth : ℕ) (ys : List Token) (c : Body) (us : List Token) → Closes us → IsOtherwise depth ys c us → ends_body ys ≡ true
+unfolding ends_body
+else_ends depth ys c us h (inl (e, f)) = rw e (second_of_three (stands k.EndTag us) (stands k.OpenClosing us) (stands_opened (codes "else") us) h)
+else_ends depth ys c us h (inr (vs, ws, m, w, r)) = third_of_three (stands k.EndTag ys) (stands k.OpenClosing ys) (stands_opened (codes "else") ys) (opened_word (codes "else") ys vs ws m w)
+
+-- what stands between a block's values and `}}`
+parameters_first : (ws xs ys : List Token) (ns : List Text) → AreParameters ws ns xs → Mark k.CloseMustache xs ys → (vs : List Token) × (Mark k.CloseMustache ws vs ⊎ Mark k.Parameters ws vs)
+parameters_first ws xs ys ns (inl (e, f)) m = (ys, inl (m.0, e ∙ m.1, m.2))
+parameters_first ws xs ys ns (inr p) m = (xs, inr (p.0, p.1, p.2))
+
+parameters_no : (kind : TokenKind) (ws xs ys : List Token) (ns : List Text) → AreParameters ws ns xs → Mark k.CloseMustache xs ys → same_kind k.CloseMustache kind ≡ false → same_kind k.Parameters kind ≡ false → stands kind ws ≡ false
+parameters_no kind ws xs ys ns p m e f =
+    let v = parameters_first ws xs ys ns p m in
+    elim v.1 [ inl n ↦ stands_mark k.CloseMustache kind ws v.0 n ∙ e | inr n ↦ stands_mark k.Parameters kind ws v.0 n ∙ f ]
+
+parameters_no_expr : (ws xs ys : List Token) (ns : List Text) → AreParameters ws ns xs → Mark k.CloseMustache xs ys → starts_expr ws ≡ false
+parameters_no_expr ws xs ys ns p m =
+    let v = parameters_first ws xs ys ns p m in
+    elim v.1 [ inl n ↦ no_expr k.CloseMustache ws v.0 n refl | inr n ↦ no_expr k.Parameters ws v.0 n refl ]
+
+reads_if : (depth : ℕ) (inner otherwise : Reader Body) → Complete depth inner → CompleteElse depth otherwise → (unless : Bool) (vs ws xs ys us : List Token) (e : Expr) (b c : Body) → Closes us
+    → IsExpr deepest_calls vs e ws → Mark k.CloseMustache ws xs → AreStmts depth xs b ys → IsOtherwise depth ys c us → read_if inner otherwise unless vs ≡ Some (if_stmt e unless b c, us)
+unfolding read_if
+reads_if depth inner otherwise complete complete_else unless vs ws xs ys us e b c h x m i o =
+    rw (reads_expr deepest_calls vs e ws x, reads_opened depth inner complete ws xs b ys (else_ends depth ys c us h o) m i, complete_else ys c us h o) refl
+
+reads_each : (depth : ℕ) (inner otherwise : Reader Body) → Complete depth inner → CompleteElse depth otherwise → (us1 us2 us3 us4 us5 us6 us : List Token) (e : Expr) (key : Text) (ns : List Text) (b c : Body) → Closes us → length ns ≤ 2
+    → IsExpr deepest_calls us1 e us2 → IsKey us2 key us3 → AreParameters us3 ns us4 → Mark k.CloseMustache us4 us5 → AreStmts depth us5 b us6 → IsOtherwise depth us6 c us → read_each inner otherwise us1 ≡ Some (each e key ns b c, us)
+unfolding read_each
+reads_each depth inner otherwise complete complete_else us1 us2 us3 us4 us5 us6 us e key ns b c h two x key_is params m i o =
+    rw (
+      reads_expr deepest_calls us1 e us2 x,
+      reads_key us2 key us3 (parameters_no k.Path us3 us4 us5 ns params m refl refl) key_is,
+      reads_two us3 ns us4 (stands_mark k.CloseMustache k.Parameters us4 us5 m) two params,
+      reads_opened depth inner complete us4 us5 b us6 (else_ends depth us6 c us h o) m i,
+      complete_else us6 c us h o,
+    ) refl
+
+reads_let : (depth : ℕ) (inner : Reader Body) → Complete depth inner → (vs ws xs ys us : List Token) (es : Exprs) (ns : List Text) (b : Body) → Closes us → is_some_expr es ≡ true
+    → AreExprs deepest_calls vs es ws → AreParameters ws ns xs → Mark k.CloseMustache xs ys → AreStmts depth ys b us → read_let inner vs ≡ Some (let_stmt es ns b, us)
+unfolding read_let
+reads_let depth inner complete vs ws xs ys us no_exprs ns b h some are params m i = let r : ⊥ = cc in absurd r
+reads_let depth inner complete vs ws xs ys us (expr e es) ns b h some (zs, x, are) params m i =
+    let values = reads_exprs deepest_calls (length zs) zs (exprs_list es) ws (omega arith) (parameters_no_expr ws xs ys ns params m) (parameters_no k.Equals ws xs ys ns params m refl refl) (subst (λ l. AreExprs deepest_calls zs l ws) (sym (exprs_of-list es)) are) in
+    rw (
+      reads_expr deepest_calls vs e zs x,
+      values,
+      reads_parameters ws ns xs (stands_mark k.CloseMustache k.Parameters xs ys m) params,
+      reads_opened depth inner complete xs ys b us (closing_ends us h) m i,
+    ) (ap (λ (l : Exprs). Some (let_stmt (expr e l) ns b, us)) (exprs_of-list es))
+
+pub reads_head : (depth : ℕ) (inner otherwise : Reader Body) → Complete depth inner → CompleteElse depth otherwise → CompleteHead (suc depth) (read_head inner otherwise)
+unfolding read_head
+reads_head depth inner otherwise complete complete_else ts (if_stmt e false b c) us h (vs, ws, xs, ys, w, x, m, i, o) =
+    rw (takes_some k.Path _ ts vs w, w.3) (reads_if depth inner otherwise complete complete_else false vs ws xs ys us e b c h x m i o)
+reads_head depth inner otherwise complete complete_else ts (if_stmt e true b c) us h (vs, ws, xs, ys, w, x, m, i, o) =
+    rw (takes_some k.Path _ ts vs w, w.3) (reads_if depth inner otherwise complete complete_else true vs ws xs ys us e b c h x m i o)
+reads_head depth inner otherwise complete complete_else ts (each e key ns b c) us h (two, (us1, us2, us3, us4, us5, us6, w, x, key_is, params, m, i, o)) =
+    rw (takes_some k.Path _ ts us1 w, w.3) (reads_each depth inner otherwise complete complete_else us1 us2 us3 us4 us5 us6 us e key ns b c h two x key_is params m i o)
+reads_head depth inner otherwise complete complete_else ts (let_stmt es ns b) us h (some, (vs, ws, xs, ys, w, are, params, m, i)) =
+    rw (takes_some k.Path _ ts vs w, w.3) (reads_let depth inner complete vs ws xs ys us es ns b h some are params m i)
+reads_head depth inner otherwise complete complete_else ts s us h r = absurd r
+
+-- a chained else is one block
+pub chained_only : (depth : ℕ) (ts : List Token) (c : Body) (us : List Token) → IsChained depth ts c us → (s : Stmt) × (c ≡ only s) × IsHead depth ts s us
+chained_only (suc depth) ts (stmt (if_stmt e unless b c) end) us h = (if_stmt e unless b c, refl, h)
+chained_only (suc depth) ts (stmt (each e key ns b c) end) us h = (each e key ns b c, refl, h)
+chained_only (suc depth) ts (stmt (let_stmt es ns b) end) us h = (let_stmt es ns b, refl, h)
+chained_only depth ts c us h = absurd h
+
+-- it begins with a word
+head_word : (depth : ℕ) (ts : List Token) (s : Stmt) (us : List Token) → IsHead depth ts s us → (vs : List Token) × Mark k.Path ts vs
+head_word (suc depth) ts (if_stmt e unless b c) us h = (h.0, (h.4.0, h.4.1, h.4.2))
+head_word (suc depth) ts (each e key ns b c) us h = (h.1.0, (h.1.6.0, h.1.6.1, h.1.6.2))
+head_word (suc depth) ts (let_stmt es ns b) us h = (h.1.0, (h.1.4.0, h.1.4.1, h.1.4.2))
+head_word depth ts s us h = absurd h
+
+pub reads_else : (depth : ℕ) (inner : Reader Body) (chained : Reader Stmt) → Complete depth inner → CompleteHead depth chained → CompleteElse depth (read_else inner chained)
+unfolding read_else read_after_else
+reads_else depth inner chained complete complete_head ts c us h (inl (e, f)) = rw (e, closing_no_else us h) (ap (λ (x : Body). Some (x, us)) (sym f))
+reads_else depth inner chained complete complete_head ts c us h (inr (vs, ws, m, w, inl (xs, n, i))) =
+    rw (opened_word (codes "else") ts vs ws m w, takes_mark k.OpenMustache ts vs m, takes_word (codes "else") vs ws w, stands_mark k.CloseMustache k.CloseMustache ws xs n) (reads_opened depth inner complete ws xs c us (closing_ends us h) n i)
+reads_else depth inner chained complete complete_head ts c us h (inr (vs, ws, m, w, inr r)) =
+    let s = chained_only depth ws c us r in
+    let v = head_word depth ws s.0 us s.2 in
+    rw (
+      opened_word (codes "else") ts vs ws m w,
+      takes_mark k.OpenMustache ts vs m,
+      takes_word (codes "else") vs ws w,
+      stands_mark k.Path k.CloseMustache ws v.0 v.1,
+      complete_head ws s.0 us h s.2,
+    ) (ap (λ (x : Body). Some (x, us)) (sym s.1))
+
+-- the end of a block
+closing_is : (word : Text) (ts us : List Token) → take_closing word ts ≡ Some us → IsClosing ts word us
+unfolding take_closing
+closing_is word ts us e =
+    let front = first_gave (take_kind k.OpenClosing ts) _ us e in
+    let name = first_gave (take_word word front.0.1) _ us front.2 in
+    let back = first_gave (take_kind k.CloseMustache name.0) _ us name.2 in
+    let P : List Token → Type 0 = λ l. IsClosing ts word l in
+    subst P (some_is _ _ back.2) (front.0.1, name.0, took_mark k.OpenClosing ts front.0 front.1, took_word word front.0.1 name.0 name.1, took_mark k.CloseMustache name.0 back.0 back.1)
+
+takes_closing : (word : Text) (ts us : List Token) → IsClosing ts word us → take_closing word ts ≡ Some us
+unfolding take_closing
+takes_closing word ts us (vs, ws, m, w, n) = rw (takes_mark k.OpenClosing ts vs m, takes_word word vs ws w, takes_mark k.CloseMustache ws us n) refl
+
+closing_closes : (word : Text) (ts us : List Token) → IsClosing ts word us → Closes ts
+closing_closes word ts us (vs, ws, m, w, n) = stands_mark k.OpenClosing k.OpenClosing ts vs m
+
+abbrev pub is_block : Stmt → Bool
+is_block (if_stmt e unless b c) = true
+is_block (each e key ns b c) = true
+is_block (let_stmt es ns b) = true
+is_block s = false
+
+abbrev IsBlock : ℕ → List Token → Stmt → List Token → Type 0
+IsBlock depth ts s us = (vs ws : List Token) × Mark k.OpenBlock ts vs × IsHead (suc depth) vs s ws × IsClosing ws (word_of s) us
+
+block_stmt : (depth : ℕ) (ts : List Token) (s : Stmt) (us : List Token) → IsBlock depth ts s us → IsStmt (suc depth) ts s us
+block_stmt depth ts (if_stmt e unless b c) us h = h
+block_stmt depth ts (each e key ns b c) us h = h
+block_stmt depth ts (let_stmt es ns b) us h = h
+block_stmt depth ts s us h = absurd (h.3)
+
+stmt_block : (depth : ℕ) (ts : List Token) (s : Stmt) (us : List Token) → is_block s ≡ true → IsStmt (suc depth) ts s us → IsBlock depth ts s us
+stmt_block depth ts (if_stmt e unless b c) us f h = h
+stmt_block depth ts (each e key ns b c) us f h = h
+stmt_block depth ts (let_stmt es ns b) us f h = h
+stmt_block depth ts s us f h = let r : ⊥ = cc in absurd r
+
+pub block_is : (depth : ℕ) (head : Reader Stmt) → SoundHead (suc depth) head → (ts : List Token) (p : Stmt × List Token) → read_block head ts ≡ Some p → IsRead (suc depth) ts p
+unfolding read_block
+block_is depth head sound ts p e =
+    let front = first_gave (take_kind k.OpenBlock ts) _ p e in
+    let inside = first_gave (head front.0.1) _ p front.2 in
+    let rest = first_gave (take_closing (word_of inside.0.0) inside.0.1) _ p inside.2 in
+    subst (IsRead (suc depth) ts) (some_is _ _ rest.2)
+    (block_stmt depth ts inside.0.0 rest.0 (front.0.1, inside.0.1, took_mark k.OpenBlock ts front.0 front.1, sound front.0.1 inside.0 inside.1, closing_is (word_of inside.0.0) inside.0.1 rest.0 rest.1))
+
+pub reads_block : (depth : ℕ) (head : Reader Stmt) → CompleteHead (suc depth) head → (ts : List Token) (s : Stmt) (us : List Token) → is_block s ≡ true → IsStmt (suc depth) ts s us → read_block head ts ≡ Some (s, us)
+unfolding read_block
+reads_block depth head complete ts s us f h =
+    let b = stmt_block depth ts s us f h in
+    rw (takes_mark k.OpenBlock ts b.0 b.2, complete b.0 s b.1 (closing_closes (word_of s) b.1 us b.4) b.3, takes_closing (word_of s) b.1 us b.4) refl
+
+pub block_first : (depth : ℕ) (ts : List Token) (s : Stmt) (us : List Token) → is_block s ≡ true → IsStmt (suc depth) ts s us → (vs : List Token) × Mark k.OpenBlock ts vs
+block_first depth ts s us f h = let b = stmt_block depth ts s us f h in (b.0, b.2)
