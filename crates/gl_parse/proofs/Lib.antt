@@ -1,5 +1,6 @@
 pub mod BlockLaws
 pub mod ExprLists
+pub mod Falls
 pub mod FirstTokens
 pub mod FlatLaws
 pub mod Lower
