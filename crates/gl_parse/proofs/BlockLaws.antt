@@ -16,7 +16,7 @@ use Rattle.gl_parse.specs.ReadStmt.{Reader, ends_body, stands_opened, only, read
 use Rattle.gl_parse.specs.Take.{same_kind, stands, stands_word, take_kind, take_word}
 use Rattle.gl_parse.proofs.ExprLists.{exprs_list, exprs_of-list, no_expr}
 use Rattle.gl_parse.proofs.FirstTokens.{took, took_mark, takes_mark, takes_some, took_word, takes_word, stands_mark, stands_some, test_some, bytes_eq_is, is_bytes_eq, stands_is}
-use Rattle.gl_parse.proofs.FlatLaws.{IsRead, opened_word}
+use Rattle.gl_parse.proofs.FlatLaws.{IsRead, opened_word, not_opened}
 use Rattle.gl_parse.proofs.Lower.{read_expr_is, reads_expr, read_exprs_are, reads_exprs}
 use Rattle.gl_parse.proofs.TagLaws.{Sound, Complete, read_parameters_are, reads_parameters}
 use Rattle.gl_parse.proofs.Takings.{first_gave, under_gave, one_gave, some_is}
@@ -191,10 +191,6 @@ third_of_three false false c e = e
 closing_ends : (us : List Token) → Closes us → ends_body us ≡ true
 unfolding ends_body
 closing_ends us h = second_of_three (stands k.EndTag us) (stands k.OpenClosing us) (stands_opened (codes "else") us) h
-
-not_opened : (w : Text) (kind : TokenKind) (ts us : List Token) → Mark kind ts us → same_kind kind k.OpenMustache ≡ false → stands_opened w ts ≡ false
-unfolding stands_opened stands
-not_opened w kind ts us m e = rw (m.1, m.2, e) refl
 
 closing_no_else : (us : List Token) → Closes us → stands_opened (codes "else") us ≡ false
 closing_no_else us h = let m = stands_is k.OpenClosing us h in not_opened (codes "else") k.OpenClosing us m.1 (m.0, m.2, m.3) refl

@@ -1,16 +1,18 @@
 -- Statements without another in them: what is read is spelled, and what is spelled is read.
 use Rattle.std.proofs.Common.{◌≡◌, ◌<◌, ◌≤◌, ℕ, List, [], ◌∷◌, Bool, true, false, ◌&&◌, ◌||◌, Option, Some, None, cond, option_map, ◌⊎◌, inl, inr, length, refl, sym, ap, subst, ◌∙◌, arith}
 use Rattle.std.specs.Prelude.{codes}
+use Rattle.std.specs.Str.{bytes_eq}
 use Rattle.gl_base.specs.Answers.{◌>>=◌}
 use Rattle.gl_base.specs.Texts.{Text}
 use Rattle.gl_ast.specs.Grammar.{deepest_calls, Mark, Stands, Word, IsStmt, AreExprs, IsMustache}
 use Rattle.gl_ast.specs.Template.{Expr, Exprs, exprs_of, Stmt, text_stmt, comment_stmt, put, yield}
 use Rattle.gl_ast.specs.TokenText.{decoded, comment_of}
 use Rattle.gl_ast.specs.declared.token.Token.{Token}
+use Rattle.gl_ast.specs.declared.token.TokenKind.{TokenKind}
 use Rattle.gl_ast.specs.declared.token.TokenKind.TheVariants as k
 use Rattle.gl_parse.specs.ReadExpr.{read_expr, read_exprs, read_mustache, read_inner, read_called, read_token, token_expr, path_expr, stands_name, starts_expr}
 use Rattle.gl_parse.specs.ReadStmt.{read_flat, read_yield, stands_opened}
-use Rattle.gl_parse.specs.Take.{stands, stands_word, take_kind, take_word}
+use Rattle.gl_parse.specs.Take.{same_kind, stands, stands_word, take_kind, take_word}
 use Rattle.gl_parse.proofs.FirstTokens.{took, took_mark, takes_mark, took_word, takes_word, stands_mark, stands_some, takes_some, stands_word_is, stands_is, and_true, is_bytes_eq}
 use Rattle.gl_parse.proofs.Lower.{read_exprs_are, reads_exprs, read_mustache_is, reads_mustache}
 use Rattle.gl_parse.proofs.ExprLists.{exprs_list, exprs_of-list, no_expr}
@@ -105,6 +107,15 @@ reads_put ts e us m =
 pub opened_word : (w : Text) (ts vs us : List Token) → Mark k.OpenMustache ts vs → Word w vs us → stands_opened w ts ≡ true
 unfolding stands_opened stands stands_word
 opened_word w ts vs us m n = rw (m.1, n.1, m.2, n.2, is_bytes_eq w n.0.text (sym n.3)) refl
+
+pub not_opened : (w : Text) (kind : TokenKind) (ts us : List Token) → Mark kind ts us → same_kind kind k.OpenMustache ≡ false → stands_opened w ts ≡ false
+unfolding stands_opened stands
+not_opened w kind ts us m e = rw (m.1, m.2, e) refl
+
+-- and no other word
+pub opened_other : (w x : Text) (ts vs us : List Token) → Mark k.OpenMustache ts vs → Word x vs us → bytes_eq w x ≡ false → stands_opened w ts ≡ false
+unfolding stands_opened stands stands_word
+opened_other w x ts vs us m n e = rw (m.1, n.1, m.2, n.2, n.3, e) refl
 
 reads_yield : (ts : List Token) (es : Exprs) (us vs ws xs : List Token) → Mark k.OpenMustache ts vs → Word (codes "yield") vs ws → AreExprs deepest_calls ws es xs → Mark k.CloseMustache xs us → read_flat ts ≡ Some (yield es (codes "default"), us)
 unfolding read_flat read_yield starts_expr

@@ -4,5 +4,6 @@ pub mod Falls
 pub mod FirstTokens
 pub mod FlatLaws
 pub mod Lower
+pub mod StmtLaws
 pub mod TagLaws
 pub mod Takings
