@@ -4,6 +4,7 @@ pub mod Falls
 pub mod FirstTokens
 pub mod FlatLaws
 pub mod Lower
+pub mod Spelled
 pub mod StmtLaws
 pub mod TagLaws
 pub mod Takings
