@@ -4,7 +4,9 @@ pub mod Falls
 pub mod FirstTokens
 pub mod FlatLaws
 pub mod Lower
+pub mod Scanned
 pub mod Spelled
 pub mod StmtLaws
 pub mod TagLaws
 pub mod Takings
+pub mod TokenPieces

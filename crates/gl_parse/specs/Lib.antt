@@ -1,4 +1,5 @@
 pub mod Fault
+pub mod Pieces
 pub mod ReadExpr
 pub mod ReadItem
 pub mod ReadStmt

@@ -8,12 +8,12 @@ use Rattle.gl_value.specs.Value as v
 use Rattle.gl_ast.specs.Grammar.{deepest_calls, has_argument}
 use Rattle.gl_ast.specs.Scans.{begins}
 use Rattle.gl_ast.specs.Template.{Expr, literal, this, argument, bare, call, Exprs, no_exprs, expr, NamedExprs, no_named, named_expr, exprs_of, named_of}
-use Rattle.gl_ast.specs.TokenText.{string_of, integer_of, names_of, is_free}
+use Rattle.gl_ast.specs.TokenText.{string_of, whole_of, names_of, is_free, has_char}
 use Rattle.gl_ast.specs.Words.{reserved}
 use Rattle.gl_ast.specs.declared.token.Token.{Token}
 use Rattle.gl_ast.specs.declared.token.TokenKind.{TokenKind}
 use Rattle.gl_ast.specs.declared.token.TokenKind.TheVariants as k
-use Rattle.gl_parse.specs.Take.{Taken, stands, take_kind}
+use Rattle.gl_parse.specs.Take.{Taken, same_kind, stands, take_kind}
 
 -- the constants that words stand for
 abbrev pub constants : List (Text × Expr)
@@ -42,7 +42,7 @@ path_expr (n ∷ ns) =
 -- the expression that one token is
 unfoldable pub token_expr : TokenKind → Text → Option Expr
 token_expr k.Path x = path_expr (names_of x)
-token_expr k.Number x = Some (literal (v.integer (integer_of x)))
+token_expr k.Number x = option_map (λ z. literal (v.integer z)) (whole_of x)
 token_expr k.StringLit x = Some (literal (v.text (string_of x)))
 token_expr _ x = None
 
@@ -50,28 +50,21 @@ unfoldable pub read_token : List Token → Taken Expr
 read_token [] = None
 read_token (t ∷ ts) = option_map (λ e. (e, ts)) (token_expr t.kind t.text)
 
--- the name that a path of one name is
-abbrev pub lone_name : List Text → Option Text
-lone_name (n ∷ []) = if is_free n then Some n else None
-lone_name _ = None
-
 -- a path of one name that is not reserved
-unfoldable pub read_name : List Token → Taken Text
-read_name ts = take_kind k.Path ts >>= λ p. option_map (λ n. (n, p.1)) (lone_name (names_of p.0))
+abbrev pub is_lone : Text → Bool
+is_lone x = not (has_char 46 x) && is_free x
 
-abbrev pub is_some_name : Option Text → Bool
-is_some_name None = false
-is_some_name (Some n) = true
+unfoldable pub read_name : List Token → Taken Text
+read_name ts = take_kind k.Path ts >>= λ p. (if is_lone p.0 then Some p else None)
 
 -- such a name comes first
 unfoldable pub stands_name : List Token → Bool
 stands_name [] = false
-stands_name (t ∷ ts) = stands k.Path (t ∷ ts) && is_some_name (lone_name (names_of t.text))
+stands_name (t ∷ ts) = same_kind t.kind k.Path && is_lone t.text
 
 -- a name and `=` come first
 unfoldable pub stands_named : List Token → Bool
-stands_named [] = false
-stands_named (t ∷ ts) = stands_name (t ∷ ts) && stands k.Equals ts
+stands_named ts = stands_name ts && stands k.Equals (drop 1 ts)
 
 -- the first token of an expression comes first, and is no name before `=`
 unfoldable pub starts_expr : List Token → Bool

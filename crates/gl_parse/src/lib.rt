@@ -6,6 +6,9 @@ mod decode;
 mod expression;
 mod fault;
 mod item;
+mod number;
+mod path;
+mod scan;
 mod words;
 
 pub use fault::ParseFault;
