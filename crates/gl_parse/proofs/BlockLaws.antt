@@ -12,7 +12,7 @@ use Rattle.gl_ast.specs.declared.token.Token.{Token}
 use Rattle.gl_ast.specs.declared.token.TokenKind.{TokenKind}
 use Rattle.gl_ast.specs.declared.token.TokenKind.TheVariants as k
 use Rattle.gl_parse.specs.ReadExpr.{read_expr, read_exprs, starts_expr}
-use Rattle.gl_parse.specs.ReadStmt.{Reader, ends_body, stands_opened, only, read_parameters, read_key, read_two, read_opened, read_if, read_each, read_let, read_head, read_after_else, read_else, word_of, take_closing, read_block}
+use Rattle.gl_parse.specs.ReadStmt.{Reader, ends_body, stands_opened, only, read_parameters, read_key, read_two, read_opened, Front, if_front, each_front, let_front, some_values, read_if, read_each, read_let, read_front, read_after_body, read_head, read_after_else, read_else, word_of, take_closing, read_block}
 use Rattle.gl_parse.specs.Take.{same_kind, stands, stands_word, take_kind, take_word}
 use Rattle.gl_parse.proofs.ExprLists.{exprs_list, exprs_of-list, no_expr}
 use Rattle.gl_parse.proofs.FirstTokens.{took, took_mark, takes_mark, takes_some, took_word, takes_word, stands_mark, stands_some, test_some, bytes_eq_is, is_bytes_eq, stands_is}
@@ -95,62 +95,83 @@ reads_opened : (depth : ℕ) (inner : Reader Body) → Complete depth inner → 
 unfolding read_opened
 reads_opened depth inner complete ts vs b us ends m i = rw (takes_mark k.CloseMustache ts vs m) (complete vs b us ends i)
 
-abbrev IsHeadRead : ℕ → List Token → Stmt × List Token → Type 0
+abbrev pub IsHeadRead : ℕ → List Token → Stmt × List Token → Type 0
 IsHeadRead depth ts p = IsHead depth ts p.0 p.1
 
-if_is : (depth : ℕ) (inner otherwise : Reader Body) → Sound depth inner → SoundElse depth otherwise → (unless : Bool) (all ts : List Token) → Word (if_word unless) all ts → (p : Stmt × List Token) → read_if inner otherwise unless ts ≡ Some p → IsHeadRead (suc depth) all p
-unfolding read_if
-if_is depth inner otherwise sound sound_else unless all ts w p e =
-    let test = first_gave (read_expr deepest_calls ts) _ p e in
-    let body = first_gave (read_opened inner test.0.1) _ p test.2 in
-    let more = first_gave (otherwise body.0.1) _ p body.2 in
-    let o = opened_is depth inner sound test.0.1 body.0 body.1 in
-    subst (IsHeadRead (suc depth) all) (some_is _ _ more.2)
-    (ts, test.0.1, o.0, body.0.1, w, read_expr_is deepest_calls ts test.0.0 test.0.1 test.1, o.1, o.2, sound_else body.0.1 more.0 more.1)
+-- what stands in a block up to its `}}`
+abbrev IsFront : List Token → Front → List Token → Type 0
+IsFront ts (if_front e unless) us = (vs : List Token) × Word (if_word unless) ts vs × IsExpr deepest_calls vs e us
+IsFront ts (each_front e key ns) us = (length ns ≤ 2) × ((vs ws xs : List Token) × Word (codes "each") ts vs × IsExpr deepest_calls vs e ws × IsKey ws key xs × AreParameters xs ns us)
+IsFront ts (let_front es ns) us = (is_some_expr es ≡ true) × ((vs ws : List Token) × Word (codes "let") ts vs × AreExprs deepest_calls vs es ws × AreParameters ws ns us)
 
-each_is : (depth : ℕ) (inner otherwise : Reader Body) → Sound depth inner → SoundElse depth otherwise → (all ts : List Token) → Word (codes "each") all ts → (p : Stmt × List Token) → read_each inner otherwise ts ≡ Some p → IsHeadRead (suc depth) all p
+abbrev FrontIs : List Token → Front × List Token → Type 0
+FrontIs ts p = IsFront ts p.0 p.1
+
+if_is : (unless : Bool) (all ts : List Token) → Word (if_word unless) all ts → (p : Front × List Token) → read_if unless ts ≡ Some p → FrontIs all p
+unfolding read_if
+if_is unless all ts w p e = let test = under_gave _ (read_expr deepest_calls ts) p e in subst (FrontIs all) test.2 (ts, w, read_expr_is deepest_calls ts test.0.0 test.0.1 test.1)
+
+each_is : (all ts : List Token) → Word (codes "each") all ts → (p : Front × List Token) → read_each ts ≡ Some p → FrontIs all p
 unfolding read_each
-each_is depth inner otherwise sound sound_else all ts w p e =
+each_is all ts w p e =
     let items = first_gave (read_expr deepest_calls ts) _ p e in
     let key = first_gave (read_key items.0.1) _ p items.2 in
     let names = first_gave (read_two key.0.1) _ p key.2 in
-    let body = first_gave (read_opened inner names.0.1) _ p names.2 in
-    let more = first_gave (otherwise body.0.1) _ p body.2 in
-    let o = opened_is depth inner sound names.0.1 body.0 body.1 in
     let two = two_are key.0.1 names.0 names.1 in
-    subst (IsHeadRead (suc depth) all) (some_is _ _ more.2)
-    (two.1, (ts, items.0.1, key.0.1, names.0.1, o.0, body.0.1, w, read_expr_is deepest_calls ts items.0.0 items.0.1 items.1, key_is items.0.1 key.0 key.1, two.0, o.1, o.2, sound_else body.0.1 more.0 more.1))
+    subst (FrontIs all) (some_is _ _ names.2)
+    (two.1, (ts, items.0.1, key.0.1, w, read_expr_is deepest_calls ts items.0.0 items.0.1 items.1, key_is items.0.1 key.0 key.1, two.0))
 
-let_is : (depth : ℕ) (inner : Reader Body) → Sound depth inner → (all ts : List Token) → Word (codes "let") all ts → (p : Stmt × List Token) → read_let inner ts ≡ Some p → IsHeadRead (suc depth) all p
+some_exprs : (es : List Expr) → is_some_expr (exprs_of es) ≡ some_values es
+some_exprs [] = refl
+some_exprs (e ∷ es) = refl
+
+let_is : (all ts : List Token) → Word (codes "let") all ts → (p : Front × List Token) → read_let ts ≡ Some p → FrontIs all p
 unfolding read_let
-let_is depth inner sound all ts w p e =
-    let first = first_gave (read_expr deepest_calls ts) _ p e in
-    let values = first_gave (read_exprs (read_expr deepest_calls) (length first.0.1) first.0.1) _ p first.2 in
-    let names = first_gave (read_parameters values.0.1) _ p values.2 in
-    let body = first_gave (read_opened inner names.0.1) _ p names.2 in
-    let o = opened_is depth inner sound names.0.1 body.0 body.1 in
-    subst (IsHeadRead (suc depth) all) (some_is _ _ body.2)
-    (refl, (ts, values.0.1, names.0.1, o.0, w, (first.0.1, read_expr_is deepest_calls ts first.0.0 first.0.1 first.1, read_exprs_are deepest_calls (length first.0.1) first.0.1 values.0.0 values.0.1 values.1),
-    read_parameters_are values.0.1 names.0 names.1, o.1, o.2))
+let_is all ts w p e =
+    let values = first_gave (read_exprs (read_expr deepest_calls) (length ts) ts) _ p e in
+    let names = first_gave (cond (some_values values.0.0) (read_parameters values.0.1) None) _ p values.2 in
+    let s = test_some (some_values values.0.0) (read_parameters values.0.1) names.0 names.1 in
+    subst (FrontIs all) (some_is _ _ names.2)
+    (some_exprs values.0.0 ∙ s.0, (ts, values.0.1, w, read_exprs_are deepest_calls (length ts) ts values.0.0 values.0.1 values.1, read_parameters_are values.0.1 names.0 s.1))
 
 -- the token in front is a path of this word
 word_front : (w : Text) (ts : List Token) (p : Text × List Token) → take_kind k.Path ts ≡ Some p → bytes_eq p.0 w ≡ true → Word w ts p.1
 word_front w ts p e h = let t = took k.Path ts p e in (t.0, t.1, t.2, t.3 ∙ bytes_eq_is p.0 w h)
 
-pub head_is : (depth : ℕ) (inner otherwise : Reader Body) → Sound depth inner → SoundElse depth otherwise → (ts : List Token) (p : Stmt × List Token) → read_head inner otherwise ts ≡ Some p → IsHeadRead (suc depth) ts p
-unfolding read_head
-head_is depth inner otherwise sound sound_else ts p e =
+front_is : (ts : List Token) (p : Front × List Token) → read_front ts ≡ Some p → FrontIs ts p
+unfolding read_front
+front_is ts p e =
     let word = first_gave (take_kind k.Path ts) _ p e in
     elim (one_gave (bytes_eq word.0.0 (codes "if")) _ _ p word.2) [
-      | inl h ↦ if_is depth inner otherwise sound sound_else false ts word.0.1 (word_front (codes "if") ts word.0 word.1 h.0) p h.1
+      | inl h ↦ if_is false ts word.0.1 (word_front (codes "if") ts word.0 word.1 h.0) p h.1
       | inr f ↦ elim (one_gave (bytes_eq word.0.0 (codes "unless")) _ _ p f.1) [
-        | inl h ↦ if_is depth inner otherwise sound sound_else true ts word.0.1 (word_front (codes "unless") ts word.0 word.1 h.0) p h.1
+        | inl h ↦ if_is true ts word.0.1 (word_front (codes "unless") ts word.0 word.1 h.0) p h.1
         | inr g ↦ elim (one_gave (bytes_eq word.0.0 (codes "each")) _ _ p g.1) [
-          | inl h ↦ each_is depth inner otherwise sound sound_else ts word.0.1 (word_front (codes "each") ts word.0 word.1 h.0) p h.1
-          | inr j ↦ let s = test_some (bytes_eq word.0.0 (codes "let")) _ p j.1 in let_is depth inner sound ts word.0.1 (word_front (codes "let") ts word.0 word.1 s.0) p s.1
+          | inl h ↦ each_is ts word.0.1 (word_front (codes "each") ts word.0 word.1 h.0) p h.1
+          | inr j ↦ let s = test_some (bytes_eq word.0.0 (codes "let")) _ p j.1 in let_is ts word.0.1 (word_front (codes "let") ts word.0 word.1 s.0) p s.1
         ]
       ]
     ]
+
+after_body_is : (depth : ℕ) (otherwise : Reader Body) → SoundElse depth otherwise → (all : List Token) (f : Front) (ts vs ws : List Token) (b : Body) → IsFront all f ts → Mark k.CloseMustache ts vs → AreStmts depth vs b ws → (p : Stmt × List Token)
+    → read_after_body otherwise f b ws ≡ Some p → IsHeadRead (suc depth) all p
+unfolding read_after_body
+after_body_is depth otherwise sound_else all (if_front x unless) ts vs ws b (xs, w, is) m i p e =
+    let more = under_gave _ (otherwise ws) p e in
+    subst (IsHeadRead (suc depth) all) more.2 (xs, ts, vs, ws, w, is, m, i, sound_else ws more.0 more.1)
+after_body_is depth otherwise sound_else all (each_front x key ns) ts vs ws b (two, (us1, us2, us3, w, is, key_is, params)) m i p e =
+    let more = under_gave _ (otherwise ws) p e in
+    subst (IsHeadRead (suc depth) all) more.2 (two, (us1, us2, us3, ts, vs, ws, w, is, key_is, params, m, i, sound_else ws more.0 more.1))
+after_body_is depth otherwise sound_else all (let_front es ns) ts vs ws b (some, (us1, us2, w, are, params)) m i p e =
+    subst (IsHeadRead (suc depth) all) (some_is _ _ e) (some, (us1, us2, ts, vs, w, are, params, m, i))
+
+pub head_is : (depth : ℕ) (inner otherwise : Reader Body) → Sound depth inner → SoundElse depth otherwise → (ts : List Token) (p : Stmt × List Token) → read_head inner otherwise ts ≡ Some p → IsHeadRead (suc depth) ts p
+unfolding read_head
+head_is depth inner otherwise sound sound_else ts p e =
+    let front = first_gave (read_front ts) _ p e in
+    let body = first_gave (read_opened inner front.0.1) _ p front.2 in
+    let o = opened_is depth inner sound front.0.1 body.0 body.1 in
+    after_body_is depth otherwise sound_else ts front.0.0 front.0.1 o.0 body.0.1 body.0.0 (front_is ts front.0 front.1) o.1 o.2 p body.2
 
 -- an else
 pub else_is : (depth : ℕ) (inner : Reader Body) (chained : Reader Stmt) → Sound depth inner → SoundHead depth chained → SoundElse depth (read_else inner chained)
@@ -215,47 +236,43 @@ parameters_no_expr ws xs ys ns p m =
     let v = parameters_first ws xs ys ns p m in
     elim v.1 [ inl n ↦ no_expr k.CloseMustache ws v.0 n refl | inr n ↦ no_expr k.Parameters ws v.0 n refl ]
 
-reads_if : (depth : ℕ) (inner otherwise : Reader Body) → Complete depth inner → CompleteElse depth otherwise → (unless : Bool) (vs ws xs ys us : List Token) (e : Expr) (b c : Body) → Closes us
-    → IsExpr deepest_calls vs e ws → Mark k.CloseMustache ws xs → AreStmts depth xs b ys → IsOtherwise depth ys c us → read_if inner otherwise unless vs ≡ Some (if_stmt e unless b c, us)
-unfolding read_if
-reads_if depth inner otherwise complete complete_else unless vs ws xs ys us e b c h x m i o =
-    rw (reads_expr deepest_calls vs e ws x, reads_opened depth inner complete ws xs b ys (else_ends depth ys c us h o) m i, complete_else ys c us h o) refl
-
-reads_each : (depth : ℕ) (inner otherwise : Reader Body) → Complete depth inner → CompleteElse depth otherwise → (us1 us2 us3 us4 us5 us6 us : List Token) (e : Expr) (key : Text) (ns : List Text) (b c : Body) → Closes us → length ns ≤ 2
-    → IsExpr deepest_calls us1 e us2 → IsKey us2 key us3 → AreParameters us3 ns us4 → Mark k.CloseMustache us4 us5 → AreStmts depth us5 b us6 → IsOtherwise depth us6 c us → read_each inner otherwise us1 ≡ Some (each e key ns b c, us)
-unfolding read_each
-reads_each depth inner otherwise complete complete_else us1 us2 us3 us4 us5 us6 us e key ns b c h two x key_is params m i o =
+reads_front : (ts : List Token) (f : Front) (us vs : List Token) → Mark k.CloseMustache us vs → IsFront ts f us → read_front ts ≡ Some (f, us)
+unfolding read_front read_if read_each read_let
+reads_front ts (if_front e false) us vs m (ws, w, is) = rw (takes_some k.Path _ ts ws w, w.3, reads_expr deepest_calls ws e us is) refl
+reads_front ts (if_front e true) us vs m (ws, w, is) = rw (takes_some k.Path _ ts ws w, w.3, reads_expr deepest_calls ws e us is) refl
+reads_front ts (each_front e key ns) us vs m (two, (us1, us2, us3, w, is, key_is, params)) =
     rw (
-      reads_expr deepest_calls us1 e us2 x,
-      reads_key us2 key us3 (parameters_no k.Path us3 us4 us5 ns params m refl refl) key_is,
-      reads_two us3 ns us4 (stands_mark k.CloseMustache k.Parameters us4 us5 m) two params,
-      reads_opened depth inner complete us4 us5 b us6 (else_ends depth us6 c us h o) m i,
-      complete_else us6 c us h o,
+      takes_some k.Path _ ts us1 w,
+      w.3,
+      reads_expr deepest_calls us1 e us2 is,
+      reads_key us2 key us3 (parameters_no k.Path us3 us vs ns params m refl refl) key_is,
+      reads_two us3 ns us (stands_mark k.CloseMustache k.Parameters us vs m) two params,
     ) refl
-
-reads_let : (depth : ℕ) (inner : Reader Body) → Complete depth inner → (vs ws xs ys us : List Token) (es : Exprs) (ns : List Text) (b : Body) → Closes us → is_some_expr es ≡ true
-    → AreExprs deepest_calls vs es ws → AreParameters ws ns xs → Mark k.CloseMustache xs ys → AreStmts depth ys b us → read_let inner vs ≡ Some (let_stmt es ns b, us)
-unfolding read_let
-reads_let depth inner complete vs ws xs ys us no_exprs ns b h some are params m i = let r : ⊥ = cc in absurd r
-reads_let depth inner complete vs ws xs ys us (expr e es) ns b h some (zs, x, are) params m i =
-    let values = reads_exprs deepest_calls (length zs) zs (exprs_list es) ws (omega arith) (parameters_no_expr ws xs ys ns params m) (parameters_no k.Equals ws xs ys ns params m refl refl) (subst (λ l. AreExprs deepest_calls zs l ws) (sym (exprs_of-list es)) are) in
+reads_front ts (let_front es ns) us vs m (some, (us1, us2, w, are, params)) =
+    let values = reads_exprs deepest_calls (length us1) us1 (exprs_list es) us2 (omega arith) (parameters_no_expr us2 us vs ns params m) (parameters_no k.Equals us2 us vs ns params m refl refl) (subst (λ l. AreExprs deepest_calls us1 l us2) (sym (exprs_of-list es)) are) in
+    let h : some_values (exprs_list es) ≡ true = sym (some_exprs (exprs_list es)) ∙ ap is_some_expr (exprs_of-list es) ∙ some in
     rw (
-      reads_expr deepest_calls vs e zs x,
+      takes_some k.Path _ ts us1 w,
+      w.3,
       values,
-      reads_parameters ws ns xs (stands_mark k.CloseMustache k.Parameters xs ys m) params,
-      reads_opened depth inner complete xs ys b us (closing_ends us h) m i,
-    ) (ap (λ (l : Exprs). Some (let_stmt (expr e l) ns b, us)) (exprs_of-list es))
+      h,
+      reads_parameters us2 ns us (stands_mark k.CloseMustache k.Parameters us vs m) params,
+    ) (ap (λ (l : Exprs). Some (let_front l ns, us)) (exprs_of-list es))
+
+reads_with_front : (depth : ℕ) (inner otherwise : Reader Body) → Complete depth inner → (ts : List Token) (f : Front) (us vs ws : List Token) (b : Body) (p : Stmt × List Token) → IsFront ts f us → Mark k.CloseMustache us vs → AreStmts depth vs b ws → ends_body ws ≡ true
+    → read_after_body otherwise f b ws ≡ Some p → read_head inner otherwise ts ≡ Some p
+unfolding read_head
+reads_with_front depth inner otherwise complete ts f us vs ws b p is m i ends e =
+    rw (reads_front ts f us vs m is, reads_opened depth inner complete us vs b ws ends m i) e
 
 pub reads_head : (depth : ℕ) (inner otherwise : Reader Body) → Complete depth inner → CompleteElse depth otherwise → CompleteHead (suc depth) (read_head inner otherwise)
-unfolding read_head
-reads_head depth inner otherwise complete complete_else ts (if_stmt e false b c) us h (vs, ws, xs, ys, w, x, m, i, o) =
-    rw (takes_some k.Path _ ts vs w, w.3) (reads_if depth inner otherwise complete complete_else false vs ws xs ys us e b c h x m i o)
-reads_head depth inner otherwise complete complete_else ts (if_stmt e true b c) us h (vs, ws, xs, ys, w, x, m, i, o) =
-    rw (takes_some k.Path _ ts vs w, w.3) (reads_if depth inner otherwise complete complete_else true vs ws xs ys us e b c h x m i o)
+unfolding read_after_body
+reads_head depth inner otherwise complete complete_else ts (if_stmt e unless b c) us h (vs, ws, xs, ys, w, x, m, i, o) =
+    reads_with_front depth inner otherwise complete ts (if_front e unless) ws xs ys b (if_stmt e unless b c, us) (vs, w, x) m i (else_ends depth ys c us h o) (rw (complete_else ys c us h o) refl)
 reads_head depth inner otherwise complete complete_else ts (each e key ns b c) us h (two, (us1, us2, us3, us4, us5, us6, w, x, key_is, params, m, i, o)) =
-    rw (takes_some k.Path _ ts us1 w, w.3) (reads_each depth inner otherwise complete complete_else us1 us2 us3 us4 us5 us6 us e key ns b c h two x key_is params m i o)
+    reads_with_front depth inner otherwise complete ts (each_front e key ns) us4 us5 us6 b (each e key ns b c, us) (two, (us1, us2, us3, w, x, key_is, params)) m i (else_ends depth us6 c us h o) (rw (complete_else us6 c us h o) refl)
 reads_head depth inner otherwise complete complete_else ts (let_stmt es ns b) us h (some, (vs, ws, xs, ys, w, are, params, m, i)) =
-    rw (takes_some k.Path _ ts vs w, w.3) (reads_let depth inner complete vs ws xs ys us es ns b h some are params m i)
+    reads_with_front depth inner otherwise complete ts (let_front es ns) xs ys us b (let_stmt es ns b, us) (some, (vs, ws, w, are, params)) m i (closing_ends us h) refl
 reads_head depth inner otherwise complete complete_else ts s us h r = absurd r
 
 -- a chained else is one block

@@ -7,7 +7,7 @@ use Rattle.gl_ast.specs.Template.{Stmt, text_stmt, comment_stmt, put, element, c
 use Rattle.gl_ast.specs.declared.token.Token.{Token}
 use Rattle.gl_ast.specs.declared.token.TokenKind.{TokenKind}
 use Rattle.gl_ast.specs.declared.token.TokenKind.TheVariants as k
-use Rattle.gl_parse.specs.ReadStmt.{Reader, ends_body, stands_opened, read_stmts, read_body, read_flat, read_tag, read_block, read_nested, read_block_with, read_head, read_else, read_none, read_stmt, read_blocks}
+use Rattle.gl_parse.specs.ReadStmt.{Reader, ends_body, stands_opened, read_stmts, read_body, read_flat, read_tag, read_block, read_nested, read_block_with, read_head, read_else, read_stmt, read_chained}
 use Rattle.gl_parse.specs.Take.{same_kind, stands}
 use Rattle.gl_parse.proofs.BlockLaws.{SoundHead, CompleteHead, Closes, head_is, else_is, reads_head, reads_else, block_is, reads_block, block_first, is_block}
 use Rattle.gl_parse.proofs.Falls.{StmtFalls, stmt_falls}
@@ -202,9 +202,6 @@ reads_blocks depth one chained complete complete_head ts s us closes h =
 flat_sound : SoundStmt zero read_flat
 flat_sound ts p e = read_flat_is zero ts p e
 
-none_sound : SoundHead zero read_none
-none_sound ts p e = let r : ⊥ = cc in absurd r
-
 flat_complete : CompleteStmt zero read_flat
 flat_complete ts (text_stmt x) us h = reads_flat zero ts (text_stmt x) us refl h
 flat_complete ts (comment_stmt x) us h = reads_flat zero ts (comment_stmt x) us refl h
@@ -212,25 +209,22 @@ flat_complete ts (put e) us h = reads_flat zero ts (put e) us refl h
 flat_complete ts (yield es to) us h = reads_flat zero ts (yield es to) us refl h
 flat_complete ts s us h = absurd h
 
-none_complete : CompleteHead zero read_none
-none_complete ts s us closes h = absurd h
-
 -- both at every depth
-all_sound : (depth : ℕ) → SoundStmt depth (read_stmt depth) × SoundHead (suc depth) (read_blocks depth)
-unfolding read_stmt read_blocks
-all_sound zero = (flat_sound, blocks_are zero read_flat read_none flat_sound none_sound)
+all_sound : (depth : ℕ) → SoundStmt depth (read_stmt depth) × SoundHead depth (read_chained depth)
+unfolding read_stmt read_chained
+all_sound zero = (flat_sound, λ ts p e. let r : ⊥ = cc in absurd r)
 all_sound (suc depth) =
     let p = all_sound depth in
-    let one = nested_is depth (read_body (read_stmt depth)) (read_blocks depth) (bodies_sound depth (read_stmt depth) p.0) p.1 in
-    (one, blocks_are (suc depth) (read_nested (read_body (read_stmt depth)) (read_blocks depth)) (read_blocks depth) one p.1)
+    let heads = blocks_are depth (read_stmt depth) (read_chained depth) p.0 p.1 in
+    (nested_is depth (read_body (read_stmt depth)) (read_block_with (read_stmt depth) (read_chained depth)) (bodies_sound depth (read_stmt depth) p.0) heads, heads)
 
-all_complete : (depth : ℕ) → CompleteStmt depth (read_stmt depth) × CompleteHead (suc depth) (read_blocks depth)
-unfolding read_stmt read_blocks
-all_complete zero = (flat_complete, reads_blocks zero read_flat read_none flat_complete none_complete)
+all_complete : (depth : ℕ) → CompleteStmt depth (read_stmt depth) × CompleteHead depth (read_chained depth)
+unfolding read_stmt read_chained
+all_complete zero = (flat_complete, λ ts s us closes h. absurd h)
 all_complete (suc depth) =
     let p = all_complete depth in
-    let one = reads_nested depth (read_body (read_stmt depth)) (read_blocks depth) (bodies_complete depth (read_stmt depth) p.0) p.1 in
-    (one, reads_blocks (suc depth) (read_nested (read_body (read_stmt depth)) (read_blocks depth)) (read_blocks depth) one p.1)
+    let heads = reads_blocks depth (read_stmt depth) (read_chained depth) p.0 p.1 in
+    (reads_nested depth (read_body (read_stmt depth)) (read_block_with (read_stmt depth) (read_chained depth)) (bodies_complete depth (read_stmt depth) p.0) heads, heads)
 
 pub read_stmt_is : (depth : ℕ) → SoundStmt depth (read_stmt depth)
 read_stmt_is depth = (all_sound depth).0
@@ -238,8 +232,8 @@ read_stmt_is depth = (all_sound depth).0
 pub reads_stmt : (depth : ℕ) → CompleteStmt depth (read_stmt depth)
 reads_stmt depth = (all_complete depth).0
 
-pub read_blocks_are : (depth : ℕ) → SoundHead (suc depth) (read_blocks depth)
-read_blocks_are depth = (all_sound depth).1
+pub read_chained_is : (depth : ℕ) → SoundHead depth (read_chained depth)
+read_chained_is depth = (all_sound depth).1
 
-pub reads_block_heads : (depth : ℕ) → CompleteHead (suc depth) (read_blocks depth)
-reads_block_heads depth = (all_complete depth).1
+pub reads_chained : (depth : ℕ) → CompleteHead depth (read_chained depth)
+reads_chained depth = (all_complete depth).1

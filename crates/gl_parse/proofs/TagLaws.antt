@@ -15,7 +15,7 @@ use Rattle.gl_ast.specs.declared.token.TokenKind.{TokenKind}
 use Rattle.gl_ast.specs.declared.token.TokenKind.TheVariants as k
 use Rattle.std.specs.Str.{bytes_eq}
 use Rattle.gl_parse.specs.ReadItem.{read_items, read_tag_items, starts_item}
-use Rattle.gl_parse.specs.ReadStmt.{Reader, ends_body, take_end_tag, read_tagged, read_element_rest, read_element, read_parameters, read_component, read_named_tag, opened_name, read_tag}
+use Rattle.gl_parse.specs.ReadStmt.{Reader, ends_body, take_end_tag, Opening, element_opening, component_opening, name_of, opens_void, empty_tag, full_tag, read_tagged, read_element, read_parameters, read_component, read_named_tag, opened_name, read_opening, read_after_opening, read_tag}
 use Rattle.gl_parse.specs.Take.{same_kind, stands, take_kind}
 use Rattle.gl_parse.proofs.FirstTokens.{took, took_mark, takes_mark, takes_some, stands_mark, stands_some, test_some, bytes_eq_is, is_bytes_eq}
 use Rattle.gl_parse.proofs.FlatLaws.{IsRead}
@@ -45,48 +45,6 @@ takes_end_tag name ts us m = rw (takes_some k.EndTag _ ts us m, is_bytes_eq (end
 end_tag_ends : (name : Text) (ts us : List Token) → IsEndTag ts name us → ends_body ts ≡ true
 unfolding ends_body
 end_tag_ends name ts us m = rw (stands_some k.EndTag k.EndTag _ ts us m) refl
-
--- a body between `>` and the end tag
-abbrev IsTagged : ℕ → List Token → Text → Body → List Token → Type 0
-IsTagged depth ts name b us = (vs ws : List Token) × Mark k.TagEnd ts vs × AreStmts depth vs b ws × IsEndTag ws name us
-
-tagged_is : (depth : ℕ) (inner : Reader Body) → Sound depth inner → (name : Text) (ts : List Token) (p : Body × List Token) → read_tagged inner name ts ≡ Some p → IsTagged depth ts name p.0 p.1
-unfolding read_tagged
-tagged_is depth inner sound name ts p e =
-    let front = first_gave (take_kind k.TagEnd ts) _ p e in
-    let body = first_gave (inner front.0.1) _ p front.2 in
-    let rest = first_gave (take_end_tag name body.0.1) _ p body.2 in
-    let P : Body × List Token → Type 0 = λ q. IsTagged depth ts name q.0 q.1 in
-    subst P (some_is _ _ rest.2) (front.0.1, body.0.1, took_mark k.TagEnd ts front.0 front.1, sound front.0.1 body.0 body.1, took_end_tag name body.0.1 rest.0 rest.1)
-
-reads_tagged : (depth : ℕ) (inner : Reader Body) → Complete depth inner → (name : Text) (ts : List Token) (b : Body) (us : List Token) → IsTagged depth ts name b us → read_tagged inner name ts ≡ Some (b, us)
-unfolding read_tagged
-reads_tagged depth inner complete name ts b us (vs, ws, m, i, t) =
-    rw (takes_mark k.TagEnd ts vs m, complete vs b ws (end_tag_ends name ws us t) i, takes_end_tag name ws us t) refl
-
-abbrev IsRest : ℕ → List Token → Text → Body → List Token → Type 0
-IsRest depth ts tag b us = IsElementRest (λ xs ys. AreStmts depth xs b ys) ts tag b us
-
-element_rest_is : (depth : ℕ) (inner : Reader Body) → Sound depth inner → (tag : Text) (ts : List Token) (p : Body × List Token) → read_element_rest inner tag ts ≡ Some p → IsRest depth ts tag p.0 p.1
-unfolding read_element_rest
-element_rest_is depth inner sound tag ts p e =
-    let P : Body × List Token → Type 0 = λ q. IsRest depth ts tag q.0 q.1 in
-    elim (one_gave (stands k.SelfEnd ts) _ _ p e) [
-      | inl h ↦ let m = under_gave _ (take_kind k.SelfEnd ts) p h.1 in subst P m.2 (inl (took_mark k.SelfEnd ts m.0 m.1, refl))
-      | inr f ↦ elim (one_gave (is_void tag) _ _ p f.1) [
-        | inl h ↦ let m = under_gave _ (take_kind k.TagEnd ts) p h.1 in subst P m.2 (inr (inl (h.0, took_mark k.TagEnd ts m.0 m.1, refl)))
-        | inr h ↦ inr (inr (h.0, tagged_is depth inner sound tag ts p h.1))
-      ]
-    ]
-
-reads_element_rest : (depth : ℕ) (inner : Reader Body) → Complete depth inner → (tag : Text) (ts : List Token) (b : Body) (us : List Token) → IsRest depth ts tag b us → read_element_rest inner tag ts ≡ Some (b, us)
-unfolding read_element_rest
-reads_element_rest depth inner complete tag ts b us (inl (m, e)) =
-    rw (stands_mark k.SelfEnd k.SelfEnd ts us m, takes_mark k.SelfEnd ts us m) (ap (λ (x : Body). Some (x, us)) (sym e))
-reads_element_rest depth inner complete tag ts b us (inr (inl (v, m, e))) =
-    rw (stands_mark k.TagEnd k.SelfEnd ts us m, v, takes_mark k.TagEnd ts us m) (ap (λ (x : Body). Some (x, us)) (sym e))
-reads_element_rest depth inner complete tag ts b us (inr (inr (v, t))) =
-    rw (stands_mark k.TagEnd k.SelfEnd ts t.0 t.2, v, reads_tagged depth inner complete tag ts b us t) refl
 
 -- the parts and the arguments that a tag has
 abbrev HasItems : List Token → (List Part × List (Text × AttrValue)) × List Token → Type 0
@@ -122,32 +80,10 @@ reads_tag_parts : (ts : List Token) (ps : List Part) (us : List Token) → start
 unfolding read_tag_items
 reads_tag_parts ts ps us none are = rw (reads_parts (length ts) ts ps us (omega arith) none are, parts_of_parts ps, no_arguments ps) refl
 
-element_is : (depth : ℕ) (inner : Reader Body) → Sound depth inner → (tag : Text) (all ts : List Token) → IsOpening is_small all tag ts → (p : Stmt × List Token) → read_element inner tag ts ≡ Some p → IsRead (suc depth) all p
-unfolding read_element
-element_is depth inner sound tag all ts opening p e =
-    let items = first_gave (read_tag_items false ts) _ p e in
-    let body = first_gave (read_element_rest inner tag items.0.1) _ p items.2 in
-    subst (IsRead (suc depth) all) (some_is _ _ body.2)
-    (ts, items.0.1, opening, tag_parts_are ts items.0 items.1, element_rest_is depth inner sound tag items.0.1 body.0 body.1)
-
--- a kind that begins an item
-abbrev begins_item : TokenKind → Bool
-begins_item kind = same_kind kind k.Attribute || same_kind kind k.OpenMustache || same_kind kind k.Spread || same_kind kind k.Argument
-
 no_item : (component : Bool) (kind : TokenKind) (ts us : List Token) → Mark kind ts us → same_kind kind k.Attribute ≡ false → same_kind kind k.OpenMustache ≡ false → same_kind kind k.Spread ≡ false → same_kind kind k.Argument ≡ false → starts_item component ts ≡ false
 unfolding starts_item
 no_item true kind ts us m a o s g = rw (stands_mark kind k.Attribute ts us m, stands_mark kind k.OpenMustache ts us m, stands_mark kind k.Spread ts us m, stands_mark kind k.Argument ts us m, a, o, s, g) refl
 no_item false kind ts us m a o s g = rw (stands_mark kind k.Attribute ts us m, stands_mark kind k.OpenMustache ts us m, stands_mark kind k.Spread ts us m, a, o, s) refl
-
-rest_no_item : (depth : ℕ) (ts : List Token) (tag : Text) (b : Body) (us : List Token) → IsRest depth ts tag b us → starts_item false ts ≡ false
-rest_no_item depth ts tag b us (inl (m, e)) = no_item false k.SelfEnd ts us m refl refl refl refl
-rest_no_item depth ts tag b us (inr (inl (v, m, e))) = no_item false k.TagEnd ts us m refl refl refl refl
-rest_no_item depth ts tag b us (inr (inr (v, t))) = no_item false k.TagEnd ts t.0 t.2 refl refl refl refl
-
-reads_element : (depth : ℕ) (inner : Reader Body) → Complete depth inner → (tag : Text) (ts ws : List Token) (ps : List Part) (b : Body) (us : List Token) → AreItems ts (map part_item ps) ws → IsRest depth ws tag b us → read_element inner tag ts ≡ Some (element tag ps b, us)
-unfolding read_element
-reads_element depth inner complete tag ts ws ps b us is r =
-    rw (reads_tag_parts ts ps ws (rest_no_item depth ws tag b us r) is, reads_element_rest depth inner complete tag ws b us r) refl
 
 pub read_parameters_are : (ts : List Token) (p : List Text × List Token) → read_parameters ts ≡ Some p → AreParameters ts p.0 p.1
 unfolding read_parameters
@@ -163,49 +99,6 @@ unfolding read_parameters
 reads_parameters ts ns us none (inl (e, f)) = rw (e, none) (ap (λ (l : List Text). Some (l, us)) (sym f))
 reads_parameters ts ns us none (inr m) = rw (stands_some k.Parameters k.Parameters _ ts us m, takes_some k.Parameters _ ts us m) (ap (λ (l : List Text). Some (l, us)) m.3)
 
-component_is : (depth : ℕ) (inner : Reader Body) → Sound depth inner → (c : Text) (all ts : List Token) → IsOpening is_capital all c ts → (p : Stmt × List Token) → read_component inner c ts ≡ Some p → IsRead (suc depth) all p
-unfolding read_component
-component_is depth inner sound c all ts opening p e =
-    let items = first_gave (read_tag_items true ts) _ p e in
-    let names = first_gave (read_parameters items.0.1) _ p items.2 in
-    let are = tag_items_are ts items.0 items.1 in
-    let params = read_parameters_are items.0.1 names.0 names.1 in
-    elim (one_gave (stands k.SelfEnd names.0.1) _ _ p names.2) [
-      | inl h ↦ let m = under_gave _ (take_kind k.SelfEnd names.0.1) p h.1 in
-        subst (IsRead (suc depth) all) m.2 (are.0, names.0.0, (ts, items.0.1, names.0.1, opening, are.1, are.2, are.3, params, took_mark k.SelfEnd names.0.1 m.0 m.1))
-      | inr h ↦ let m = under_gave _ (read_tagged inner c names.0.1) p h.1 in
-        subst (IsRead (suc depth) all) m.2 (are.0, names.0.0, (ts, items.0.1, names.0.1, opening, are.1, are.2, are.3, params, (refl, refl, tagged_is depth inner sound c names.0.1 m.0 m.1)))
-    ]
-
-rest_mark : (depth : ℕ) (ts : List Token) (c : Text) (ns : List Text) (ss : Slots) (us : List Token) → IsComponentRest depth ts c ns ss us → (vs : List Token) × (Mark k.SelfEnd ts vs ⊎ Mark k.TagEnd ts vs)
-rest_mark depth ts c ns no_slots us m = (us, inl m)
-rest_mark depth ts c ns (block n params b no_slots) us (e, f, t) = (t.0, inr t.2)
-rest_mark depth ts c ns s us h = absurd h
-
-component_no_parameters : (depth : ℕ) (ts : List Token) (c : Text) (ns : List Text) (ss : Slots) (us : List Token) → IsComponentRest depth ts c ns ss us → stands k.Parameters ts ≡ false
-component_no_parameters depth ts c ns ss us r =
-    let v = rest_mark depth ts c ns ss us r in
-    elim v.1 [ inl m ↦ stands_mark k.SelfEnd k.Parameters ts v.0 m | inr m ↦ stands_mark k.TagEnd k.Parameters ts v.0 m ]
-
-parameters_no_item : (depth : ℕ) (ws xs : List Token) (c : Text) (ns ms : List Text) (ss : Slots) (us : List Token) → AreParameters ws ms xs → IsComponentRest depth xs c ns ss us → starts_item true ws ≡ false
-parameters_no_item depth ws xs c ns ms ss us (inl (e, f)) r =
-    let v = rest_mark depth xs c ns ss us r in
-    rw e (elim v.1 [ inl m ↦ no_item true k.SelfEnd xs v.0 m refl refl refl refl | inr m ↦ no_item true k.TagEnd xs v.0 m refl refl refl refl ])
-parameters_no_item depth ws xs c ns ms ss us (inr m) r = no_item true k.Parameters ws xs (m.0, m.1, m.2) refl refl refl refl
-
-reads_component : (depth : ℕ) (inner : Reader Body) → Complete depth inner → (c : Text) (ts ws xs : List Token) (is : List Item) (ns : List Text) (ss : Slots) (us : List Token) → AreItems ts is ws → AreParameters ws ns xs → IsComponentRest depth xs c ns ss us → read_component inner c ts ≡ Some (component_stmt c (parts_among is) (arguments_among is) ss, us)
-unfolding read_component
-reads_component depth inner complete c ts ws xs is ns no_slots us are params r =
-    let items = reads_tag_items ts is ws (parameters_no_item depth ws xs c ns ns no_slots us params r) are in
-    rw (items, reads_parameters ws ns xs (component_no_parameters depth xs c ns no_slots us r) params, stands_mark k.SelfEnd k.SelfEnd xs us r, takes_mark k.SelfEnd xs us r) refl
-reads_component depth inner complete c ts ws xs is ns (block n given b no_slots) us are params r =
-    let ss = block n given b no_slots in
-    let items = reads_tag_items ts is ws (parameters_no_item depth ws xs c ns ns ss us params r) are in
-    let same : block (codes "default") ns b no_slots ≡ ss = cc (r.0, r.1) in
-    rw (items, reads_parameters ws ns xs (component_no_parameters depth xs c ns ss us r) params, stands_mark k.TagEnd k.SelfEnd xs r.2.0 r.2.2, reads_tagged depth inner complete c xs b us r.2)
-    (ap (λ (s : Slots). Some (component_stmt c (parts_among is) (arguments_among is) s, us)) same)
-reads_component depth inner complete c ts ws xs is ns s us are params r = absurd r
-
 passes : (b : Bool) (x : Text) → is_some (cond b (Some x) None) ≡ true → b ≡ true
 passes true x e = refl
 passes false x e = let h : ⊥ = cc in absurd h
@@ -218,18 +111,6 @@ unfolding opened_name
 opened_name_is [] n e = let h : ⊥ = cc in absurd h
 opened_name_is (c ∷ cs) n e = let s = test_some (begins (60 ∷ []) (c ∷ cs)) (Some cs) n e in sign_is c cs n s.0 (some_is _ _ s.1)
 
-pub tag_is : (depth : ℕ) (inner : Reader Body) → Sound depth inner → (ts : List Token) (p : Stmt × List Token) → read_tag inner ts ≡ Some p → IsRead (suc depth) ts p
-unfolding read_tag read_named_tag
-tag_is depth inner sound ts p e =
-    let opening = first_gave (take_kind k.TagOpening ts) _ p e in
-    let name = first_gave (opened_name opening.0.0) _ p opening.2 in
-    let t = took k.TagOpening ts opening.0 opening.1 in
-    let is = t.3 ∙ opened_name_is opening.0.0 name.0 name.1 in
-    elim (one_gave (leads is_capital name.0) _ _ p name.2) [
-      | inl h ↦ component_is depth inner sound name.0 ts opening.0.1 (t.0, t.1, t.2, (is, h.0)) p h.1
-      | inr f ↦ let s = test_some (leads is_small name.0) _ p f.1 in element_is depth inner sound name.0 ts opening.0.1 (t.0, t.1, t.2, (is, s.0)) p s.1
-    ]
-
 capital_or_small : (b : ℕ) → is_small b ≡ true → is_capital b ≡ false
 capital_or_small b e = grind (arith, nat_tests)
 
@@ -241,13 +122,143 @@ opens_name : (x n : Text) → x ≡ 60 ∷ n → opened_name x ≡ Some n
 unfolding opened_name
 opens_name x n e = rw e refl
 
-reads_capital : (inner : Reader Body) (ts vs : List Token) (n : Text) (p : Stmt × List Token) → IsOpening is_capital ts n vs → read_component inner n vs ≡ Some p → read_tag inner ts ≡ Some p
-unfolding read_tag read_named_tag
-reads_capital inner ts vs n p m e = rw (takes_some k.TagOpening _ ts vs m, opens_name m.0.text n m.3.0, m.3.1) e
+-- what an opening tag has in front of its end
+abbrev IsOpen : List Token → Opening → List Token → Type 0
+IsOpen ts (element_opening n ps) us = (vs : List Token) × IsOpening is_small ts n vs × AreItems vs (map part_item ps) us
+IsOpen ts (component_opening n ps given ns) us =
+    (is : List Item) × (vs ws : List Token) × IsOpening is_capital ts n vs × AreItems vs is ws × (parts_among is ≡ ps) × (arguments_among is ≡ given) × AreParameters ws ns us
 
-reads_small : (inner : Reader Body) (ts vs : List Token) (n : Text) (p : Stmt × List Token) → IsOpening is_small ts n vs → read_element inner n vs ≡ Some p → read_tag inner ts ≡ Some p
-unfolding read_tag read_named_tag
-reads_small inner ts vs n p m e = rw (takes_some k.TagOpening _ ts vs m, opens_name m.0.text n m.3.0, not_capital n m.3.1, m.3.1) e
+abbrev Opens : List Token → Opening × List Token → Type 0
+Opens ts p = IsOpen ts p.0 p.1
+
+element_is : (all ts : List Token) (n : Text) → IsOpening is_small all n ts → (p : Opening × List Token) → read_element n ts ≡ Some p → Opens all p
+unfolding read_element
+element_is all ts n opening p e =
+    let m = under_gave _ (read_tag_items false ts) p e in
+    subst (Opens all) m.2 (ts, opening, tag_parts_are ts m.0 m.1)
+
+component_is : (all ts : List Token) (n : Text) → IsOpening is_capital all n ts → (p : Opening × List Token) → read_component n ts ≡ Some p → Opens all p
+unfolding read_component
+component_is all ts n opening p e =
+    let items = first_gave (read_tag_items true ts) _ p e in
+    let names = first_gave (read_parameters items.0.1) _ p items.2 in
+    let are = tag_items_are ts items.0 items.1 in
+    subst (Opens all) (some_is _ _ names.2) (are.0, ts, items.0.1, opening, are.1, are.2, are.3, read_parameters_are items.0.1 names.0 names.1)
+
+opening_is : (ts : List Token) (p : Opening × List Token) → read_opening ts ≡ Some p → Opens ts p
+unfolding read_opening read_named_tag
+opening_is ts p e =
+    let opening = first_gave (take_kind k.TagOpening ts) _ p e in
+    let name = first_gave (opened_name opening.0.0) _ p opening.2 in
+    let t = took k.TagOpening ts opening.0 opening.1 in
+    let is = t.3 ∙ opened_name_is opening.0.0 name.0 name.1 in
+    elim (one_gave (leads is_capital name.0) _ _ p name.2) [
+      | inl h ↦ component_is ts opening.0.1 name.0 (t.0, t.1, t.2, (is, h.0)) p h.1
+      | inr f ↦ let s = test_some (leads is_small name.0) _ p f.1 in element_is ts opening.0.1 name.0 (t.0, t.1, t.2, (is, s.0)) p s.1
+    ]
+
+-- neither an item nor parameters stand there
+abbrev IsTagEnd : List Token → Type 0
+IsTagEnd ts = (starts_item true ts ≡ false) × (starts_item false ts ≡ false) × (stands k.Parameters ts ≡ false)
+
+self_end : (ts us : List Token) → Mark k.SelfEnd ts us → IsTagEnd ts
+self_end ts us m = (no_item true k.SelfEnd ts us m refl refl refl refl, no_item false k.SelfEnd ts us m refl refl refl refl, stands_mark k.SelfEnd k.Parameters ts us m)
+
+tag_end : (ts us : List Token) → Mark k.TagEnd ts us → IsTagEnd ts
+tag_end ts us m = (no_item true k.TagEnd ts us m refl refl refl refl, no_item false k.TagEnd ts us m refl refl refl refl, stands_mark k.TagEnd k.Parameters ts us m)
+
+parameters_no_item : (ws ns_end : List Token) (ns : List Text) → IsTagEnd ns_end → AreParameters ws ns ns_end → starts_item true ws ≡ false
+parameters_no_item ws xs ns ends (inl (e, f)) = rw e (ends.0)
+parameters_no_item ws xs ns ends (inr m) = no_item true k.Parameters ws xs (m.0, m.1, m.2) refl refl refl refl
+
+reads_opening : (ts : List Token) (o : Opening) (us : List Token) → IsTagEnd us → IsOpen ts o us → read_opening ts ≡ Some (o, us)
+unfolding read_opening read_named_tag read_element read_component
+reads_opening ts (element_opening n ps) us ends (vs, m, are) =
+    rw (takes_some k.TagOpening _ ts vs m, opens_name m.0.text n m.3.0, not_capital n m.3.1, m.3.1, reads_tag_parts vs ps us ends.1 are) refl
+reads_opening ts (component_opening n ps given ns) us ends (is, vs, ws, m, are, e, f, params) =
+    rw (
+      takes_some k.TagOpening _ ts vs m,
+      opens_name m.0.text n m.3.0,
+      m.3.1,
+      reads_tag_items vs is ws (parameters_no_item ws us ns ends params) are,
+      reads_parameters ws ns us ends.2 params,
+      e,
+      f,
+    ) refl
+
+-- an opening tag with what follows it
+closed_stmt : (depth : ℕ) (all : List Token) (o : Opening) (ts us : List Token) → IsOpen all o ts → Mark k.SelfEnd ts us → IsStmt (suc depth) all (empty_tag o) us
+closed_stmt depth all (element_opening n ps) ts us (vs, opening, are) m = (vs, ts, opening, are, inl (m, refl))
+closed_stmt depth all (component_opening n ps given ns) ts us (is, vs, ws, opening, are, e, f, params) m = (is, ns, (vs, ws, ts, opening, are, e, f, params, m))
+
+void_stmt : (depth : ℕ) (all : List Token) (o : Opening) (ts us : List Token) → IsOpen all o ts → opens_void o ≡ true → Mark k.TagEnd ts us → IsStmt (suc depth) all (empty_tag o) us
+void_stmt depth all (element_opening n ps) ts us (vs, opening, are) v m = (vs, ts, opening, are, inr (inl (v, m, refl)))
+void_stmt depth all (component_opening n ps given ns) ts us h v m = let r : ⊥ = cc in absurd r
+
+full_stmt : (depth : ℕ) (all : List Token) (o : Opening) (ts vs ws us : List Token) (b : Body) → IsOpen all o ts → opens_void o ≡ false → Mark k.TagEnd ts vs → AreStmts depth vs b ws → IsEndTag ws (name_of o) us → IsStmt (suc depth) all (full_tag o b) us
+full_stmt depth all (element_opening n ps) ts vs ws us b (xs, opening, are) v m i t = (xs, ts, opening, are, inr (inr (v, (vs, ws, m, i, t))))
+full_stmt depth all (component_opening n ps given ns) ts vs ws us b (is, xs, ys, opening, are, e, f, params) v m i t = (is, ns, (xs, ys, ts, opening, are, e, f, params, (refl, refl, (vs, ws, m, i, t))))
+
+tagged_is : (depth : ℕ) (inner : Reader Body) → Sound depth inner → (all : List Token) (o : Opening) (ts vs : List Token) → IsOpen all o ts → opens_void o ≡ false → Mark k.TagEnd ts vs → (p : Stmt × List Token) → read_tagged inner o vs ≡ Some p → IsRead (suc depth) all p
+unfolding read_tagged
+tagged_is depth inner sound all o ts vs opening v m p e =
+    let body = first_gave (inner vs) _ p e in
+    let rest = first_gave (take_end_tag (name_of o) body.0.1) _ p body.2 in
+    subst (IsRead (suc depth) all) (some_is _ _ rest.2)
+    (full_stmt depth all o ts vs body.0.1 rest.0 body.0.0 opening v m (sound vs body.0 body.1) (took_end_tag (name_of o) body.0.1 rest.0 rest.1))
+
+after_opening_is : (depth : ℕ) (inner : Reader Body) → Sound depth inner → (all : List Token) (o : Opening) (ts : List Token) → IsOpen all o ts → (p : Stmt × List Token) → read_after_opening inner o ts ≡ Some p → IsRead (suc depth) all p
+unfolding read_after_opening
+after_opening_is depth inner sound all o ts opening p e =
+    elim (one_gave (stands k.SelfEnd ts) _ _ p e) [
+      | inl h ↦ let m = under_gave _ (take_kind k.SelfEnd ts) p h.1 in subst (IsRead (suc depth) all) m.2 (closed_stmt depth all o ts m.0.1 opening (took_mark k.SelfEnd ts m.0 m.1))
+      | inr f ↦ let mark = first_gave (take_kind k.TagEnd ts) _ p f.1 in
+        let m = took_mark k.TagEnd ts mark.0 mark.1 in
+        elim (one_gave (opens_void o) _ _ p mark.2) [
+          | inl h ↦ subst (IsRead (suc depth) all) (some_is _ _ h.1) (void_stmt depth all o ts mark.0.1 opening h.0 m)
+          | inr h ↦ tagged_is depth inner sound all o ts mark.0.1 opening h.0 m p h.1
+        ]
+    ]
+
+pub tag_is : (depth : ℕ) (inner : Reader Body) → Sound depth inner → (ts : List Token) (p : Stmt × List Token) → read_tag inner ts ≡ Some p → IsRead (suc depth) ts p
+unfolding read_tag
+tag_is depth inner sound ts p e =
+    let o = first_gave (read_opening ts) _ p e in
+    after_opening_is depth inner sound ts o.0.0 o.0.1 (opening_is ts o.0 o.1) p o.2
+
+reads_closed : (inner : Reader Body) (ts : List Token) (o : Opening) (vs us : List Token) → IsOpen ts o vs → Mark k.SelfEnd vs us → read_tag inner ts ≡ Some (empty_tag o, us)
+unfolding read_tag read_after_opening
+reads_closed inner ts o vs us opening m = rw (reads_opening ts o vs (self_end vs us m) opening, stands_mark k.SelfEnd k.SelfEnd vs us m, takes_mark k.SelfEnd vs us m) refl
+
+reads_void : (inner : Reader Body) (ts : List Token) (o : Opening) (vs us : List Token) → IsOpen ts o vs → opens_void o ≡ true → Mark k.TagEnd vs us → read_tag inner ts ≡ Some (empty_tag o, us)
+unfolding read_tag read_after_opening
+reads_void inner ts o vs us opening v m = rw (reads_opening ts o vs (tag_end vs us m) opening, stands_mark k.TagEnd k.SelfEnd vs us m, takes_mark k.TagEnd vs us m, v) refl
+
+reads_full : (depth : ℕ) (inner : Reader Body) → Complete depth inner → (ts : List Token) (o : Opening) (vs ws xs us : List Token) (b : Body) → IsOpen ts o vs → opens_void o ≡ false → Mark k.TagEnd vs ws → AreStmts depth ws b xs → IsEndTag xs (name_of o) us → read_tag inner ts ≡ Some (full_tag o b, us)
+unfolding read_tag read_after_opening read_tagged
+reads_full depth inner complete ts o vs ws xs us b opening v m i t =
+    rw (
+      reads_opening ts o vs (tag_end vs ws m) opening,
+      stands_mark k.TagEnd k.SelfEnd vs ws m,
+      takes_mark k.TagEnd vs ws m,
+      v,
+      complete ws b xs (end_tag_ends (name_of o) xs us t) i,
+      takes_end_tag (name_of o) xs us t,
+    ) refl
+
+reads_element : (depth : ℕ) (inner : Reader Body) → Complete depth inner → (ts : List Token) (n : Text) (ps : List Part) (b : Body) (vs us : List Token) → IsOpen ts (element_opening n ps) vs → IsElementRest (λ xs ys. AreStmts depth xs b ys) vs n b us → read_tag inner ts ≡ Some (element n ps b, us)
+reads_element depth inner complete ts n ps b vs us opening (inl (m, e)) =
+    reads_closed inner ts (element_opening n ps) vs us opening m ∙ ap (λ (x : Body). Some (element n ps x, us)) (sym e)
+reads_element depth inner complete ts n ps b vs us opening (inr (inl (v, m, e))) =
+    reads_void inner ts (element_opening n ps) vs us opening v m ∙ ap (λ (x : Body). Some (element n ps x, us)) (sym e)
+reads_element depth inner complete ts n ps b vs us opening (inr (inr (v, (ws, xs, m, i, t)))) = reads_full depth inner complete ts (element_opening n ps) vs ws xs us b opening v m i t
+
+reads_component : (depth : ℕ) (inner : Reader Body) → Complete depth inner → (ts : List Token) (n : Text) (ps : List Part) (given : List (Text × AttrValue)) (ns : List Text) (ss : Slots) (vs us : List Token) → IsOpen ts (component_opening n ps given ns) vs → IsComponentRest depth vs n ns ss us → read_tag inner ts ≡ Some (component_stmt n ps given ss, us)
+reads_component depth inner complete ts n ps given ns no_slots vs us opening m = reads_closed inner ts (component_opening n ps given ns) vs us opening m
+reads_component depth inner complete ts n ps given ns (block name params b no_slots) vs us opening (e, f, (ws, xs, m, i, t)) =
+    let same : block (codes "default") ns b no_slots ≡ block name params b no_slots = cc (e, f) in
+    reads_full depth inner complete ts (component_opening n ps given ns) vs ws xs us b opening refl m i t ∙ ap (λ (s : Slots). Some (component_stmt n ps given s, us)) same
+reads_component depth inner complete ts n ps given ns ss vs us opening r = absurd r
 
 abbrev pub is_tag : Stmt → Bool
 is_tag (element tag ps b) = true
@@ -260,9 +271,7 @@ tag_first depth ts (component_stmt c ps given ss) us f h = (h.2.0, (h.2.3.0, h.2
 tag_first depth ts s us f h = let r : ⊥ = cc in absurd r
 
 pub reads_tag : (depth : ℕ) (inner : Reader Body) → Complete depth inner → (ts : List Token) (s : Stmt) (us : List Token) → is_tag s ≡ true → IsStmt (suc depth) ts s us → read_tag inner ts ≡ Some (s, us)
-reads_tag depth inner complete ts (element tag ps b) us f (vs, ws, o, is, r) = reads_small inner ts vs tag (element tag ps b, us) o (reads_element depth inner complete tag vs ws ps b us is r)
+reads_tag depth inner complete ts (element tag ps b) us f (vs, ws, o, is, r) = reads_element depth inner complete ts tag ps b ws us (vs, o, is) r
 reads_tag depth inner complete ts (component_stmt c ps given ss) us f (is, ns, (vs, ws, xs, o, are, e, g, params, r)) =
-    reads_capital inner ts vs c (component_stmt c ps given ss, us) o
-    (reads_component depth inner complete c vs ws xs is ns ss us are params r
-    ∙ ap (λ (l : List Part). Some (component_stmt c l (arguments_among is) ss, us)) e ∙ ap (λ (l : List (Text × AttrValue)). Some (component_stmt c ps l ss, us)) g)
+    reads_component depth inner complete ts c ps given ns ss xs us (is, vs, ws, o, are, e, g, params) r
 reads_tag depth inner complete ts s us f h = let r : ⊥ = cc in absurd r
