@@ -1,14 +1,18 @@
 -- Laws of the texts that tokens stand for.
-use Rattle.std.proofs.Common.{◌≡◌, ◌≤◌, ◌<◌, ◌+◌, ◌-◌, ◌*◌, ℕ, zero, suc, List, [], ◌∷◌, ◌++◌, Bool, true, false, length, take, drop, refl, sym, ap, ◌∙◌, append_assoc, append-nil, arith}
+use Rattle.std.proofs.Common.{◌≡◌, ◌≤◌, ◌<◌, ◌+◌, ◌-◌, ◌*◌, ℕ, zero, suc, List, [], ◌∷◌, ◌++◌, Bool, true, false, length, map, take, drop, refl, sym, ap, ◌∙◌, append_assoc, append-nil, arith}
 use Rattle.std.specs.Prelude.{if◌then◌else◌, cond, Some, None, is_some, nat_eq, nat_le, not, ◌&&◌, ◌==◌}
-use Rattle.std.specs.List.{prefix_len}
-use Rattle.std.specs.Str.{bytes_eq}
+use Rattle.std.specs.Borrow.{Bor}
+use Rattle.std.specs.List.{prefix_len, list_any}
+use Rattle.std.specs.Str.{bytes_eq, chars, IsUtf8}
+use Rattle.gl_base.specs.Names.{has_text}
+use Rattle.gl_base.specs.Texts.{is_ascii_text}
+use Rattle.gl_value.proofs.Words.{bytes_eq-word}
 use Rattle.std.proofs.lemmas.Bool.Decides.{nat_tests}
 use Rattle.gl_ast.specs.Scans.{begins}
 use Rattle.gl_ast.specs.TokenText.{unescaped, leads, ends_tag_name, end_name_of}
 use Rattle.gl_ast.specs.Words.{number_from}
 use Rattle.gl_value.specs.Value.{split, before_first}
-use Rattle.gl_parse.specs.Pieces.{is_none_left, front, is_kept, end_name, add_front}
+use Rattle.gl_parse.specs.Pieces.{is_none_left, front, is_kept, end_name, add_front, ascii_words}
 
 -- the first of several characters is not the last
 front_next : (c d : ℕ) (cs : List ℕ) → front (c ∷ d ∷ cs) ≡ c ∷ front (d ∷ cs)
@@ -103,3 +107,11 @@ number_too_large limit n c cs old all e h f =
     let g = number_grows (n * 10 + (c - 48)) cs in
     let same : number_from (n * 10 + (c - 48)) cs ≡ number_from 0 all = ap (λ x. number_from n x) (sym e) ∙ f in
     grind (arith, nat_tests)
+
+-- one of the words, by bytes and by characters
+pub any_word : (n : List ℕ) (ws : List (Bor (List ℕ))) → IsUtf8 n → ascii_words ws ≡ true → list_any (λ (w : Bor (List ℕ)). bytes_eq n w.now) ws ≡ has_text (chars n) (map (λ (w : Bor (List ℕ)). w.now) ws)
+any_word n [] u e = refl
+any_word n (w ∷ ws) u e =
+    let first : is_ascii_text w.now ≡ true = grind arith in
+    let more : ascii_words ws ≡ true = grind arith in
+    rw (bytes_eq-word n w.now u first, any_word n ws u more) refl

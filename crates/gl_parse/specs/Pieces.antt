@@ -1,6 +1,7 @@
 -- What the texts of tokens stand for, as it is read character by character.
 use Rattle.std.specs.Prelude.{ℕ, List, [], ◌∷◌, ◌++◌, ◌-◌, Bool, true, false, not, ◌&&◌, ◌||◌, ◌==◌, length, take, filter, nat_lt, nat_le, if◌then◌else◌, Option, Some, None}
-use Rattle.gl_base.specs.Texts.{Text}
+use Rattle.std.specs.Borrow.{Bor}
+use Rattle.gl_base.specs.Texts.{Text, is_ascii_text}
 use Rattle.gl_value.specs.Value.{split}
 use Rattle.gl_ast.specs.TokenText.{leads, ends_tag_name, pieces}
 use Rattle.gl_ast.specs.Words.{number_from, greatest}
@@ -45,3 +46,8 @@ after_dot (c ∷ cs) = split 46 cs
 -- the number that digits spell, where it is not too large
 abbrev pub natural_of : Text → Option ℕ
 natural_of cs = if nat_le (number_from 0 cs) greatest then Some (number_from 0 cs) else None
+
+-- each word is ASCII, as a test that a literal computes
+abbrev pub ascii_words : List (Bor (List ℕ)) → Bool
+ascii_words [] = true
+ascii_words (w ∷ ws) = is_ascii_text w.now && ascii_words ws

@@ -2,12 +2,12 @@
 use Rattle.std.specs.Prelude.{ℕ, zero, suc, List, [], ◌∷◌, Bool, true, false, ◌&&◌, ◌||◌, not, length, drop, codes, if◌then◌else◌, Option, Some, None, option_map}
 use Rattle.std.specs.Str.{bytes_eq}
 use Rattle.gl_base.specs.Answers.{◌>>=◌}
-use Rattle.gl_base.specs.Names.{named, has_text}
+use Rattle.gl_base.specs.Names.{has_text}
 use Rattle.gl_base.specs.Texts.{Text}
 use Rattle.gl_value.specs.Value as v
 use Rattle.gl_ast.specs.Grammar.{deepest_calls, has_argument}
 use Rattle.gl_ast.specs.Scans.{begins}
-use Rattle.gl_ast.specs.Template.{Expr, literal, this, argument, bare, call, Exprs, no_exprs, expr, NamedExprs, no_named, named_expr, exprs_of, named_of}
+use Rattle.gl_ast.specs.Template.{Plain, Expr, literal, this, argument, bare, call, Exprs, no_exprs, expr, NamedExprs, no_named, named_expr, exprs_of, named_of}
 use Rattle.gl_ast.specs.TokenText.{string_of, whole_of, names_of, is_free, has_char}
 use Rattle.gl_ast.specs.Words.{reserved}
 use Rattle.gl_ast.specs.declared.token.Token.{Token}
@@ -15,11 +15,13 @@ use Rattle.gl_ast.specs.declared.token.TokenKind.{TokenKind}
 use Rattle.gl_ast.specs.declared.token.TokenKind.TheVariants as k
 use Rattle.gl_parse.specs.Take.{Taken, same_kind, stands, take_kind}
 
--- the constants that words stand for
-abbrev pub constants : List (Text × Expr)
-constants =
-    (codes "true", literal (v.boolean true)) ∷ (codes "false", literal (v.boolean false))
-    ∷ (codes "null", literal v.null) ∷ (codes "undefined", literal v.undefined) ∷ []
+-- the constant that a word stands for
+unfoldable pub constant_of : Text → Option Plain
+constant_of n =
+    if bytes_eq (codes "true") n then Some (v.boolean true)
+    else (if bytes_eq (codes "false") n then Some (v.boolean false)
+    else (if bytes_eq (codes "null") n then Some v.null
+    else (if bytes_eq (codes "undefined") n then Some v.undefined else None)))
 
 -- after `this`
 abbrev pub this_path : List Text → Option Expr
@@ -28,7 +30,7 @@ this_path (n ∷ ns) = Some (this n ns)
 
 -- after another reserved name
 abbrev pub constant_path : Text → List Text → Option Expr
-constant_path n [] = named n constants
+constant_path n [] = option_map literal (constant_of n)
 constant_path n (m ∷ ns) = None
 
 -- the expression that a path's names are
@@ -36,15 +38,15 @@ unfoldable pub path_expr : List Text → Option Expr
 path_expr [] = None
 path_expr (n ∷ ns) =
     if begins (64 ∷ []) n then Some (argument (drop 1 n) ns)
-    else (if bytes_eq n (codes "this") then this_path ns
+    else (if bytes_eq (codes "this") n then this_path ns
     else (if has_text n reserved then constant_path n ns else Some (bare n ns)))
 
 -- the expression that one token is
 unfoldable pub token_expr : TokenKind → Text → Option Expr
-token_expr k.Path x = path_expr (names_of x)
-token_expr k.Number x = option_map (λ z. literal (v.integer z)) (whole_of x)
-token_expr k.StringLit x = Some (literal (v.text (string_of x)))
-token_expr _ x = None
+token_expr kind x =
+    if same_kind kind k.Path then path_expr (names_of x)
+    else (if same_kind kind k.Number then option_map (λ z. literal (v.integer z)) (whole_of x)
+    else (if same_kind kind k.StringLit then Some (literal (v.text (string_of x))) else None))
 
 unfoldable pub read_token : List Token → Taken Expr
 read_token [] = None
