@@ -135,20 +135,20 @@ let_is all ts w p e =
     (some_exprs values.0.0 ∙ s.0, (ts, values.0.1, w, read_exprs_are deepest_calls (length ts) ts values.0.0 values.0.1 values.1, read_parameters_are values.0.1 names.0 s.1))
 
 -- the token in front is a path of this word
-word_front : (w : Text) (ts : List Token) (p : Text × List Token) → take_kind k.Path ts ≡ Some p → bytes_eq p.0 w ≡ true → Word w ts p.1
-word_front w ts p e h = let t = took k.Path ts p e in (t.0, t.1, t.2, t.3 ∙ bytes_eq_is p.0 w h)
+word_front : (w : Text) (ts : List Token) (p : Text × List Token) → take_kind k.Path ts ≡ Some p → bytes_eq w p.0 ≡ true → Word w ts p.1
+word_front w ts p e h = let t = took k.Path ts p e in (t.0, t.1, t.2, t.3 ∙ sym (bytes_eq_is w p.0 h))
 
 front_is : (ts : List Token) (p : Front × List Token) → read_front ts ≡ Some p → FrontIs ts p
 unfolding read_front
 front_is ts p e =
     let word = first_gave (take_kind k.Path ts) _ p e in
-    elim (one_gave (bytes_eq word.0.0 (codes "if")) _ _ p word.2) [
+    elim (one_gave (bytes_eq (codes "if") word.0.0) _ _ p word.2) [
       | inl h ↦ if_is false ts word.0.1 (word_front (codes "if") ts word.0 word.1 h.0) p h.1
-      | inr f ↦ elim (one_gave (bytes_eq word.0.0 (codes "unless")) _ _ p f.1) [
+      | inr f ↦ elim (one_gave (bytes_eq (codes "unless") word.0.0) _ _ p f.1) [
         | inl h ↦ if_is true ts word.0.1 (word_front (codes "unless") ts word.0 word.1 h.0) p h.1
-        | inr g ↦ elim (one_gave (bytes_eq word.0.0 (codes "each")) _ _ p g.1) [
+        | inr g ↦ elim (one_gave (bytes_eq (codes "each") word.0.0) _ _ p g.1) [
           | inl h ↦ each_is ts word.0.1 (word_front (codes "each") ts word.0 word.1 h.0) p h.1
-          | inr j ↦ let s = test_some (bytes_eq word.0.0 (codes "let")) _ p j.1 in let_is ts word.0.1 (word_front (codes "let") ts word.0 word.1 s.0) p s.1
+          | inr j ↦ let s = test_some (bytes_eq (codes "let") word.0.0) _ p j.1 in let_is ts word.0.1 (word_front (codes "let") ts word.0 word.1 s.0) p s.1
         ]
       ]
     ]

@@ -1,5 +1,5 @@
 -- Statements without another in them: what is read is spelled, and what is spelled is read.
-use Rattle.std.proofs.Common.{◌≡◌, ◌<◌, ◌≤◌, ℕ, List, [], ◌∷◌, Bool, true, false, ◌&&◌, ◌||◌, Option, Some, None, cond, option_map, ◌⊎◌, inl, inr, length, refl, sym, ap, subst, ◌∙◌, arith}
+use Rattle.std.proofs.Common.{◌≡◌, ◌<◌, ◌≤◌, ℕ, List, [], ◌∷◌, Bool, true, false, ◌&&◌, ◌||◌, Option, Some, None, cond, option_map, ◌⊎◌, inl, inr, length, drop, refl, sym, ap, subst, ◌∙◌, arith}
 use Rattle.std.specs.Prelude.{codes}
 use Rattle.std.specs.Str.{bytes_eq}
 use Rattle.gl_base.specs.Answers.{◌>>=◌}
@@ -10,7 +10,7 @@ use Rattle.gl_ast.specs.TokenText.{decoded, comment_of}
 use Rattle.gl_ast.specs.declared.token.Token.{Token}
 use Rattle.gl_ast.specs.declared.token.TokenKind.{TokenKind}
 use Rattle.gl_ast.specs.declared.token.TokenKind.TheVariants as k
-use Rattle.gl_parse.specs.ReadExpr.{read_expr, read_exprs, read_mustache, read_inner, read_called, read_token, token_expr, path_expr, stands_name, starts_expr}
+use Rattle.gl_parse.specs.ReadExpr.{read_expr, read_exprs, read_mustache, read_inner, read_called, read_token, token_expr, path_expr, stands_name, starts_expr, constant_of}
 use Rattle.gl_parse.specs.ReadStmt.{read_flat, read_yield, stands_opened}
 use Rattle.gl_parse.specs.Take.{same_kind, stands, stands_word, take_kind, take_word}
 use Rattle.gl_parse.proofs.FirstTokens.{took, took_mark, takes_mark, took_word, takes_word, stands_mark, stands_some, takes_some, stands_word_is, stands_is, and_true, is_bytes_eq}
@@ -62,20 +62,19 @@ read_flat_is depth ts p e =
 -- `{{` before a word that is no name and no constant opens no mustache
 opens_none : (w : Text) (ts : List Token) → ((o t : Token) (us : List Token) → o.kind ≡ k.OpenMustache → t.kind ≡ k.Path → t.text ≡ w → read_mustache (o ∷ (t ∷ us)) ≡ None) → stands_opened w ts ≡ true → read_mustache ts ≡ None
 unfolding stands_opened
-opens_none w [] none e = let h : ⊥ = cc in absurd h
-opens_none w (o ∷ ts) none e =
-    let both = and_true (stands k.OpenMustache (o ∷ ts)) (stands_word w ts) e in
-    let front = stands_is k.OpenMustache (o ∷ ts) both.0 in
-    let word = stands_word_is w ts both.1 in
-    let same : o ≡ front.0 = cc (front.2) in
-    rw word.2 (none o word.0 word.1 (ap (λ (x : Token). x.kind) same ∙ front.3) word.3 word.4)
+opens_none w ts none e =
+    let both = and_true (stands k.OpenMustache ts) (stands_word w (drop 1 ts)) e in
+    let front = stands_is k.OpenMustache ts both.0 in
+    let word = stands_word_is w (drop 1 ts) both.1 in
+    let same : front.1 ≡ word.0 ∷ word.1 = sym (ap (λ l. drop 1 l) front.2) ∙ word.2 in
+    rw (front.2, same) (none front.0 word.0 word.1 front.3 word.3 word.4)
 
 else_none : (o t : Token) (us : List Token) → o.kind ≡ k.OpenMustache → t.kind ≡ k.Path → t.text ≡ codes "else" → read_mustache (o ∷ (t ∷ us)) ≡ None
-unfolding read_mustache read_inner read_called read_expr read_token token_expr path_expr stands_name take_kind stands
+unfolding read_mustache read_inner read_called read_expr read_token token_expr path_expr stands_name take_kind stands constant_of
 else_none o t us a b c = rw (a, b, c) refl
 
 yield_none : (o t : Token) (us : List Token) → o.kind ≡ k.OpenMustache → t.kind ≡ k.Path → t.text ≡ codes "yield" → read_mustache (o ∷ (t ∷ us)) ≡ None
-unfolding read_mustache read_inner read_called read_expr read_token token_expr path_expr stands_name take_kind stands
+unfolding read_mustache read_inner read_called read_expr read_token token_expr path_expr stands_name take_kind stands constant_of
 yield_none o t us a b c = rw (a, b, c) refl
 
 never_true : (b : Bool) → (b ≡ true → ⊥) → b ≡ false

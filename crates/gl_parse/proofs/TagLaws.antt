@@ -7,7 +7,6 @@ use Rattle.gl_base.specs.Answers.{◌>>=◌}
 use Rattle.gl_base.specs.Texts.{Text}
 use Rattle.gl_ast.specs.Grammar.{Mark, Stands, IsStmt, AreStmts, IsOpening, IsEndTag, IsElementRest, IsComponentRest, AreItems, AreParameters, Item, part_item, parts_among, arguments_among, is_void}
 use Rattle.gl_ast.specs.Marks.{is_small, is_capital}
-use Rattle.gl_ast.specs.Scans.{begins}
 use Rattle.gl_ast.specs.Template.{Part, AttrValue, Stmt, element, component_stmt, Body, end, Slots, no_slots, block}
 use Rattle.gl_ast.specs.TokenText.{end_name_of, parameters_of, leads}
 use Rattle.gl_ast.specs.declared.token.Token.{Token}
@@ -99,17 +98,14 @@ unfolding read_parameters
 reads_parameters ts ns us none (inl (e, f)) = rw (e, none) (ap (λ (l : List Text). Some (l, us)) (sym f))
 reads_parameters ts ns us none (inr m) = rw (stands_some k.Parameters k.Parameters _ ts us m, takes_some k.Parameters _ ts us m) (ap (λ (l : List Text). Some (l, us)) m.3)
 
-passes : (b : Bool) (x : Text) → is_some (cond b (Some x) None) ≡ true → b ≡ true
-passes true x e = refl
-passes false x e = let h : ⊥ = cc in absurd h
-
-sign_is : (c : ℕ) (cs n : Text) → begins (60 ∷ []) (c ∷ cs) ≡ true → cs ≡ n → c ∷ cs ≡ 60 ∷ n
-sign_is c cs n e f = let h : 60 ≡ c = eqb-true 60 c (passes (60 == c) cs e) in cc
-
 opened_name_is : (x n : Text) → opened_name x ≡ Some n → x ≡ 60 ∷ n
 unfolding opened_name
 opened_name_is [] n e = let h : ⊥ = cc in absurd h
-opened_name_is (c ∷ cs) n e = let s = test_some (begins (60 ∷ []) (c ∷ cs)) (Some cs) n e in sign_is c cs n s.0 (some_is _ _ s.1)
+opened_name_is (c ∷ cs) n e =
+    let s = test_some (c == 60) (Some cs) n e in
+    let h : c ≡ 60 = eqb-true c 60 s.0 in
+    let same = some_is _ _ s.1 in
+    cc
 
 capital_or_small : (b : ℕ) → is_small b ≡ true → is_capital b ≡ false
 capital_or_small b e = grind (arith, nat_tests)

@@ -5,3 +5,4 @@ pub mod ReadItem
 pub mod ReadStmt
 pub mod ReadValue
 pub mod Take
+pub mod View

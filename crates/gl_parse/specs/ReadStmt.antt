@@ -1,11 +1,10 @@
 -- Statements, read from the front of the tokens.
-use Rattle.std.specs.Prelude.{ℕ, zero, suc, List, [], ◌∷◌, Bool, true, false, ◌&&◌, ◌||◌, drop, length, map, nat_le, codes, if◌then◌else◌, Option, Some, None, option_map}
+use Rattle.std.specs.Prelude.{ℕ, zero, suc, List, [], ◌∷◌, Bool, true, false, ◌&&◌, ◌||◌, ◌==◌, drop, length, map, nat_le, codes, if◌then◌else◌, Option, Some, None, option_map}
 use Rattle.std.specs.Str.{bytes_eq, is_utf8}
 use Rattle.gl_base.specs.Answers.{◌>>=◌}
 use Rattle.gl_base.specs.Texts.{Text}
 use Rattle.gl_ast.specs.Grammar.{deepest_calls, deepest_nesting, is_void, is_silent, if_word}
 use Rattle.gl_ast.specs.Marks.{is_small, is_capital}
-use Rattle.gl_ast.specs.Scans.{begins}
 use Rattle.gl_ast.specs.Settling.{settled}
 use Rattle.gl_ast.specs.Template.{Expr, Exprs, AttrValue, Part, Stmt, text_stmt, comment_stmt, put, element, component_stmt, if_stmt, each, let_stmt, yield, Body, end, stmt, no_slots, block, body_of, exprs_of}
 use Rattle.gl_ast.specs.TokenReading.{template_tokens, lone_tokens}
@@ -22,8 +21,7 @@ Reader A = List Token → Taken A
 
 -- `{{` and this word come first
 unfoldable pub stands_opened : Text → List Token → Bool
-stands_opened w [] = false
-stands_opened w (t ∷ ts) = stands k.OpenMustache (t ∷ ts) && stands_word w ts
+stands_opened w ts = stands k.OpenMustache ts && stands_word w (drop 1 ts)
 
 -- what ends a body: an end tag, the end of a block, an else
 unfoldable pub ends_body : List Token → Bool
@@ -104,7 +102,8 @@ read_named_tag n ts = if leads is_capital n then read_component n ts else (if le
 
 -- the name after `<`
 unfoldable pub opened_name : Text → Option Text
-opened_name x = if begins (60 ∷ []) x then Some (drop 1 x) else None
+opened_name [] = None
+opened_name (c ∷ cs) = if c == 60 then Some cs else None
 
 unfoldable pub read_opening : Reader Opening
 read_opening ts = do
@@ -177,10 +176,10 @@ read_let ts = do
 unfoldable pub read_front : Reader Front
 read_front ts =
     take_kind k.Path ts >>= λ word. (
-      if bytes_eq word.0 (codes "if") then read_if false word.1
-      else (if bytes_eq word.0 (codes "unless") then read_if true word.1
-      else (if bytes_eq word.0 (codes "each") then read_each word.1
-      else (if bytes_eq word.0 (codes "let") then read_let word.1 else None))))
+      if bytes_eq (codes "if") word.0 then read_if false word.1
+      else (if bytes_eq (codes "unless") word.0 then read_if true word.1
+      else (if bytes_eq (codes "each") word.0 then read_each word.1
+      else (if bytes_eq (codes "let") word.0 then read_let word.1 else None))))
 
 -- what follows the body of a block: an else, which a let has not
 unfoldable pub read_after_body : Reader Body → Front → Body → List Token → Taken Stmt

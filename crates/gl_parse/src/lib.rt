@@ -1,6 +1,7 @@
 //! The tree that a template or an expression spells.
 #![tactic(auto)]
 
+mod block;
 mod cursor;
 mod decode;
 mod expression;
@@ -11,6 +12,8 @@ mod number;
 mod operand;
 mod path;
 mod scan;
+mod statement;
+mod tag;
 mod words;
 
 pub use fault::ParseFault;

@@ -1,0 +1,17 @@
+-- What the code's openings stand for.
+use Rattle.gl_parse.specs.ReadStmt as r
+use Rattle.gl_ast.specs.View.{expr_view}
+use Rattle.gl_ast.specs.Template.{exprs_of}
+use Rattle.gl_parse.specs.declared.block.Front.{Front}
+use Rattle.gl_parse.specs.declared.block.Front.TheVariants as front
+use Rattle.gl_parse.specs.declared.tag.Opening.{Opening}
+use Rattle.gl_parse.specs.declared.tag.Opening.TheVariants as opening
+
+abbrev pub opening_view : Opening → r.Opening
+opening_view (opening.Element n ps) = r.element_opening n ps
+opening_view (opening.Component n ps given ns) = r.component_opening n ps given ns
+
+abbrev pub front_view : Front → r.Front
+front_view (front.If e unless) = r.if_front (expr_view e) unless
+front_view (front.Each e key ns) = r.each_front (expr_view e) key ns
+front_view (front.Let es ns) = r.let_front (exprs_of es) ns
