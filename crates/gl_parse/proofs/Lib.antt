@@ -1,4 +1,5 @@
 pub mod BlockLaws
+pub mod Bodies
 pub mod ExprLists
 pub mod Falls
 pub mod FirstTokens

@@ -7,7 +7,7 @@ use Rattle.gl_ast.specs.Template.{Stmt, text_stmt, comment_stmt, put, element, c
 use Rattle.gl_ast.specs.declared.token.Token.{Token}
 use Rattle.gl_ast.specs.declared.token.TokenKind.{TokenKind}
 use Rattle.gl_ast.specs.declared.token.TokenKind.TheVariants as k
-use Rattle.gl_parse.specs.ReadStmt.{Reader, ends_body, stands_opened, read_stmts, read_body, read_flat, read_tag, read_block, read_nested, read_block_with, read_head, read_else, read_stmt, read_chained}
+use Rattle.gl_parse.specs.ReadStmt.{Reader, ends_body, is_end, stands_opened, read_stmts, read_body, read_flat, read_tag, read_block, read_nested, read_block_with, read_head, read_else, read_stmt, read_chained}
 use Rattle.gl_parse.specs.Take.{same_kind, stands}
 use Rattle.gl_parse.proofs.BlockLaws.{SoundHead, CompleteHead, Closes, head_is, else_is, reads_head, reads_else, block_is, reads_block, block_first, is_block}
 use Rattle.gl_parse.proofs.Falls.{StmtFalls, stmt_falls}
@@ -65,11 +65,6 @@ stmts_of (stmt s b) = s ∷ stmts_of b
 body_of-stmts : (b : Body) → body_of (stmts_of b) ≡ b
 body_of-stmts end = refl
 body_of-stmts (stmt s b) = ap (λ x. stmt s x) (body_of-stmts b)
-
--- where bodies end: at the end of the tokens too
-abbrev pub is_end : List Token → Bool
-is_end [] = true
-is_end (t ∷ ts) = ends_body (t ∷ ts)
 
 no_end_mark : (kind : TokenKind) (ts us : List Token) → Mark kind ts us → same_kind kind k.EndTag ≡ false → same_kind kind k.OpenClosing ≡ false → stands_opened (codes "else") ts ≡ false → ends_body ts ≡ false
 unfolding ends_body
@@ -237,3 +232,7 @@ read_chained_is depth = (all_sound depth).1
 
 pub reads_chained : (depth : ℕ) → CompleteHead depth (read_chained depth)
 reads_chained depth = (all_complete depth).1
+
+-- what is read leaves fewer tokens
+pub read_stmt_falls : (depth : ℕ) (ts : List Token) (s : Stmt) (us : List Token) → read_stmt depth ts ≡ Some (s, us) → length us < length ts
+read_stmt_falls depth ts s us e = stmt_falls depth ts s us (read_stmt_is depth ts (s, us) e)

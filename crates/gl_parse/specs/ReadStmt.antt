@@ -27,6 +27,16 @@ stands_opened w ts = stands k.OpenMustache ts && stands_word w (drop 1 ts)
 unfoldable pub ends_body : List Token → Bool
 ends_body ts = stands k.EndTag ts || stands k.OpenClosing ts || stands_opened (codes "else") ts
 
+-- a body ends here, as it does at the end of the tokens
+abbrev pub is_end : List Token → Bool
+is_end [] = true
+is_end (t ∷ ts) = ends_body (t ∷ ts)
+
+-- the first token gives no statement
+abbrev pub stands_silent : List Token → Bool
+stands_silent [] = false
+stands_silent (t ∷ ts) = is_silent t
+
 -- statements, and silent tokens among them, of so many tokens at most, where `one` reads one of them
 unfoldable pub read_stmts : Reader Stmt → ℕ → List Token → Taken (List Stmt)
 read_stmts one n [] = Some ([], [])
