@@ -1,11 +1,16 @@
 pub mod BlockLaws
 pub mod Bodies
+pub mod Called
 pub mod ExprLists
 pub mod Falls
 pub mod FirstTokens
 pub mod FlatLaws
+pub mod Items
 pub mod Lower
+pub mod Many
 pub mod Scanned
+pub mod Shorter
+pub mod ShorterValues
 pub mod Spelled
 pub mod StmtLaws
 pub mod TagLaws

@@ -13,7 +13,7 @@ use Rattle.gl_ast.specs.Words.{reserved}
 use Rattle.gl_ast.specs.declared.token.Token.{Token}
 use Rattle.gl_ast.specs.declared.token.TokenKind.{TokenKind}
 use Rattle.gl_ast.specs.declared.token.TokenKind.TheVariants as k
-use Rattle.gl_parse.specs.Take.{Taken, same_kind, stands, take_kind}
+use Rattle.gl_parse.specs.Take.{Taken, same_kind, stands, take_kind, read_many}
 
 -- the constant that a word stands for
 unfoldable pub constant_of : Text → Option Plain
@@ -73,10 +73,8 @@ unfoldable pub starts_expr : List Token → Bool
 starts_expr ts = (stands k.Path ts || stands k.Number ts || stands k.StringLit ts || stands k.OpenParen ts) && not (stands_named ts)
 
 -- expressions one after another, at most so many, where `one` reads one of them
-unfoldable pub read_exprs : (List Token → Taken Expr) → ℕ → List Token → Taken (List Expr)
-read_exprs one zero ts = if starts_expr ts then None else Some ([], ts)
-read_exprs one (suc n) ts =
-    if starts_expr ts then (one ts >>= λ e. (read_exprs one n e.1 >>= λ more. Some (e.0 ∷ more.0, more.1))) else Some ([], ts)
+abbrev pub read_exprs : (List Token → Taken Expr) → ℕ → List Token → Taken (List Expr)
+read_exprs one n ts = read_many starts_expr one n ts
 
 -- one after its name and `=`
 unfoldable pub read_pair : (List Token → Taken Expr) → List Token → Taken (Text × Expr)
@@ -86,10 +84,8 @@ read_pair one ts = do
   value ← one mark.1
   Some ((name.0, value.0), value.1)
 
-unfoldable pub read_named : (List Token → Taken Expr) → ℕ → List Token → Taken (List (Text × Expr))
-read_named one zero ts = if stands_name ts then None else Some ([], ts)
-read_named one (suc n) ts =
-    if stands_name ts then (read_pair one ts >>= λ p. (read_named one n p.1 >>= λ more. Some (p.0 ∷ more.0, more.1))) else Some ([], ts)
+abbrev pub read_named : (List Token → Taken Expr) → ℕ → List Token → Taken (List (Text × Expr))
+read_named one n ts = read_many stands_name (read_pair one) n ts
 
 -- positional arguments, then named ones
 unfoldable pub read_arguments : (List Token → Taken Expr) → List Token → Taken (Exprs × NamedExprs)

@@ -15,6 +15,7 @@ mod path;
 mod scan;
 mod statement;
 mod tag;
+mod value;
 mod words;
 
 pub use fault::ParseFault;
