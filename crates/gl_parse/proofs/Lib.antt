@@ -11,8 +11,9 @@ pub mod Many
 pub mod Scanned
 pub mod Shorter
 pub mod ShorterValues
-pub mod Spelled
+pub mod SpellsRead
 pub mod StmtLaws
 pub mod TagLaws
 pub mod Takings
 pub mod TokenPieces
+pub mod Utf8

@@ -262,10 +262,12 @@ unfoldable mutual
   read_chained (suc depth) ts = read_block_with (read_stmt depth) (read_chained depth) ts
 
 -- the statements of a template, where nothing is left
+abbrev pub nothing_left : List Token → Bool
+nothing_left [] = true
+nothing_left (t ∷ ts) = false
+
 unfoldable pub whole : {A : Type 0} → Taken A → Option A
-whole None = None
-whole (Some (x, [])) = Some x
-whole (Some (x, t ∷ ts)) = None
+whole read = read >>= λ p. (if nothing_left p.1 then Some p.0 else None)
 
 -- the tree that the tokens of a template spell
 unfoldable pub read_template : List Token → Option Body
@@ -275,9 +277,14 @@ read_template ts = whole (read_body (read_stmt deepest_nesting) ts)
 unfoldable pub read_lone : List Token → Option Expr
 read_lone ts = whole (read_expr deepest_calls ts)
 
--- the same of bytes in UTF-8
-unfoldable pub template_of : List ℕ → Option Body
-template_of bytes = if is_utf8 bytes then (template_tokens bytes >>= λ list. read_template (settled bytes list)) else None
+-- the tree that a text spells
+unfoldable pub text_tree : List ℕ → Option Body
+text_tree text = template_tokens text >>= λ list. read_template (settled text list)
 
+-- the same of bytes, which are UTF-8
+unfoldable pub template_of : List ℕ → Option Body
+template_of bytes = if is_utf8 bytes then text_tree bytes else None
+
+-- the expression that a text spells
 unfoldable pub expression_of : List ℕ → Option Expr
-expression_of bytes = lone_tokens bytes >>= read_lone
+expression_of text = lone_tokens text >>= read_lone

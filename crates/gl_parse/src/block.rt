@@ -9,10 +9,10 @@ ghost use Rattle.gl_parse.specs.View.{front_view};
 
 use crate::ParseFault;
 use crate::cursor::Cursor;
-use crate::expression::{DEEPEST_CALLS, expr, exprs};
+use crate::expr::{DEEPEST_CALLS, expr, exprs};
 use crate::item::parameters;
 use crate::name::is_text;
-use crate::statement::ascii;
+use crate::statement::{ascii, take_end};
 use crate::words::string_of;
 use gl_ast::{Expr, Exprs, Names, Stmt, Str, TokenKind};
 use std::alloc::Global;
@@ -128,7 +128,7 @@ fn word_of(block: &Stmt) -> &'static str
 pub fn take_closing(tokens: &mut Cursor, block: &Stmt) -> Result<(), ParseFault>
     ensures { Gives Fails (λ _. tokens.new) result (take_closing (word_of (stmt_view block.now)) tokens.old) }
 {
-    tokens.take(TokenKind::OpenClosing)?;
+    take_end(tokens, TokenKind::OpenClosing)?;
     tokens.take_word(word_of(block))?;
     tokens.take(TokenKind::CloseMustache)?;
     Ok(())

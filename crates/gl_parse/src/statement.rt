@@ -4,12 +4,13 @@ ghost use Rattle.gl_base.specs.Answers.{Gives};
 ghost use Rattle.gl_base.specs.Texts.{is_ascii_text};
 ghost use Rattle.gl_ast.specs.View.{stmt_view};
 ghost use Rattle.gl_parse.specs.Fault.{Fails};
+ghost use Rattle.gl_parse.specs.Take.{take_kind};
 ghost use Rattle.gl_parse.specs.ReadStmt.{stands_opened, read_yield, read_flat};
 
 use crate::ParseFault;
 use crate::cursor::Cursor;
 use crate::decode::decoded;
-use crate::expression::{DEEPEST_CALLS, exprs, mustache};
+use crate::expr::{DEEPEST_CALLS, exprs, mustache};
 use crate::words::comment_of;
 use gl_ast::{Stmt, Str, TokenKind};
 use std::alloc::{AllocError, Global};
@@ -21,6 +22,26 @@ pub fn stands_opened(tokens: &Cursor, word: &str) -> bool
     ensures { result ≡ stands_opened word.now tokens.now }
 {
     tokens.stands(TokenKind::OpenMustache) && tokens.ahead().stands_word(word)
+}
+
+/// Where reading can't go on: at the word else where `{{` and else come next, or else at the next token.
+pub fn stuck(tokens: &Cursor) -> u64 {
+    if stands_opened(tokens, "else") {
+        tokens.ahead().place()
+    } else {
+        tokens.place()
+    }
+}
+
+/// Takes a token of this kind after a body.
+pub fn take_end<'a>(tokens: &mut Cursor<'a>, kind: TokenKind) -> Result<&'a Str, ParseFault>
+    ensures { Gives Fails (λ t. (t.now, tokens.new)) result (take_kind kind tokens.old) }
+{
+    let place = stuck(tokens);
+    match tokens.take(kind) {
+        Err(ParseFault::NotInGrammar { .. }) => Err(ParseFault::NotInGrammar { offset: place }),
+        taken => taken,
+    }
 }
 
 /// A text of ASCII.

@@ -14,7 +14,7 @@ use crate::ParseFault;
 use crate::cursor::Cursor;
 use crate::item::{TagItems, items, parameters};
 use crate::scan::Scan;
-use crate::statement::ascii;
+use crate::statement::{ascii, take_end};
 use crate::words::is_end_of;
 use gl_ast::{Args, Block, Body, Names, Parts, Slot, Slots, Stmt, Str, TokenKind};
 use std::alloc::{AllocError, Global};
@@ -195,7 +195,7 @@ pub fn take_end_tag(tokens: &mut Cursor, name: &Str) -> Result<(), ParseFault>
     ensures { Gives Fails (λ _. tokens.new) result (take_end_tag name.now tokens.old) }
 {
     let place = tokens.place();
-    let raw = tokens.take(TokenKind::EndTag)?;
+    let raw = take_end(tokens, TokenKind::EndTag)?;
     if is_end_of(raw, name) {
         Ok(())
     } else {

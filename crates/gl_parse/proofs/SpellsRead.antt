@@ -11,18 +11,25 @@ use Rattle.gl_ast.specs.declared.mode.Mode.TheVariants as m
 use Rattle.gl_ast.specs.declared.token.Token.{Token}
 use Rattle.gl_ast.proofs.Readings.{reading_read, read_reading}
 use Rattle.gl_parse.specs.ReadExpr.{read_expr}
-use Rattle.gl_parse.specs.ReadStmt.{read_stmt, read_body, whole, read_template, read_lone, template_of, expression_of}
+use Rattle.gl_parse.specs.ReadStmt.{read_stmt, read_body, nothing_left, whole, read_template, read_lone, text_tree, template_of, expression_of}
 use Rattle.gl_parse.proofs.FirstTokens.{test_some}
 use Rattle.gl_parse.proofs.Lower.{read_expr_is, reads_expr}
 use Rattle.gl_parse.proofs.StmtLaws.{read_stmt_is, reads_stmt, bodies_sound, reads_body}
 use Rattle.gl_parse.proofs.Takings.{first_gave, some_is}
 
 -- nothing was left
+none_left : (ts : List Token) → nothing_left ts ≡ true → ts ≡ []
+none_left [] e = refl
+none_left (t ∷ ts) e = let r : ⊥ = cc in absurd r
+
 whole_is : {A : Type 0} (o : Option (A × List Token)) (x : A) → whole o ≡ Some x → o ≡ Some (x, [])
 unfolding whole
-whole_is None x e = let r : ⊥ = cc in absurd r
-whole_is (Some (y, [])) x e = ap (λ z. Some (z, [])) (some_is y x e)
-whole_is (Some (y, t ∷ ts)) x e = let r : ⊥ = cc in absurd r
+whole_is o x e =
+    let p = first_gave o _ x e in
+    let s = test_some (nothing_left p.0.1) _ x p.2 in
+    let a = some_is _ _ s.1 in
+    let b = none_left p.0.1 s.0 in
+    p.1 ∙ ap (λ y. Some (y, p.0.1)) a ∙ ap (λ l. Some (x, l)) b
 
 is_whole : {A : Type 0} (o : Option (A × List Token)) (x : A) → o ≡ Some (x, []) → whole o ≡ Some x
 unfolding whole
@@ -39,14 +46,14 @@ reads_template list b h =
     is_whole (read_body (read_stmt deepest_nesting) list) b (reads_body deepest_nesting (read_stmt deepest_nesting) (reads_stmt deepest_nesting) list b [] refl h)
 
 pub read_spells : (bytes : List ℕ) (b : Body) → template_of bytes ≡ Some b → Spells bytes b
-unfolding template_of template_tokens
+unfolding template_of text_tree template_tokens
 read_spells bytes b e =
     let s = test_some (is_utf8 bytes) _ b e in
     let list = first_gave (template_tokens bytes) _ b s.1 in
     (list.0, s.0, read_reading m.Content 0 bytes list.0 list.1, read_template_is (settled bytes list.0) b list.2)
 
 pub spells_read : (bytes : List ℕ) (b : Body) → Spells bytes b → template_of bytes ≡ Some b
-unfolding template_of template_tokens
+unfolding template_of text_tree template_tokens
 spells_read bytes b (list, utf8, tokens, are) =
     rw (utf8, reading_read m.Content 0 bytes list tokens) (reads_template (settled bytes list) b are)
 
