@@ -15,5 +15,6 @@ pub mod SpellsRead
 pub mod StmtLaws
 pub mod TagLaws
 pub mod Takings
+pub mod Telling
 pub mod TokenPieces
 pub mod Utf8
