@@ -1,13 +1,17 @@
 pub mod BlockLaws
 pub mod Bodies
 pub mod Called
+pub mod Chains
 pub mod ExprLists
 pub mod Falls
 pub mod FirstTokens
+pub mod Firsts
 pub mod FlatLaws
 pub mod Items
 pub mod Lower
 pub mod Many
+pub mod NameLaws
+pub mod References
 pub mod Scanned
 pub mod Shorter
 pub mod ShorterValues

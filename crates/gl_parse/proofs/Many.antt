@@ -53,11 +53,11 @@ fail starts one (suc n) done ts all going is e = sym (rw (going, is) at e)
 pub many_fail : {A : Type 0} (starts : List Token → Bool) (one : List Token → Taken A) (done : List A) (ts : List Token) (all : Taken (List A)) → starts ts ≡ true → IsLeft starts one done ts all → one ts ≡ None → all ≡ None
 many_fail starts one done ts all going left is = fail starts one left.0 done ts all going is left.2
 
-stop : {A : Type 0} (starts : List Token → Bool) (one : List Token → Taken A) (n : ℕ) (ts : List Token) → starts ts ≡ false → read_many starts one n ts ≡ Some ([], ts)
+pub many_stop : {A : Type 0} (starts : List Token → Bool) (one : List Token → Taken A) (n : ℕ) (ts : List Token) → starts ts ≡ false → read_many starts one n ts ≡ Some ([], ts)
 unfolding read_many
-stop starts one zero ts e = rw e refl
-stop starts one (suc n) ts e = rw e refl
+many_stop starts one zero ts e = rw e refl
+many_stop starts one (suc n) ts e = rw e refl
 
 -- no more comes
 pub many_end : {A : Type 0} (starts : List Token → Bool) (one : List Token → Taken A) (done : List A) (ts : List Token) (all : Taken (List A)) → starts ts ≡ false → IsLeft starts one done ts all → all ≡ Some (done, ts)
-many_end starts one done ts all ends left = sym left.2 ∙ ap (with_front done) (stop starts one left.0 ts ends) ∙ ap (λ l. Some (l, ts)) (append-nil done)
+many_end starts one done ts all ends left = sym left.2 ∙ ap (with_front done) (many_stop starts one left.0 ts ends) ∙ ap (λ l. Some (l, ts)) (append-nil done)

@@ -5,4 +5,5 @@ pub mod ReadItem
 pub mod ReadStmt
 pub mod ReadValue
 pub mod Take
+pub mod Referring
 pub mod View

@@ -1,6 +1,9 @@
 // A place in a text.
-ghost use Rattle.std.specs.Prelude.{◌≡◌, ◌∷◌, [], MatchOption};
+ghost use Rattle.std.specs.Prelude.{◌≡◌, ◌≤◌, ◌∷◌, [], MatchOption, length};
+ghost use Rattle.std.specs.List.{prefix_len};
 ghost use Rattle.std.specs.Str.{chars};
+ghost use Rattle.gl_ast.specs.Scans.{after_all};
+ghost use Rattle.gl_parse.specs.Referring.{in_reference, run};
 
 use gl_ast::Str;
 use std::marker::Model;
@@ -22,6 +25,22 @@ impl<'a> Model for Scan<'a> {
     ghost invariant = { λ s. IsUtf8 s.rest.now };
 }
 
+// Whether the byte may stand in a character reference.
+fn in_reference(b: u8) -> bool
+    ensures { result ≡ in_reference b }
+{
+    b.is_ascii_alphanumeric() || b == b'#'
+}
+
+// How many such bytes come first.
+#[tactic(auto, using(crate::proofs::Scanned::fronts))]
+fn run_len(bytes: &[u8]) -> usize
+    ensures value { result ≡ prefix_len in_reference bytes.now }
+    ensures within { result ≤ length bytes.now }
+{
+    bytes.iter().take_while(|b| in_reference(**b)).count()
+}
+
 #[tactic(auto, using(gl_base::proofs::Chars::char_laws))]
 impl<'a> Scan<'a> {
     /// Before all characters of a text.
@@ -31,6 +50,13 @@ impl<'a> Scan<'a> {
         Scan {
             rest: text.as_str(),
         }
+    }
+
+    /// Before all characters of a slice.
+    pub fn of(text: &'a str) -> Scan<'a>
+        ensures { result ≡ chars text.now }
+    {
+        Scan { rest: text }
     }
 
     /// Another place that is the same.
@@ -55,5 +81,17 @@ impl<'a> Scan<'a> {
         let first = characters.next();
         self.rest = characters.as_str();
         first
+    }
+
+    /// Takes the characters that may stand in a character reference, as many as come next.
+    pub fn run(&mut self) -> &'a str
+        ensures value { chars result.now ≡ run self.old }
+        ensures rest { self.new ≡ after_all in_reference self.old }
+    {
+        let text = self.rest;
+        let count = run_len(text.as_bytes());
+        let (front, back) = text.split_at(count);
+        self.rest = back;
+        front
     }
 }

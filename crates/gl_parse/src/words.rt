@@ -17,8 +17,8 @@ fn is_white(c: char) -> bool
     matches!(c, ' ' | '\t' | '\n' | '\x0c' | '\r')
 }
 
-// Whether no character is left.
-fn is_end(scan: &Scan) -> bool
+/// Whether no character is left.
+pub fn is_end(scan: &Scan) -> bool
     ensures { result ≡ is_none_left scan.now }
 {
     let mut ahead = scan.copy();
