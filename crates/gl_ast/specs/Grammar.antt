@@ -274,6 +274,10 @@ abbrev mutual
 abbrev pub Spells : List ℕ → Body → Type 0
 Spells bytes b = (list : List Token) × (is_utf8 bytes ≡ true) × IsTokens bytes list × AreStmts deepest_nesting (settled bytes list) b []
 
+-- some bytes spell it
+abbrev pub IsTemplate : Body → Type 0
+IsTemplate b = ∥ ((bytes : List ℕ) × Spells bytes b) ∥₁
+
 -- The bytes spell the expression, with white space round it or not.
 abbrev pub SpellsExpr : List ℕ → Expr → Type 0
 SpellsExpr bytes e = (list : List Token) × (is_utf8 bytes ≡ true) × IsLoneTokens bytes list × IsExpr deepest_calls list e []

@@ -19,10 +19,11 @@ use Rattle.gl_parse.specs.Take.{Taken, same_kind, stands, take_kind, read_many}
 use Rattle.gl_parse.proofs.Chains.{Chain, many_started, IsRead, chain_many}
 use Rattle.gl_parse.proofs.ExprLaws.{read_arguments_are, reads_arguments}
 use Rattle.gl_parse.proofs.Firsts.{kind_is, takes_kind, kind_stands, other_stands, is_same}
-use Rattle.gl_parse.proofs.Items.{starts_next, read_next, next_shorter}
+use Rattle.gl_parse.proofs.Items.{modifier_shorter, comments_leave, starts_next, read_next, next_shorter}
 use Rattle.gl_parse.proofs.NameLaws.{read_name_is, reads_name}
 use Rattle.gl_parse.proofs.Starts.{end_mustache}
-use Rattle.gl_parse.proofs.ValueLaws.{read_given_is, reads_given}
+use Rattle.gl_parse.proofs.ShorterValues.{value_shorter}
+use Rattle.gl_parse.proofs.ValueLaws.{reads_value, read_given_is, reads_given}
 
 -- What is read as an item is one.
 
@@ -182,6 +183,35 @@ next_read component ts i us h f =
     let r = reads_item component (after_comments ts) i us h.1 h.0 f in
     record { going = r.going; reads = r.reads; less = next_shorter ts (i, us) r.reads; follows = before_comments ts r.other }
 
+-- What is left after an item is not longer.
+
+given_leave : (ts : List Token) (x : AttrValue) (us : List Token) → IsGiven ts x us → length us ≤ length ts
+given_leave ts x us (inl h) = let same : length ts ≡ length us = ap length h.0 in omega arith
+given_leave ts x us (inr h) =
+    let f : length ts ≡ length (h.1.0 ∷ h.0) = ap length h.1.1 in
+    let g = value_shorter h.0 (x, us) (reads_value h.0 x us h.2) in
+    omega arith
+
+item_leaves : (ts : List Token) (i : Item) (us : List Token) → IsItem ts i us → length us ≤ length ts
+item_leaves ts (part_item (attribute n x)) us h =
+    let f : length ts ≡ length (h.1.0 ∷ h.0) = ap length h.1.1 in
+    let g = given_leave h.0 x us h.2 in
+    omega arith
+item_leaves ts (part_item (modifier n es ns)) us h = let f = modifier_shorter ts (part_item (modifier n es ns), us) (reads_modifier ts h.0 h.1 us n es ns h.2 h.3 h.4) in omega arith
+item_leaves ts (part_item spread) us h = let f : length ts ≡ length (h.0 ∷ us) = ap length h.1 in omega arith
+item_leaves ts (argument_item n x) us h =
+    let f : length ts ≡ length (h.1.0 ∷ h.0) = ap length h.1.1 in
+    let g = given_leave h.0 x us h.2 in
+    omega arith
+
+pub items_leave : (ts : List Token) (is : List Item) (us : List Token) → AreItems ts is us → length us ≤ length ts
+items_leave ts [] us h = let f = comments_leave ts in let g : length (after_comments ts) ≡ length us = ap length h in omega arith
+items_leave ts (i ∷ is) us h =
+    let f = comments_leave ts in
+    let g = item_leaves (after_comments ts) i h.0 h.1 in
+    let j = items_leave h.0 is us h.2 in
+    omega arith
+
 -- Items, as a chain and the comments after it.
 
 abbrev pub AreAllowed : Bool → List Item → Type 0
@@ -211,7 +241,7 @@ reads_items component n ts is us h a ends f fits =
 
 -- The items of an element are parts.
 
-parts_allowed : (ps : List Part) → AreAllowed false (map part_item ps)
+pub parts_allowed : (ps : List Part) → AreAllowed false (map part_item ps)
 parts_allowed [] = tt
 parts_allowed (p ∷ ps) = (tt, parts_allowed ps)
 
@@ -223,12 +253,12 @@ arguments_of-parts : (ps : List Part) → arguments_among (map part_item ps) ≡
 arguments_of-parts [] = refl
 arguments_of-parts (p ∷ ps) = arguments_of-parts ps
 
-allowed_parts : (is : List Item) → AreAllowed false is → map part_item (parts_among is) ≡ is
+pub allowed_parts : (is : List Item) → AreAllowed false is → map part_item (parts_among is) ≡ is
 allowed_parts [] a = refl
 allowed_parts (part_item p ∷ is) a = ap (λ x. part_item p ∷ x) (allowed_parts is a.1)
 allowed_parts (argument_item n v ∷ is) a = absurd cc
 
-all_allowed : (is : List Item) → AreAllowed true is
+pub all_allowed : (is : List Item) → AreAllowed true is
 all_allowed [] = tt
 all_allowed (part_item p ∷ is) = (tt, all_allowed is)
 all_allowed (argument_item n v ∷ is) = (refl, all_allowed is)

@@ -42,7 +42,7 @@ argument_shorter ts x e = option_and_then_some _ _ x e (λ name p e1. option_and
     let i = left_is value.1 _ x last in
     omega arith))
 
-modifier_shorter : (ts : List Token) (x : Item × List Token) → read_modifier ts ≡ Some x → length x.1 < length ts
+pub modifier_shorter : (ts : List Token) (x : Item × List Token) → read_modifier ts ≡ Some x → length x.1 < length ts
 unfolding read_modifier
 modifier_shorter ts x e = option_and_then_some _ _ x e (λ front p e1. option_and_then_some _ _ x e1 (λ name q e2. option_and_then_some _ _ x e2 (λ given s e3. option_and_then_some _ _ x e3 (λ back t last.
     let f = kind_shorter k.OpenMustache ts front p in
@@ -108,10 +108,14 @@ items_start component ps given ts all e f g = ([], all, sym e, sym f, g, many_st
 pub items_go : (component : Bool) (ps qs : List Part) (given more : List (Text × AttrValue)) (ts all : List Token) (x : Item × List Token) (us : List Token) → starts_item component ts ≡ true → read_item ts ≡ Some x → qs ≡ ps ++ parts_among (x.0 ∷ []) → more ≡ given ++ arguments_among (x.0 ∷ []) → us ≡ after_comments x.1 → AreLeft component ps given ts all → AreLeft component qs more us all
 items_go component ps qs given more ts all x us going is e f g left =
     let starts : starts_next component left.1 ≡ true = ap (starts_item component) (sym left.4) ∙ going in
-    let reads : read_next left.1 ≡ Some x = ap read_item (sym left.4) ∙ is in
-    (left.0 ++ x.0 ∷ [], x.1, parts_more left.0 (x.0 ∷ []) ∙ ap (λ y. y ++ parts_among (x.0 ∷ [])) left.2 ∙ sym e,
-    arguments_more left.0 (x.0 ∷ []) ∙ ap (λ y. y ++ arguments_among (x.0 ∷ [])) left.3 ∙ sym f, g,
-    many_go (starts_next component) read_next left.0 left.1 x _ starts reads (next_shorter left.1 x reads) left.5)
+    let reads : read_next left.1 ≡ Some x = ap read_item (sym left.4) ∙ is in (
+      left.0 ++ x.0 ∷ [],
+      x.1,
+      parts_more left.0 (x.0 ∷ []) ∙ ap (λ y. y ++ parts_among (x.0 ∷ [])) left.2 ∙ sym e,
+      arguments_more left.0 (x.0 ∷ []) ∙ ap (λ y. y ++ arguments_among (x.0 ∷ [])) left.3 ∙ sym f,
+      g,
+      many_go (starts_next component) read_next left.0 left.1 x _ starts reads (next_shorter left.1 x reads) left.5,
+    )
 
 pub items_fail : (component : Bool) (ps : List Part) (given : List (Text × AttrValue)) (ts all : List Token) → starts_item component ts ≡ true → AreLeft component ps given ts all → read_item ts ≡ None → read_tag_items component all ≡ None
 unfolding read_tag_items read_items

@@ -9,7 +9,7 @@ ghost use Rattle.gl_parse.specs.View.{item_view};
 
 use crate::ParseFault;
 use crate::cursor::Cursor;
-use crate::expression::{DEEPEST_CALLS, arguments};
+use crate::expr::{DEEPEST_CALLS, arguments};
 use crate::name::{is_argument, name};
 use crate::value::given;
 use crate::words::{parameters_of, without_first};

@@ -10,7 +10,7 @@ ghost use Rattle.gl_parse.specs.Take.{stands, read_many, with_front};
 use crate::ParseFault;
 use crate::cursor::Cursor;
 use crate::decode::decoded;
-use crate::expression::mustache;
+use crate::expr::mustache;
 use gl_ast::{AttrValue, Expr, Exprs, Lit, Str, TokenKind};
 use std::alloc::Global;
 

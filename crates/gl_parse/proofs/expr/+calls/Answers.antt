@@ -4,7 +4,7 @@ use Rattle.gl_ast.specs.View.{expr_view, named_view}
 use Rattle.gl_parse.specs.ReadExpr.{starts_expr, stands_name, read_expr, read_pair}
 use Rattle.gl_parse.proofs.Many.{many_go, many_fail, many_end, fails_on}
 use Rattle.gl_parse.proofs.Shorter.{expr_shorter, pair_shorter}
-use Rattle.gl_parse.proofs.expression.+calls.Goals as goal
+use Rattle.gl_parse.proofs.expr.+calls.Goals as goal
 
 pub exprs-returns-in_err-next : goal.exprs-returns-in_err-next
 exprs-returns-in_err-next t c =

@@ -1,7 +1,7 @@
 use Rattle.std.proofs.Common.{◌+◌, ◌*◌, length}
 use Rattle.gl_parse.specs.ReadExpr.{starts_expr, stands_name, read_expr, read_exprs, read_named, read_pair}
 use Rattle.gl_parse.proofs.Many.{IsLeft}
-use Rattle.gl_parse.proofs.expression.+calls.Given as goal
+use Rattle.gl_parse.proofs.expr.+calls.Given as goal
 
 abbrev pub decreases-expr : goal.decreases-expr
 decreases-expr l = 5 * l.calls
