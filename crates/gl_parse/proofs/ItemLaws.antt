@@ -297,6 +297,7 @@ read_parameters_are ts x e = by_case (stands k.Parameters ts) e where
   by_taken (Some t) p f =
       let g = kind_is k.Parameters ts t p in
       subst (λ (y : List Text × List Token). AreParameters ts y.0 y.1) (same_Some {A = List Text × List Token} (parameters_of t.0, t.1) x f) (inr (g.token, g.here, g.is_kind, ap parameters_of g.is_text))
+
   by_case : (b : Bool) → (if b then option_map (λ t. (parameters_of t.0, t.1)) (take_kind k.Parameters ts) else Some ([], ts)) ≡ Some x → AreParameters ts x.0 x.1
   by_case true f = by_taken (take_kind k.Parameters ts) refl f
   by_case false f = subst (λ (y : List Text × List Token). AreParameters ts y.0 y.1) (same_Some {A = List Text × List Token} ([], ts) x f) (inl (refl, refl))

@@ -63,10 +63,10 @@ pub starts_single : (ts : List Token) (e : Expr) (vs : List Token) → IsSingle 
 starts_single ts e vs s f =
     let named = not_named ts vs s.token s.here f in
     elim s.operand [
-    | inl path ↦ starts_when ts (four_first (stands k.Path ts) (stands k.Number ts) (stands k.StringLit ts) (stands k.OpenParen ts) (kind_stands k.Path ts vs s.token s.here path)) named
-    | inr other ↦ elim other [
-      | inl number ↦ starts_when ts (four_second (stands k.Path ts) (stands k.Number ts) (stands k.StringLit ts) (stands k.OpenParen ts) (kind_stands k.Number ts vs s.token s.here number)) named
-      | inr string ↦ starts_when ts (four_third (stands k.Path ts) (stands k.Number ts) (stands k.StringLit ts) (stands k.OpenParen ts) (kind_stands k.StringLit ts vs s.token s.here string)) named
+      | inl path ↦ starts_when ts (four_first (stands k.Path ts) (stands k.Number ts) (stands k.StringLit ts) (stands k.OpenParen ts) (kind_stands k.Path ts vs s.token s.here path)) named
+      | inr other ↦ elim other [
+        | inl number ↦ starts_when ts (four_second (stands k.Path ts) (stands k.Number ts) (stands k.StringLit ts) (stands k.OpenParen ts) (kind_stands k.Number ts vs s.token s.here number)) named
+        | inr string ↦ starts_when ts (four_third (stands k.Path ts) (stands k.Number ts) (stands k.StringLit ts) (stands k.OpenParen ts) (kind_stands k.StringLit ts vs s.token s.here string)) named
       ]
     ]
 
@@ -77,8 +77,8 @@ single_other ts e vs kind s f g h = elim s.operand [
   | inr other ↦ elim other [
     | inl number ↦ other_stands k.Number kind ts vs s.token s.here number g
     | inr string ↦ other_stands k.StringLit kind ts vs s.token s.here string h
-    ]
   ]
+]
 
 not_named_open : (ts vs : List Token) (t : Token) → ts ≡ t ∷ vs → t.kind ≡ k.OpenParen → stands_named ts ≡ false
 unfolding stands_named

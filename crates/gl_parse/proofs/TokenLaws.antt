@@ -37,23 +37,27 @@ at_sign : (n : Text) → begins (64 ∷ []) n ≡ true → n ≡ 64 ∷ drop 1 n
 at_sign [] e = absurd cc
 at_sign (c ∷ cs) e = grind arith
 
-
 constant_is : (n : Text) (c : Plain) → constant_of n ≡ Some c → (ts us : List Token) (t : Token) → ts ≡ t ∷ us → t.kind ≡ k.Path → t.text ≡ n → IsLiteral ts c us
 unfolding constant_of
 constant_is n c e ts us t here kind text = by_true (bytes_eq (codes "true") n) refl e where
   word : (w : Text) → bytes_eq w n ≡ true → t.text ≡ w
   word w f = text ∙ sym (bytes_same w n f)
+
   as_value : (w : Plain) → ◌≡◌ {A = Option Plain} (Some w) (Some c) → IsLiteral ts w us → IsLiteral ts c us
   as_value w f h = subst (λ (x : Plain). IsLiteral ts x us) (same_Some w c f) h
+
   by_undefined : (b : Bool) → bytes_eq (codes "undefined") n ≡ b → (if b then Some v.undefined else None) ≡ Some c → IsLiteral ts c us
   by_undefined true f g = as_value v.undefined g (t, here, kind, word (codes "undefined") f)
   by_undefined false f g = absurd cc
+
   by_null : (b : Bool) → bytes_eq (codes "null") n ≡ b → (if b then Some v.null else (if bytes_eq (codes "undefined") n then Some v.undefined else None)) ≡ Some c → IsLiteral ts c us
   by_null true f g = as_value v.null g (t, here, kind, word (codes "null") f)
   by_null false f g = by_undefined (bytes_eq (codes "undefined") n) refl g
+
   by_false : (b : Bool) → bytes_eq (codes "false") n ≡ b → (if b then Some (v.boolean false) else (if bytes_eq (codes "null") n then Some v.null else (if bytes_eq (codes "undefined") n then Some v.undefined else None))) ≡ Some c → IsLiteral ts c us
   by_false true f g = as_value (v.boolean false) g (t, here, kind, word (codes "false") f)
   by_false false f g = by_null (bytes_eq (codes "null") n) refl g
+
   by_true : (b : Bool) → bytes_eq (codes "true") n ≡ b → (if b then Some (v.boolean true) else (if bytes_eq (codes "false") n then Some (v.boolean false) else (if bytes_eq (codes "null") n then Some v.null else (if bytes_eq (codes "undefined") n then Some v.undefined else None)))) ≡ Some c → IsLiteral ts c us
   by_true true f g = as_value (v.boolean true) g (t, here, kind, word (codes "true") f)
   by_true false f g = by_false (bytes_eq (codes "false") n) refl g
@@ -69,18 +73,23 @@ path_is d ts us t [] e here kind names h = absurd cc
 path_is d ts us t (n ∷ ns) e here kind names h = by_argument (begins (64 ∷ []) n) refl h where
   is_expr : (f : Expr) → ◌≡◌ {A = Option Expr} (Some f) (Some e) → IsExpr d ts f us → IsExpr d ts e us
   is_expr f g i = subst (λ (x : Expr). IsExpr d ts x us) (same_Some f e g) i
+
   after_this : (ms : List Text) → ns ≡ ms → bytes_eq (codes "this") n ≡ true → this_path ms ≡ Some e → IsExpr d ts e us
   after_this [] f g i = absurd cc
   after_this (m ∷ ms) f g i = is_expr (this m ms) i (t, here, kind, names ∙ ap (λ x. x ∷ ns) (sym (bytes_same (codes "this") n g)) ∙ ap (λ x. codes "this" ∷ x) f)
+
   after_word : (ms : List Text) → ns ≡ ms → constant_path n ms ≡ Some e → IsExpr d ts e us
   after_word [] f i = mapped_some literal (constant_of n) e i (λ c is same. subst (λ (x : Expr). IsExpr d ts x us) same (constant_is n c is ts us t here kind (split_one 46 t.text n (names ∙ ap (λ x. n ∷ x) f)).0))
   after_word (m ∷ ms) f i = absurd cc
+
   by_reserved : (b : Bool) → begins (64 ∷ []) n ≡ false → has_text n reserved ≡ b → (if b then constant_path n ns else Some (bare n ns)) ≡ Some e → IsExpr d ts e us
   by_reserved true a f g = after_word ns refl g
   by_reserved false a f g = is_expr (bare n ns) g (t, here, kind, (names, rw (a, f) refl))
+
   by_this : (b : Bool) → begins (64 ∷ []) n ≡ false → bytes_eq (codes "this") n ≡ b → (if b then this_path ns else (if has_text n reserved then constant_path n ns else Some (bare n ns))) ≡ Some e → IsExpr d ts e us
   by_this true a f g = after_this ns refl f g
   by_this false a f g = by_reserved (has_text n reserved) a refl g
+
   by_argument : (b : Bool) → begins (64 ∷ []) n ≡ b → (if b then Some (argument (drop 1 n) ns) else (if bytes_eq (codes "this") n then this_path ns else (if has_text n reserved then constant_path n ns else Some (bare n ns)))) ≡ Some e → IsExpr d ts e us
   by_argument true f g = is_expr (argument (drop 1 n) ns) g (t, here, kind, names ∙ ap (λ x. x ∷ ns) (at_sign n f))
   by_argument false f g = by_this (bytes_eq (codes "this") n) f refl g
@@ -92,9 +101,11 @@ token_is d ts us t e here h = by_path (same_kind t.kind k.Path) refl h where
   by_string : (b : Bool) → same_kind t.kind k.StringLit ≡ b → (if b then Some (literal (v.text (string_of t.text))) else None) ≡ Some e → IsExpr d ts e us
   by_string true f g = subst (λ (x : Expr). IsExpr d ts x us) (same_Some (literal (v.text (string_of t.text))) e g) (t, here, same_kind-is t.kind k.StringLit f, refl)
   by_string false f g = absurd cc
+
   by_number : (b : Bool) → same_kind t.kind k.Number ≡ b → (if b then option_map (λ z. literal (v.integer z)) (whole_of t.text) else (if same_kind t.kind k.StringLit then Some (literal (v.text (string_of t.text))) else None)) ≡ Some e → IsExpr d ts e us
   by_number true f g = mapped_some (λ z. literal (v.integer z)) (whole_of t.text) e g (λ z is same. subst (λ (x : Expr). IsExpr d ts x us) same (t, here, same_kind-is t.kind k.Number f, is))
   by_number false f g = by_string (same_kind t.kind k.StringLit) refl g
+
   by_path : (b : Bool) → same_kind t.kind k.Path ≡ b → (if b then path_expr (names_of t.text) else (if same_kind t.kind k.Number then option_map (λ z. literal (v.integer z)) (whole_of t.text) else (if same_kind t.kind k.StringLit then Some (literal (v.text (string_of t.text))) else None))) ≡ Some e → IsExpr d ts e us
   by_path true f g = path_is d ts us t (names_of t.text) e here (same_kind-is t.kind k.Path f) refl g
   by_path false f g = by_number (same_kind t.kind k.Number) refl g
@@ -171,11 +182,12 @@ path_bare n ns h =
     let r = not_true (has_text n reserved) (and_right (not (begins (64 ∷ []) n)) (not (has_text n reserved)) h) in
     let w : bytes_eq n (codes "this") ≡ false = or_left (bytes_eq n (codes "this")) _ r in
     last (begins (64 ∷ []) n) (bytes_eq (codes "this") n) (has_text n reserved) _ _ _ _ a (bytes_eq-sym (codes "this") n ∙ w) r where
-  last : (a b c : Bool) (x y z w : Option Expr) → a ≡ false → b ≡ false → c ≡ false → (if a then x else (if b then y else (if c then z else w))) ≡ w
-  last a b c x y z w e f g = rw (e, f, g) refl
-  or_left : (a b : Bool) → (a || b) ≡ false → a ≡ false
-  or_left true b e = e
-  or_left false b e = refl
+      last : (a b c : Bool) (x y z w : Option Expr) → a ≡ false → b ≡ false → c ≡ false → (if a then x else (if b then y else (if c then z else w))) ≡ w
+      last a b c x y z w e f g = rw (e, f, g) refl
+
+      or_left : (a b : Bool) → (a || b) ≡ false → a ≡ false
+      or_left true b e = e
+      or_left false b e = refl
 
 pub this_single : (ts us : List Token) (n : Text) (ns : List Text) (t : Token) → ts ≡ t ∷ us → t.kind ≡ k.Path → names_of t.text ≡ codes "this" ∷ n ∷ ns → IsSingle ts (this n ns) us
 this_single ts us n ns t here kind h = path_single ts us t (this n ns) here kind (ap path_expr h ∙ path_this n ns)

@@ -155,10 +155,12 @@ unfolding read_cat
 cat_is ts x e = option_and_then_some _ _ x e (λ texts p e1. option_and_then_some _ _ x e1 (λ first q e2. option_and_then_some _ _ x e2 (λ all s last.
     front_some (texts.0 ++ first.0 ∷ []) (read_many starts_quoted read_quoted (length first.1) first.1) all s (λ more r same.
     let result = same_Some {A = AttrValue × List Token} (live (cat (exprs_of all.0)), all.1) x last in
-    let are = cat_are ts texts.1 first.1 more.1 texts.0 first.0 more.0 (many_chain (stands k.Text) read_quoted_text IsQuotedText (length ts) ts texts text_is p) (read_mustache_is texts.1 first q) (many_chain starts_quoted read_quoted IsQuoted (length first.1) first.1 more quoted_is r) in
-    (exprs_of all.0, ap (λ (y : AttrValue × List Token). y.0) (sym result),
-    subst (λ (z : List Token). AreQuoted true ts (exprs_of all.0) z) (ap (λ (y : AttrValue × List Token). y.1) result)
-    (subst (λ (y : List Expr × List Token). AreQuoted true ts (exprs_of y.0) y.1) same are))))))
+    let are = cat_are ts texts.1 first.1 more.1 texts.0 first.0 more.0 (many_chain (stands k.Text) read_quoted_text IsQuotedText (length ts) ts texts text_is p) (read_mustache_is texts.1 first q) (many_chain starts_quoted read_quoted IsQuoted (length first.1) first.1 more quoted_is r) in (
+      exprs_of all.0,
+      ap (λ (y : AttrValue × List Token). y.0) (sym result),
+      subst (λ (z : List Token). AreQuoted true ts (exprs_of all.0) z) (ap (λ (y : AttrValue × List Token). y.1) result)
+          (subst (λ (y : List Expr × List Token). AreQuoted true ts (exprs_of y.0) y.1) same are),
+    )))))
 
 reads_cat : (ts : List Token) (es : Exprs) (us : List Token) → AreQuoted true ts es us → starts_quoted us ≡ false → read_cat ts ≡ Some (live (cat es), us)
 unfolding read_cat
