@@ -1,4 +1,4 @@
--- The items and the parameters of a tag are read exactly where they stand.
+-- The items of a tag are read exactly where they stand.
 use Rattle.std.proofs.Common.{◌≡◌, ◌⊎◌, inl, inr, ◌≤◌, ◌<◌, ℕ, zero, suc, List, [], ◌∷◌, Bool, true, false, Option, Some, None, length, map, drop, refl, sym, ap, ◌∙◌, subst, arith}
 use Rattle.std.specs.Prelude.{if◌then◌else◌, ◌&&◌, ◌||◌, ◌==◌, option_map}
 use Rattle.std.proofs.lemmas.Bool.Decides.{nat_tests}
@@ -14,7 +14,6 @@ use Rattle.gl_ast.specs.declared.token.TokenKind.{TokenKind}
 use Rattle.gl_ast.specs.declared.token.TokenKind.TheVariants as k
 use Rattle.gl_parse.specs.ReadExpr.{read_arguments, read_expr}
 use Rattle.gl_parse.specs.ReadItem.{read_attribute, read_at, read_argument, read_modifier, read_spread, starts_item, read_item, read_items, read_tag_items}
-use Rattle.gl_parse.specs.ReadStmt.{read_parameters}
 use Rattle.gl_parse.specs.Take.{Taken, same_kind, stands, take_kind, read_many}
 use Rattle.gl_parse.proofs.Chains.{Chain, many_started, IsRead, chain_many}
 use Rattle.gl_parse.proofs.ExprLaws.{read_arguments_are, reads_arguments}
@@ -245,14 +244,6 @@ pub parts_allowed : (ps : List Part) → AreAllowed false (map part_item ps)
 parts_allowed [] = tt
 parts_allowed (p ∷ ps) = (tt, parts_allowed ps)
 
-parts_of-parts : (ps : List Part) → parts_among (map part_item ps) ≡ ps
-parts_of-parts [] = refl
-parts_of-parts (p ∷ ps) = ap (λ x. p ∷ x) (parts_of-parts ps)
-
-arguments_of-parts : (ps : List Part) → arguments_among (map part_item ps) ≡ []
-arguments_of-parts [] = refl
-arguments_of-parts (p ∷ ps) = arguments_of-parts ps
-
 pub allowed_parts : (is : List Item) → AreAllowed false is → map part_item (parts_among is) ≡ is
 allowed_parts [] a = refl
 allowed_parts (part_item p ∷ is) a = ap (λ x. part_item p ∷ x) (allowed_parts is a.1)
@@ -262,47 +253,3 @@ pub all_allowed : (is : List Item) → AreAllowed true is
 all_allowed [] = tt
 all_allowed (part_item p ∷ is) = (tt, all_allowed is)
 all_allowed (argument_item n v ∷ is) = (refl, all_allowed is)
-
-sorted : (o : Taken (List Item)) (x : (List Part × List (Text × AttrValue)) × List Token) (P : Type 0) → option_map (λ (is : List Item × List Token). ((parts_among is.0, arguments_among is.0), is.1)) o ≡ Some x → ((is : List Item × List Token) → o ≡ Some is → ◌≡◌ {A = (List Part × List (Text × AttrValue)) × List Token} ((parts_among is.0, arguments_among is.0), is.1) x → P) → P
-sorted None x P e h = absurd cc
-sorted (Some is) x P e h = h is refl (same_Some {A = (List Part × List (Text × AttrValue)) × List Token} ((parts_among is.0, arguments_among is.0), is.1) x e)
-
-pub read_element_items : (ts : List Token) (x : (List Part × List (Text × AttrValue)) × List Token) → read_tag_items false ts ≡ Some x → AreItems ts (map part_item x.0.0) x.1
-unfolding read_tag_items
-read_element_items ts x e = sorted (read_items false (length ts) ts) x (AreItems ts (map part_item x.0.0) x.1) e (λ is p same.
-    let h = read_items_are false (length ts) ts is p in
-    subst (λ (y : (List Part × List (Text × AttrValue)) × List Token). AreItems ts (map part_item y.0.0) y.1) same (subst (λ (z : List Item). AreItems ts z is.1) (sym (allowed_parts is.0 h.1)) h.0))
-
-pub read_component_items : (ts : List Token) (x : (List Part × List (Text × AttrValue)) × List Token) → read_tag_items true ts ≡ Some x → (is : List Item) × AreItems ts is x.1 × (parts_among is ≡ x.0.0) × (arguments_among is ≡ x.0.1)
-unfolding read_tag_items
-read_component_items ts x e = sorted (read_items true (length ts) ts) x ((is : List Item) × AreItems ts is x.1 × (parts_among is ≡ x.0.0) × (arguments_among is ≡ x.0.1)) e (λ is p same.
-    let h = read_items_are true (length ts) ts is p in
-    (is.0, subst (AreItems ts is.0) (ap (λ (y : (List Part × List (Text × AttrValue)) × List Token). y.1) same) h.0, ap (λ (y : (List Part × List (Text × AttrValue)) × List Token). y.0.0) same, ap (λ (y : (List Part × List (Text × AttrValue)) × List Token). y.0.1) same))
-
-pub reads_element_items : (ts : List Token) (ps : List Part) (us : List Token) → AreItems ts (map part_item ps) us → starts_item false us ≡ false → stands k.Equals us ≡ false → read_tag_items false ts ≡ Some ((ps, []), us)
-unfolding read_tag_items
-reads_element_items ts ps us h ends f = rw (reads_items false (length ts) ts (map part_item ps) us h (parts_allowed ps) ends f (omega arith), parts_of-parts ps, arguments_of-parts ps) refl
-
-pub reads_component_items : (ts : List Token) (is : List Item) (us : List Token) → AreItems ts is us → starts_item true us ≡ false → stands k.Equals us ≡ false → read_tag_items true ts ≡ Some ((parts_among is, arguments_among is), us)
-unfolding read_tag_items
-reads_component_items ts is us h ends f = rw (reads_items true (length ts) ts is us h (all_allowed is) ends f (omega arith)) refl
-
--- Parameters.
-
-pub read_parameters_are : (ts : List Token) (x : List Text × List Token) → read_parameters ts ≡ Some x → AreParameters ts x.0 x.1
-unfolding read_parameters
-read_parameters_are ts x e = by_case (stands k.Parameters ts) e where
-  by_taken : (o : Taken Text) → take_kind k.Parameters ts ≡ o → option_map (λ (t : Text × List Token). (parameters_of t.0, t.1)) o ≡ Some x → AreParameters ts x.0 x.1
-  by_taken None p f = absurd cc
-  by_taken (Some t) p f =
-      let g = kind_is k.Parameters ts t p in
-      subst (λ (y : List Text × List Token). AreParameters ts y.0 y.1) (same_Some {A = List Text × List Token} (parameters_of t.0, t.1) x f) (inr (g.token, g.here, g.is_kind, ap parameters_of g.is_text))
-
-  by_case : (b : Bool) → (if b then option_map (λ t. (parameters_of t.0, t.1)) (take_kind k.Parameters ts) else Some ([], ts)) ≡ Some x → AreParameters ts x.0 x.1
-  by_case true f = by_taken (take_kind k.Parameters ts) refl f
-  by_case false f = subst (λ (y : List Text × List Token). AreParameters ts y.0 y.1) (same_Some {A = List Text × List Token} ([], ts) x f) (inl (refl, refl))
-
-pub reads_parameters : (ts : List Token) (ns : List Text) (us : List Token) → AreParameters ts ns us → stands k.Parameters us ≡ false → read_parameters ts ≡ Some (ns, us)
-unfolding read_parameters
-reads_parameters ts ns us (inl h) ends = rw (ap (stands k.Parameters) h.0 ∙ ends) (ap (λ x. Some ([], x)) h.0 ∙ ap (λ x. Some (x, us)) (sym h.1))
-reads_parameters ts ns us (inr h) ends = rw (kind_stands k.Parameters ts us h.0 h.1 h.2, takes_kind k.Parameters ts us h.0 h.1 h.2) (ap (λ x. Some (x, us)) h.3)

@@ -20,9 +20,6 @@ use Rattle.gl_ast.specs.Words.{number_from}
 use Rattle.gl_parse.specs.Pieces.{is_none_left}
 use Rattle.gl_parse.specs.Referring.{in_reference, run, base, digit_in, value_from, code_in}
 
-decimal_digit : (c : ℕ) → digit_in false c ≡ (if is_digit c then Some (c - 48) else None)
-decimal_digit c = refl
-
 hex_cases : (a b d : Bool) (c : ℕ) → (b ≡ true → nat_le 97 c ≡ true) → (d ≡ true → nat_le 97 c ≡ false) → (if a then Some (c - 48) else (if b then Some (c - 87) else (if d then Some (c - 55) else None))) ≡ (if (a || b || d) then Some (if a then c - 48 else (if nat_le 97 c then c - 87 else c - 55)) else None)
 hex_cases true b d c h i = refl
 hex_cases false true d c h i = rw (h refl) refl
@@ -87,17 +84,6 @@ value_too_large hexadecimal b n c d cs old all e f g large h =
     let same : value_from hexadecimal n old ≡ value_from hexadecimal (n * base hexadecimal + d) cs = ap (value_from hexadecimal n) f ∙ ap (λ (o : Option ℕ). o >>= λ x. value_from hexadecimal (n * base hexadecimal + x) cs) g in
     let more : 1114111 < n * base hexadecimal + d = rw e at large in
     sym h ∙ ap (λ (o : Option ℕ). o >>= referable) same ∙ none_or (value_from hexadecimal (n * base hexadecimal + d) cs) (n * base hexadecimal + d) (value_grows hexadecimal (n * base hexadecimal + d) cs) more
-
--- one more digit
-pub value_more : (hexadecimal : Bool) (b n c d : ℕ) (cs old : List ℕ) (all : Option ℕ) → b ≡ base hexadecimal → old ≡ c ∷ cs → digit_in hexadecimal c ≡ Some d → (value_from hexadecimal n old >>= referable) ≡ all → (value_from hexadecimal (n * b + d) cs >>= referable) ≡ all
-value_more hexadecimal b n c d cs old all e f g h =
-    let same : value_from hexadecimal n old ≡ value_from hexadecimal (n * base hexadecimal + d) cs = ap (value_from hexadecimal n) f ∙ ap (λ (o : Option ℕ). o >>= λ x. value_from hexadecimal (n * base hexadecimal + x) cs) g in
-    rw e (ap (λ (o : Option ℕ). o >>= referable) (sym same) ∙ h)
-
--- no digit
-pub value_stops : (hexadecimal : Bool) (n c : ℕ) (cs old : List ℕ) (all : Option ℕ) → old ≡ c ∷ cs → digit_in hexadecimal c ≡ None → (value_from hexadecimal n old >>= referable) ≡ all → all ≡ None
-value_stops hexadecimal n c cs old all f g h =
-    sym h ∙ ap (λ (x : List ℕ). value_from hexadecimal n x >>= referable) f ∙ ap (λ (o : Option ℕ). (o >>= λ x. value_from hexadecimal (n * base hexadecimal + x) cs) >>= referable) g
 
 all_weaker : (p q : ℕ → Bool) → ((c : ℕ) → p c ≡ true → q c ≡ true) → (cs : List ℕ) → list_all q cs ≡ false → list_all p cs ≡ false
 all_weaker p q h [] e = absurd cc
@@ -210,20 +196,11 @@ pub mark_taken : (rest new : List ℕ) (r : Option ℕ) → ends rest ≡ true �
 mark_taken rest new None e h = ap (drop 1) h.0 ∙ sym h.1
 mark_taken rest new (Some c) e h = ap (drop 1) h
 
-pub reference_rest : (cs new : List ℕ) → after_all in_reference cs ≡ 59 ∷ new → drop (length (up_to 59 cs) + 1) cs ≡ new
-reference_rest cs new e = (ends_at cs (ap ends e)).back ∙ ap (drop 1) e
-
 -- what a reference takes is passed over
 decoded_skip : (n : ℕ) (cs : List ℕ) → decoded_from n cs ≡ decoded_from 0 (drop n cs)
 decoded_skip zero cs = refl
 decoded_skip (suc n) [] = refl
 decoded_skip (suc n) (c ∷ cs) = decoded_skip n cs
-
--- a character that is no `&`
-pub decoded_plain : (c : ℕ) (cs old out all : List ℕ) → old ≡ c ∷ cs → (c ≡ 38 → ⊥) → out ++ decoded_from 0 old ≡ all → (out ++ c ∷ []) ++ decoded_from 0 cs ≡ all
-decoded_plain c cs old out all e other h =
-    let no : (c == 38) ≡ false = grind (arith, nat_tests) in
-    append_assoc out (c ∷ []) (decoded_from 0 cs) ∙ ap (λ x. out ++ x) (sym (ap (decoded_from 0) e ∙ rw no refl)) ∙ h
 
 -- an `&`
 pub decoded_sign : (c r : ℕ) (cs new old out all : List ℕ) → old ≡ c ∷ cs → c ≡ 38 → r ≡ (reference_or_sign (reference_in cs) cs).0 → new ≡ drop (reference_or_sign (reference_in cs) cs).1 cs → out ++ decoded_from 0 old ≡ all → (out ++ r ∷ []) ++ decoded_from 0 new ≡ all

@@ -12,13 +12,6 @@ use Rattle.gl_ast.specs.declared.token.TokenKind.TheVariants as k
 use Rattle.gl_parse.specs.ReadExpr.{token_expr, read_token, is_lone, read_name, stands_name, starts_expr, read_pair, read_arguments, read_call, read_expr}
 use Rattle.gl_parse.specs.Take.{Taken, same_kind, stands, take_kind, read_many}
 
-abbrev pub Shortens : {A : Type 0} → (List Token → Taken A) → Type 0
-Shortens {A} one = (ts : List Token) (x : A × List Token) → one ts ≡ Some x → length x.1 < length ts
-
--- it isn't longer
-abbrev pub Leaves : {A : Type 0} → (List Token → Taken A) → Type 0
-Leaves {A} one = (ts : List Token) (x : A × List Token) → one ts ≡ Some x → length x.1 ≤ length ts
-
 -- what the answer leaves is what x leaves
 pub left_is : {A : Type 0} (ts : List Token) (a : A) (x : A × List Token) → ◌≡◌ {A = Option (A × List Token)} (Some (a, ts)) (Some x) → length x.1 ≡ length ts
 left_is {A} ts a x e = ap (λ (y : A × List Token). length y.1) (sym (same_Some {A = A × List Token} (a, ts) x e))

@@ -83,9 +83,6 @@ name_more c d cs ws rest want all e f g k h =
     let one : want ≡ c ∷ ws = f ∙ ap (λ x. x ∷ ws) g in
     sym (ends_not (ends_tag_name c) c (end_name cs) ws k same) ∙ ap (λ x. bytes_eq (end_name (c ∷ cs)) x) (sym one) ∙ ap (λ x. bytes_eq (end_name x) want) (sym e) ∙ h
 
-front_none : (v : List ℕ) (vs : List (List ℕ)) → add_front [] (v ∷ vs) ≡ v ∷ vs
-front_none v vs = refl
-
 pub split_front : (c : ℕ) (cs : List ℕ) → add_front [] (split c cs) ≡ split c cs
 split_front c [] = refl
 split_front c (x ∷ xs) = elim (nat_eq x c) as (λ b. add_front [] (if b then [] ∷ split c xs else before_first x (split c xs)) ≡ (if b then [] ∷ split c xs else before_first x (split c xs))) [
