@@ -1,21 +1,18 @@
 -- Expressions and mustaches are read exactly where they stand.
-use Rattle.std.proofs.Common.{◌≡◌, ◌⊎◌, inl, inr, ◌≤◌, ◌<◌, ℕ, zero, suc, List, [], ◌∷◌, Bool, true, false, Option, Some, None, length, refl, sym, ap, ◌∙◌, subst, arith}
-use Rattle.std.specs.Prelude.{if◌then◌else◌, not, ◌&&◌, ◌||◌}
-use Rattle.std.proofs.lemmas.Bool.{false≢true}
+use Rattle.std.proofs.Common.{◌≡◌, inl, inr, ◌≤◌, ℕ, zero, suc, List, [], ◌∷◌, Bool, true, false, Some, length, refl, sym, ap, ◌∙◌, subst, arith}
+use Rattle.std.specs.Prelude.{if◌then◌else◌, not}
 use Rattle.std.proofs.lemmas.Option.{option_and_then_some, same_Some}
-use Rattle.gl_base.specs.Answers.{◌>>=◌}
 use Rattle.gl_base.specs.Texts.{Text}
-use Rattle.gl_ast.specs.Grammar.{Stands, Mark, IsName, IsExpr, AreExprs, AreNamed, IsCall, IsInner, IsMustache, deepest_calls, has_argument}
+use Rattle.gl_ast.specs.Grammar.{Mark, IsName, IsExpr, AreExprs, AreNamed, IsCall, IsInner, IsMustache, deepest_calls, has_argument}
 use Rattle.gl_ast.specs.Template.{Expr, literal, this, argument, bare, call, cat, Exprs, no_exprs, expr, NamedExprs, no_named, named_expr, exprs_of, named_of}
 use Rattle.gl_ast.specs.TokenText.{has_char, is_free}
 use Rattle.gl_ast.specs.declared.token.Token.{Token}
-use Rattle.gl_ast.specs.declared.token.TokenKind.{TokenKind}
 use Rattle.gl_ast.specs.declared.token.TokenKind.TheVariants as k
-use Rattle.gl_parse.specs.ReadExpr.{is_lone, read_token, read_name, stands_name, stands_named, starts_expr, read_pair, read_exprs, read_named, read_arguments, read_call, read_expr, called, read_called, read_inner, read_mustache}
-use Rattle.gl_parse.specs.Take.{Taken, same_kind, stands, take_kind, read_many}
-use Rattle.gl_parse.proofs.Chains.{Chain, many_chain, IsRead, chain_follows, chain_many}
-use Rattle.gl_parse.proofs.Firsts.{IsFirst, same_kind-is, kind_is, takes_kind, kind_stands, other_stands, is_other}
-use Rattle.gl_parse.proofs.NameLaws.{and_left, and_right, not_true, split_whole, read_name_is, reads_name, name_stands, is_name_shorter}
+use Rattle.gl_parse.specs.ReadExpr.{is_lone, read_token, stands_name, starts_expr, read_pair, read_exprs, read_named, read_arguments, read_call, read_expr, called, read_called, read_inner, read_mustache}
+use Rattle.gl_parse.specs.Take.{same_kind, stands}
+use Rattle.gl_parse.proofs.Chains.{Chain, many_chain, IsRead, chain_many}
+use Rattle.gl_parse.proofs.Firsts.{same_kind-is, kind_is, takes_kind, kind_stands, other_stands}
+use Rattle.gl_parse.proofs.NameLaws.{and_left, and_right, not_true, split_whole, read_name_is, reads_name, name_stands}
 use Rattle.gl_parse.proofs.Shorter.{expr_shorter, pair_shorter}
 use Rattle.gl_parse.proofs.Starts.{starts_single, single_other, starts_open, named_starts, no_name, IsEnd, end_paren, end_mustache}
 use Rattle.gl_parse.proofs.TokenLaws.{IsSingle, read_token_is, literal_single, this_single, argument_single, bare_single, single_read}

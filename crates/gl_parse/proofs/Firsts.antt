@@ -1,19 +1,13 @@
 -- Laws of the first token, by its kind.
-use Rattle.std.proofs.Common.{◌≡◌, ◌<◌, ℕ, zero, suc, List, [], ◌∷◌, Bool, true, false, Option, Some, None, length, drop, refl, sym, ap, ◌∙◌, arith}
-use Rattle.std.specs.Prelude.{if◌then◌else◌, nat_eq, ◌&&◌}
-use Rattle.std.specs.Bool.{Decides}
-use Rattle.std.specs.Str.{bytes_eq}
-use Rattle.std.proofs.lemmas.Bool.{false≢true}
-use Rattle.std.proofs.lemmas.Bool.Decides.{same_from_decides, nat_tests}
+use Rattle.std.proofs.Common.{◌≡◌, ℕ, List, [], ◌∷◌, true, false, Some, refl, sym, ap, ◌∙◌, arith}
+use Rattle.std.proofs.lemmas.Bool.Decides.{nat_tests}
 use Rattle.std.proofs.lemmas.Option.{cond_some}
-use Rattle.std.proofs.lemmas.Slice.Eq.{bytes_eq-Decides}
 use Rattle.gl_base.specs.Names.{at_place}
 use Rattle.gl_base.specs.Texts.{Text}
-use Rattle.gl_ast.specs.Grammar.{Stands, Mark, Word}
 use Rattle.gl_ast.specs.declared.token.Token.{Token}
 use Rattle.gl_ast.specs.declared.token.TokenKind.{TokenKind}
 use Rattle.gl_ast.specs.declared.token.TokenKind.TheVariants as k
-use Rattle.gl_parse.specs.Take.{Taken, kind_number, same_kind, stands, take_kind, stands_word, take_word}
+use Rattle.gl_parse.specs.Take.{kind_number, same_kind, stands, take_kind}
 
 -- the kinds in the order of their numbers
 abbrev kinds : List TokenKind

@@ -1,23 +1,21 @@
 -- The items of a tag are read exactly where they stand.
-use Rattle.std.proofs.Common.{◌≡◌, ◌⊎◌, inl, inr, ◌≤◌, ◌<◌, ℕ, zero, suc, List, [], ◌∷◌, Bool, true, false, Option, Some, None, length, map, drop, refl, sym, ap, ◌∙◌, subst, arith}
-use Rattle.std.specs.Prelude.{if◌then◌else◌, ◌&&◌, ◌||◌, ◌==◌, option_map}
+use Rattle.std.proofs.Common.{◌≡◌, inl, inr, ◌≤◌, ℕ, List, [], ◌∷◌, Bool, true, false, Some, length, map, drop, refl, ap, ◌∙◌, subst, arith}
+use Rattle.std.specs.Prelude.{if◌then◌else◌, ◌&&◌, ◌||◌, ◌==◌}
 use Rattle.std.proofs.lemmas.Bool.Decides.{nat_tests}
 use Rattle.std.proofs.lemmas.Option.{cond_some, option_and_then_some, same_Some}
-use Rattle.gl_base.specs.Answers.{◌>>=◌}
 use Rattle.gl_base.specs.Texts.{Text}
-use Rattle.gl_ast.specs.Grammar.{Stands, Mark, IsGiven, IsCall, IsPart, Item, part_item, argument_item, IsItem, after_comments, AreItems, parts_among, arguments_among, AreParameters, deepest_calls}
+use Rattle.gl_ast.specs.Grammar.{Stands, Mark, IsGiven, IsCall, Item, part_item, argument_item, IsItem, after_comments, AreItems, parts_among, deepest_calls}
 use Rattle.gl_ast.specs.Settling.{is_comment}
 use Rattle.gl_ast.specs.Template.{Exprs, NamedExprs, AttrValue, Part, attribute, modifier, spread}
-use Rattle.gl_ast.specs.TokenText.{leads, parameters_of}
+use Rattle.gl_ast.specs.TokenText.{leads}
 use Rattle.gl_ast.specs.declared.token.Token.{Token}
 use Rattle.gl_ast.specs.declared.token.TokenKind.{TokenKind}
 use Rattle.gl_ast.specs.declared.token.TokenKind.TheVariants as k
-use Rattle.gl_parse.specs.ReadExpr.{read_arguments, read_expr}
-use Rattle.gl_parse.specs.ReadItem.{read_attribute, read_at, read_argument, read_modifier, read_spread, starts_item, read_item, read_items, read_tag_items}
-use Rattle.gl_parse.specs.Take.{Taken, same_kind, stands, take_kind, read_many}
+use Rattle.gl_parse.specs.ReadItem.{read_attribute, read_at, read_argument, read_modifier, read_spread, starts_item, read_item, read_items}
+use Rattle.gl_parse.specs.Take.{same_kind, stands}
 use Rattle.gl_parse.proofs.Chains.{Chain, many_started, IsRead, chain_many}
 use Rattle.gl_parse.proofs.ExprLaws.{read_arguments_are, reads_arguments}
-use Rattle.gl_parse.proofs.Firsts.{kind_is, takes_kind, kind_stands, other_stands, is_same}
+use Rattle.gl_parse.proofs.Firsts.{kind_is, takes_kind, kind_stands, other_stands}
 use Rattle.gl_parse.proofs.Items.{modifier_shorter, comments_leave, starts_next, read_next, next_shorter}
 use Rattle.gl_parse.proofs.NameLaws.{read_name_is, reads_name}
 use Rattle.gl_parse.proofs.Starts.{end_mustache}

@@ -1,19 +1,17 @@
 -- Laws of reading the items of a tag.
-use Rattle.std.proofs.Common.{◌≡◌, ◌≤◌, ◌<◌, ℕ, List, [], ◌∷◌, ◌++◌, Bool, true, false, length, drop, Option, Some, None, refl, sym, ap, ◌∙◌, append-nil, arith}
-use Rattle.std.specs.Prelude.{if◌then◌else◌, ◌==◌, option_map}
+use Rattle.std.proofs.Common.{◌≡◌, ◌≤◌, ◌<◌, List, [], ◌∷◌, ◌++◌, Bool, true, false, length, drop, Some, None, refl, sym, ap, ◌∙◌, arith}
+use Rattle.std.specs.Prelude.{if◌then◌else◌, ◌==◌}
 use Rattle.std.proofs.lemmas.Option.{cond_some, option_and_then_some}
-use Rattle.gl_base.specs.Answers.{◌>>=◌}
 use Rattle.gl_base.specs.Texts.{Text}
 use Rattle.gl_ast.specs.Grammar.{deepest_calls, Item, part_item, argument_item, after_comments, parts_among, arguments_among}
 use Rattle.gl_ast.specs.Settling.{is_comment}
-use Rattle.gl_ast.specs.Template.{AttrValue, Part, attribute, modifier, spread}
+use Rattle.gl_ast.specs.Template.{AttrValue, Part}
 use Rattle.gl_ast.specs.TokenText.{leads}
 use Rattle.gl_ast.specs.declared.token.Token.{Token}
 use Rattle.gl_ast.specs.declared.token.TokenKind.TheVariants as k
-use Rattle.gl_parse.specs.ReadExpr.{read_name, read_arguments, read_expr}
+use Rattle.gl_parse.specs.ReadExpr.{read_expr}
 use Rattle.gl_parse.specs.ReadItem.{read_at, read_attribute, read_argument, read_modifier, read_spread, starts_item, read_item, read_items, read_tag_items}
-use Rattle.gl_parse.specs.ReadValue.{read_given}
-use Rattle.gl_parse.specs.Take.{Taken, stands, take_kind, read_many}
+use Rattle.gl_parse.specs.Take.{Taken, stands, read_many}
 use Rattle.gl_parse.proofs.Many.{IsLeft, many_start, many_go, many_fail, many_end}
 use Rattle.gl_parse.proofs.Shorter.{left_is, kind_shorter, name_shorter, arguments_leave, expr_shorter}
 use Rattle.gl_parse.proofs.ShorterValues.{given_leaves}

@@ -1,6 +1,6 @@
 -- The laws of what stands below statements, as statements use them.
-use Rattle.std.proofs.Common.{◌≡◌, ◌<◌, ◌≤◌, ℕ, List, [], ◌∷◌, Bool, true, false, Some, length, map, refl, sym, ap, ◌∙◌, arith}
-use Rattle.gl_ast.specs.Grammar.{IsExpr, AreExprs, IsMustache, Item, part_item, after_comments, AreItems, parts_among, deepest_calls}
+use Rattle.std.proofs.Common.{◌≡◌, ◌<◌, ◌≤◌, ℕ, List, [], ◌∷◌, Bool, true, false, Some, length, map, refl, ap, ◌∙◌, arith}
+use Rattle.gl_ast.specs.Grammar.{IsExpr, AreExprs, IsMustache, Item, part_item, AreItems, parts_among}
 use Rattle.gl_ast.specs.Template.{Expr, Exprs, no_exprs, expr, exprs_of, Part}
 use Rattle.gl_ast.specs.declared.token.Token.{Token}
 use Rattle.gl_ast.specs.declared.token.TokenKind.TheVariants as k
@@ -9,7 +9,6 @@ use Rattle.gl_parse.specs.ReadItem.{read_items, starts_item}
 use Rattle.gl_parse.specs.Take.{stands}
 use Rattle.gl_parse.proofs.ExprLaws as e
 use Rattle.gl_parse.proofs.ItemLaws as i
-use Rattle.gl_parse.proofs.Items.{comments_leave}
 use Rattle.gl_parse.proofs.Shorter.{expr_shorter}
 use Rattle.gl_parse.proofs.ShorterValues.{mustache_shorter}
 

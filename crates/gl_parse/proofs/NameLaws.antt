@@ -1,9 +1,7 @@
 -- A name is read exactly where it stands.
-use Rattle.std.proofs.Common.{◌≡◌, ◌<◌, ℕ, List, [], ◌∷◌, Bool, true, false, Option, Some, None, length, refl, sym, ap, ◌∙◌, subst, arith}
+use Rattle.std.proofs.Common.{◌≡◌, ◌<◌, ℕ, List, [], ◌∷◌, Bool, true, false, Some, length, refl, sym, ap, ◌∙◌}
 use Rattle.std.specs.Prelude.{if◌then◌else◌, nat_eq, not, ◌&&◌, ◌||◌}
-use Rattle.std.proofs.lemmas.Bool.{false≢true}
 use Rattle.std.proofs.lemmas.Option.{cond_some, option_and_then_some}
-use Rattle.gl_base.specs.Answers.{◌>>=◌}
 use Rattle.gl_base.specs.Texts.{Text}
 use Rattle.gl_value.specs.Value.{split, before_first}
 use Rattle.gl_ast.specs.Grammar.{IsName}
@@ -11,8 +9,7 @@ use Rattle.gl_ast.specs.TokenText.{has_char, names_of, is_free}
 use Rattle.gl_ast.specs.declared.token.Token.{Token}
 use Rattle.gl_ast.specs.declared.token.TokenKind.TheVariants as k
 use Rattle.gl_parse.specs.ReadExpr.{is_lone, read_name, stands_name}
-use Rattle.gl_parse.specs.Take.{Taken, same_kind, take_kind}
-use Rattle.gl_parse.proofs.Firsts.{IsFirst, kind_is, takes_kind, is_same}
+use Rattle.gl_parse.proofs.Firsts.{kind_is, takes_kind, is_same}
 use Rattle.gl_parse.proofs.Shorter.{name_shorter}
 
 pub and_left : (a b : Bool) → (a && b) ≡ true → a ≡ true

@@ -1,5 +1,5 @@
 -- Laws of character references.
-use Rattle.std.proofs.Common.{◌≡◌, ◌≤◌, ◌<◌, ◌+◌, ◌-◌, ◌*◌, ℕ, zero, suc, List, [], ◌∷◌, ◌++◌, Bool, true, false, length, take, drop, Option, Some, None, refl, sym, ap, ◌∙◌, append_assoc, arith}
+use Rattle.std.proofs.Common.{◌≡◌, ◌≤◌, ◌<◌, ◌+◌, ◌-◌, ◌*◌, ℕ, zero, suc, List, [], ◌∷◌, ◌++◌, Bool, true, false, length, drop, Option, Some, None, refl, sym, ap, ◌∙◌, append_assoc, arith}
 use Rattle.std.specs.Prelude.{if◌then◌else◌, ◌||◌, ◌&&◌, ◌==◌, nat_le, nat_lt}
 use Rattle.std.specs.Char.{IsScalar}
 use Rattle.std.specs.Option.{SomeIff, MatchOption}
@@ -17,7 +17,6 @@ use Rattle.gl_base.specs.Answers.{◌>>=◌}
 use Rattle.gl_ast.specs.Marks.{is_between, is_digit}
 use Rattle.gl_ast.specs.TokenText.{up_to, has_char, leads, is_hex, hex_digit, hex_from, referable, decimal_code, hex_code, numeric_code, reference_code, reference_in, reference_or_sign, decoded_from}
 use Rattle.gl_ast.specs.Words.{number_from}
-use Rattle.gl_parse.specs.Pieces.{is_none_left}
 use Rattle.gl_parse.specs.Referring.{in_reference, run, base, digit_in, value_from, code_in}
 
 hex_cases : (a b d : Bool) (c : ℕ) → (b ≡ true → nat_le 97 c ≡ true) → (d ≡ true → nat_le 97 c ≡ false) → (if a then Some (c - 48) else (if b then Some (c - 87) else (if d then Some (c - 55) else None))) ≡ (if (a || b || d) then Some (if a then c - 48 else (if nat_le 97 c then c - 87 else c - 55)) else None)

@@ -1,17 +1,17 @@
 -- What is left after a value or an item is shorter.
-use Rattle.std.proofs.Common.{◌≡◌, ◌≤◌, ◌<◌, ℕ, zero, suc, List, [], ◌∷◌, ◌++◌, Bool, true, false, length, Option, Some, None, refl, sym, ap, ◌∙◌, arith}
+use Rattle.std.proofs.Common.{◌≡◌, ◌≤◌, ◌<◌, ℕ, List, [], ◌∷◌, ◌++◌, Bool, true, false, length, Some, None, refl, arith}
 use Rattle.std.specs.Prelude.{if◌then◌else◌, option_map}
-use Rattle.std.proofs.lemmas.Option.{cond_some, option_and_then_some, same_Some}
+use Rattle.std.proofs.lemmas.Option.{option_and_then_some}
 use Rattle.gl_base.specs.Answers.{◌>>=◌}
 use Rattle.gl_base.specs.Texts.{Text}
 use Rattle.gl_value.specs.Value as v
-use Rattle.gl_ast.specs.Grammar.{deepest_calls, Item, part_item, argument_item, after_comments}
+use Rattle.gl_ast.specs.Grammar.{deepest_calls}
 use Rattle.gl_ast.specs.Template.{Expr, literal, AttrValue, fixed, live}
 use Rattle.gl_ast.specs.TokenText.{decoded}
 use Rattle.gl_ast.specs.declared.token.Token.{Token}
 use Rattle.gl_ast.specs.declared.token.TokenKind.{TokenKind}
 use Rattle.gl_ast.specs.declared.token.TokenKind.TheVariants as k
-use Rattle.gl_parse.specs.ReadExpr.{read_name, stands_name, read_arguments, read_expr, read_called, read_inner, read_mustache}
+use Rattle.gl_parse.specs.ReadExpr.{stands_name, read_expr, read_called, read_inner, read_mustache}
 use Rattle.gl_parse.specs.ReadValue as r
 use Rattle.gl_parse.specs.Take.{Taken, stands, take_kind, read_many, with_front}
 use Rattle.gl_parse.proofs.Shorter.{left_is, kind_shorter, name_shorter, many_leaves, arguments_leave, expr_shorter}

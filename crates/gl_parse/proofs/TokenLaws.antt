@@ -1,27 +1,24 @@
 -- An expression of one token is read exactly where it stands.
-use Rattle.std.proofs.Common.{◌≡◌, ◌⊎◌, inl, inr, arith, ℕ, zero, suc, ℤ, List, [], ◌∷◌, Bool, true, false, Option, Some, None, length, drop, refl, sym, ap, ◌∙◌, subst}
-use Rattle.std.specs.Prelude.{if◌then◌else◌, not, ◌&&◌, ◌||◌, codes, option_map}
+use Rattle.std.proofs.Common.{◌≡◌, ◌⊎◌, inl, inr, arith, ℕ, ℤ, List, [], ◌∷◌, Bool, true, false, Option, Some, None, drop, refl, sym, ap, ◌∙◌, subst}
+use Rattle.std.specs.Prelude.{if◌then◌else◌, not, ◌||◌, codes, option_map}
 use Rattle.std.specs.Bool.{Decides}
 use Rattle.std.specs.Str.{bytes_eq}
-use Rattle.std.proofs.lemmas.Bool.{false≢true}
 use Rattle.std.proofs.lemmas.Bool.Decides.{same_from_decides}
-use Rattle.std.proofs.lemmas.Option.{option_and_then_some, same_Some}
+use Rattle.std.proofs.lemmas.Option.{same_Some}
 use Rattle.std.proofs.lemmas.Slice.Eq.{bytes_eq-Decides}
-use Rattle.gl_base.specs.Answers.{◌>>=◌}
 use Rattle.gl_base.specs.Names.{has_text}
 use Rattle.gl_base.specs.Texts.{Text}
 use Rattle.gl_value.specs.Value as v
 use Rattle.gl_value.specs.Value.{split}
 use Rattle.gl_ast.specs.Grammar.{IsLiteral, IsExpr}
 use Rattle.gl_ast.specs.Scans.{begins}
-use Rattle.gl_ast.specs.Template.{Plain, Expr, literal, this, argument, bare, call, cat}
+use Rattle.gl_ast.specs.Template.{Plain, Expr, literal, this, argument, bare}
 use Rattle.gl_ast.specs.TokenText.{string_of, whole_of, names_of, is_free}
 use Rattle.gl_ast.specs.Words.{reserved}
 use Rattle.gl_ast.specs.declared.token.Token.{Token}
-use Rattle.gl_ast.specs.declared.token.TokenKind.{TokenKind}
 use Rattle.gl_ast.specs.declared.token.TokenKind.TheVariants as k
 use Rattle.gl_parse.specs.ReadExpr.{constant_of, this_path, constant_path, path_expr, token_expr, read_token}
-use Rattle.gl_parse.specs.Take.{Taken, same_kind}
+use Rattle.gl_parse.specs.Take.{same_kind}
 use Rattle.gl_parse.proofs.Firsts.{same_kind-is, is_same}
 use Rattle.gl_parse.proofs.NameLaws.{and_left, and_right, not_true, split_one}
 

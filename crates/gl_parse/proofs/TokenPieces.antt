@@ -1,5 +1,5 @@
 -- Laws of the texts that tokens stand for.
-use Rattle.std.proofs.Common.{◌≡◌, ◌≤◌, ◌<◌, ◌+◌, ◌-◌, ◌*◌, ℕ, zero, suc, List, [], ◌∷◌, ◌++◌, Bool, true, false, length, map, take, drop, refl, sym, ap, ◌∙◌, append_assoc, append-nil, arith}
+use Rattle.std.proofs.Common.{◌≡◌, ◌≤◌, ◌<◌, ◌+◌, ◌-◌, ◌*◌, ℕ, zero, suc, List, [], ◌∷◌, ◌++◌, Bool, true, false, length, map, take, drop, refl, sym, ap, ◌∙◌, append_assoc, arith}
 use Rattle.std.specs.Prelude.{if◌then◌else◌, cond, Some, None, is_some, nat_eq, nat_le, not, ◌&&◌, ◌==◌}
 use Rattle.std.specs.Borrow.{Bor}
 use Rattle.std.specs.List.{prefix_len, list_any}
@@ -12,7 +12,7 @@ use Rattle.gl_ast.specs.Scans.{begins}
 use Rattle.gl_ast.specs.TokenText.{unescaped, leads, ends_tag_name, end_name_of}
 use Rattle.gl_ast.specs.Words.{number_from}
 use Rattle.gl_value.specs.Value.{split, before_first}
-use Rattle.gl_parse.specs.Pieces.{is_none_left, front, is_kept, end_name, add_front, ascii_words}
+use Rattle.gl_parse.specs.Pieces.{front, is_kept, end_name, add_front, ascii_words}
 
 -- the first of several characters is not the last
 front_next : (c d : ℕ) (cs : List ℕ) → front (c ∷ d ∷ cs) ≡ c ∷ front (d ∷ cs)

@@ -1,11 +1,11 @@
 -- Values are read exactly where they stand.
-use Rattle.std.proofs.Common.{◌≡◌, ◌⊎◌, inl, inr, ◌≤◌, ◌<◌, ℕ, zero, suc, List, [], ◌∷◌, ◌++◌, Bool, true, false, Option, Some, None, length, drop, refl, sym, ap, ◌∙◌, subst, arith}
+use Rattle.std.proofs.Common.{◌≡◌, ◌⊎◌, inl, inr, ◌<◌, List, [], ◌∷◌, ◌++◌, Bool, true, false, Some, None, length, drop, refl, sym, ap, ◌∙◌, subst, arith}
 use Rattle.std.specs.Prelude.{if◌then◌else◌, ◌&&◌, ◌||◌, option_map}
 use Rattle.std.proofs.lemmas.Option.{option_and_then_some, same_Some}
 use Rattle.gl_base.specs.Answers.{◌>>=◌}
 use Rattle.gl_base.specs.Texts.{Text}
 use Rattle.gl_value.specs.Value as v
-use Rattle.gl_ast.specs.Grammar.{Stands, Mark, IsExpr, IsInner, IsMustache, IsQuotedText, AreQuoted, IsPlainValue, IsValue, IsGiven}
+use Rattle.gl_ast.specs.Grammar.{Stands, Mark, IsMustache, IsQuotedText, AreQuoted, IsPlainValue, IsValue, IsGiven}
 use Rattle.gl_ast.specs.Template.{Expr, literal, this, argument, bare, call, cat, Exprs, no_exprs, expr, AttrValue, fixed, live, exprs_of}
 use Rattle.gl_ast.specs.TokenText.{decoded}
 use Rattle.gl_ast.specs.declared.token.Token.{Token}
@@ -16,7 +16,7 @@ use Rattle.gl_parse.specs.ReadValue.{stands_plain, read_fixed, read_quoted_text,
 use Rattle.gl_parse.specs.Take.{Taken, same_kind, stands, take_kind, read_many, with_front}
 use Rattle.gl_parse.proofs.Chains.{Chain, many_chain, IsRead, chain_many}
 use Rattle.gl_parse.proofs.ExprLaws.{list_of, exprs_of-list_of, read_mustache_is, reads_mustache}
-use Rattle.gl_parse.proofs.Firsts.{IsFirst, kind_is, takes_kind, kind_stands, other_stands}
+use Rattle.gl_parse.proofs.Firsts.{kind_is, takes_kind, kind_stands, other_stands}
 use Rattle.gl_parse.proofs.ShorterValues.{quoted_text_shorter, mustache_shorter}
 
 -- a text that a token of this kind stands for

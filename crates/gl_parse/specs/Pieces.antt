@@ -1,5 +1,5 @@
 -- What the texts of tokens stand for, as it is read character by character.
-use Rattle.std.specs.Prelude.{ℕ, List, [], ◌∷◌, ◌++◌, ◌-◌, Bool, true, false, not, ◌&&◌, ◌||◌, ◌==◌, length, take, filter, nat_lt, nat_le, if◌then◌else◌, Option, Some, None}
+use Rattle.std.specs.Prelude.{ℕ, List, [], ◌∷◌, ◌++◌, ◌-◌, Bool, true, false, not, ◌&&◌, ◌==◌, length, take, filter, nat_lt, nat_le, if◌then◌else◌, Option, Some, None}
 use Rattle.std.specs.Borrow.{Bor}
 use Rattle.gl_base.specs.Texts.{Text, is_ascii_text}
 use Rattle.gl_value.specs.Value.{split}

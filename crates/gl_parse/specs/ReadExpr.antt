@@ -7,7 +7,7 @@ use Rattle.gl_base.specs.Texts.{Text}
 use Rattle.gl_value.specs.Value as v
 use Rattle.gl_ast.specs.Grammar.{deepest_calls, has_argument}
 use Rattle.gl_ast.specs.Scans.{begins}
-use Rattle.gl_ast.specs.Template.{Plain, Expr, literal, this, argument, bare, call, Exprs, no_exprs, expr, NamedExprs, no_named, named_expr, exprs_of, named_of}
+use Rattle.gl_ast.specs.Template.{Plain, Expr, literal, this, argument, bare, call, Exprs, NamedExprs, exprs_of, named_of}
 use Rattle.gl_ast.specs.TokenText.{string_of, whole_of, names_of, is_free, has_char}
 use Rattle.gl_ast.specs.Words.{reserved}
 use Rattle.gl_ast.specs.declared.token.Token.{Token}

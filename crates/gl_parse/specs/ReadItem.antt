@@ -1,5 +1,5 @@
 -- What an opening tag has, read from the front of the tokens.
-use Rattle.std.specs.Prelude.{ℕ, List, [], ◌∷◌, Bool, false, ◌&&◌, ◌||◌, ◌==◌, drop, length, if◌then◌else◌, Option, Some, None, option_map}
+use Rattle.std.specs.Prelude.{ℕ, List, [], ◌∷◌, Bool, false, ◌&&◌, ◌||◌, ◌==◌, drop, length, if◌then◌else◌, Some, None, option_map}
 use Rattle.gl_base.specs.Answers.{◌>>=◌}
 use Rattle.gl_base.specs.Texts.{Text}
 use Rattle.gl_ast.specs.Grammar.{deepest_calls, Item, part_item, argument_item, after_comments, parts_among, arguments_among}

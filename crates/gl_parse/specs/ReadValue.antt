@@ -1,7 +1,6 @@
 -- Values of attributes and arguments, read from the front of the tokens.
-use Rattle.std.specs.Prelude.{List, [], ◌∷◌, ◌++◌, Bool, ◌&&◌, ◌||◌, drop, length, if◌then◌else◌, Option, Some, None, option_map}
+use Rattle.std.specs.Prelude.{List, [], ◌∷◌, ◌++◌, Bool, ◌&&◌, ◌||◌, drop, length, if◌then◌else◌, Some, option_map}
 use Rattle.gl_base.specs.Answers.{◌>>=◌}
-use Rattle.gl_base.specs.Texts.{Text}
 use Rattle.gl_value.specs.Value as v
 use Rattle.gl_ast.specs.Template.{Expr, literal, cat, AttrValue, fixed, live, exprs_of}
 use Rattle.gl_ast.specs.TokenText.{decoded}

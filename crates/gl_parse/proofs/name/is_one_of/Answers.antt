@@ -1,4 +1,4 @@
-use Rattle.std.proofs.Common.{refl, ap, map, ◌∙◌}
+use Rattle.std.proofs.Common.{ap, map, ◌∙◌}
 use Rattle.gl_base.specs.Names.{has_text}
 use Rattle.gl_parse.proofs.TokenPieces.{any_word}
 use Rattle.gl_parse.proofs.name.is_one_of.Goals as goal

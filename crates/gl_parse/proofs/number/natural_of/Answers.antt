@@ -1,4 +1,4 @@
-use Rattle.std.proofs.Common.{refl, arith, ◌≡◌, false, ◌*◌, ◌+◌, ◌-◌}
+use Rattle.std.proofs.Common.{refl, arith, ◌≡◌, false}
 use Rattle.std.specs.Prelude.{nat_le}
 use Rattle.gl_ast.specs.Words.{number_from, greatest}
 use Rattle.gl_parse.proofs.TokenPieces.{number_too_large}

@@ -1,4 +1,4 @@
-use Rattle.std.proofs.Common.{◌≡◌, ◌≤◌, ◌∷◌, ◌++◌, length}
+use Rattle.std.proofs.Common.{◌≡◌, ◌∷◌, ◌++◌, length}
 use Rattle.gl_ast.specs.TokenText as text
 use Rattle.gl_parse.specs.Pieces.{after_dot}
 use Rattle.gl_parse.proofs.path.names_of.Given as goal

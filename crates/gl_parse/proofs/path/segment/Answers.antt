@@ -1,4 +1,4 @@
-use Rattle.std.proofs.Common.{refl, arith}
+use Rattle.std.proofs.Common.{arith}
 use Rattle.gl_parse.proofs.TokenPieces.{split_front}
 use Rattle.gl_parse.proofs.path.segment.Goals as goal
 

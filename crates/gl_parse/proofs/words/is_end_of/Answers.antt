@@ -1,6 +1,5 @@
-use Rattle.std.proofs.Common.{sym, ◌∙◌, ap, refl}
+use Rattle.std.proofs.Common.{sym, ◌∙◌, ap}
 use Rattle.std.specs.Str.{bytes_eq}
-use Rattle.gl_parse.specs.Pieces.{end_name}
 use Rattle.gl_parse.proofs.TokenPieces.{name_more, end_name_of-front}
 use Rattle.gl_parse.proofs.words.is_end_of.Goals as goal
 

@@ -1,4 +1,4 @@
-use Rattle.std.proofs.Common.{sym, ap, ◌∙◌, arith}
+use Rattle.std.proofs.Common.{ap, ◌∙◌, arith}
 use Rattle.std.specs.List.{prefix_len}
 use Rattle.gl_ast.specs.Scans.{after_all}
 use Rattle.gl_parse.specs.Referring.{in_reference, run}
