@@ -449,6 +449,8 @@ fn tree(rt: HostRuntime) -> Result<(), Fail> {
     let text = "a\n\t{{#if this.n}}  \n  b&eacute;&unknown;\n{{/if}}\nc {{~this.n~}} d";
     let tree = template(rt.alloc(), text.as_bytes())?;
     assert!(rt; is_tree(tree.body()));
+    let body = tree.into_body();
+    assert!(rt; is_tree(&body));
     Ok(())
 }
 
