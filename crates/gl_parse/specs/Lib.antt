@@ -1,3 +1,4 @@
+pub mod Fault
 pub mod ReadExpr
 pub mod ReadItem
 pub mod ReadStmt

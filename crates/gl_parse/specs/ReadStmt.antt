@@ -93,8 +93,8 @@ read_component inner c ts = do
   items ← read_items true (length ts) ts
   names ← read_parameters items.1
   if stands k.SelfEnd names.1
-    then option_map (λ t. (component_stmt c (parts_among items.0) (arguments_among items.0) no_slots, t.1)) (take_kind k.SelfEnd names.1)
-    else option_map (λ b. (component_stmt c (parts_among items.0) (arguments_among items.0) (block (codes "default") names.0 b.0 no_slots), b.1)) (read_tagged inner c names.1)
+      then option_map (λ t. (component_stmt c (parts_among items.0) (arguments_among items.0) no_slots, t.1)) (take_kind k.SelfEnd names.1)
+      else option_map (λ b. (component_stmt c (parts_among items.0) (arguments_among items.0) (block (codes "default") names.0 b.0 no_slots), b.1)) (read_tagged inner c names.1)
 
 -- an element or a component, by the first letter of its name
 unfoldable pub read_tag : Reader Body → List Token → Taken Stmt
@@ -151,10 +151,10 @@ read_let inner ts = do
 unfoldable pub read_head : Reader Body → Reader Body → List Token → Taken Stmt
 read_head inner otherwise ts =
     take_kind k.Path ts >>= λ word. (
-      if bytes_eq word.0 (codes "if") then read_if inner otherwise false word.1
-      else (if bytes_eq word.0 (codes "unless") then read_if inner otherwise true word.1
-      else (if bytes_eq word.0 (codes "each") then read_each inner otherwise word.1
-      else (if bytes_eq word.0 (codes "let") then read_let inner word.1 else None))))
+    if bytes_eq word.0 (codes "if") then read_if inner otherwise false word.1
+    else (if bytes_eq word.0 (codes "unless") then read_if inner otherwise true word.1
+    else (if bytes_eq word.0 (codes "each") then read_each inner otherwise word.1
+    else (if bytes_eq word.0 (codes "let") then read_let inner word.1 else None))))
 
 -- a body of one statement
 abbrev pub only : Stmt → Body

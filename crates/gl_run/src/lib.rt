@@ -4,7 +4,6 @@
 mod ending;
 mod fault;
 mod known;
-pub mod laws;
 mod line;
 mod load;
 mod manifest;
@@ -12,7 +11,6 @@ mod names;
 mod page;
 mod session;
 mod status;
-mod template;
 mod top;
 
 pub use ending::RunFault;
