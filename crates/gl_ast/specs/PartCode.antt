@@ -1,9 +1,9 @@
 -- How the logic tells two parts of a tag apart: each is one of several fields.
-use Rattle.std.specs.Prelude.{◌≡◌, ◌⊎◌, ℕ, refl}
+use Rattle.std.specs.Prelude.{◌≡◌, ◌⊎◌, refl}
 use Rattle.std.specs.Coded.{Coded, code_by, coded×, coded⊎, coded_ℕ, coded_list}
 use Rattle.std.proofs.Common.{inl, inr}
 use Rattle.gl_base.specs.Texts.{Text}
-use Rattle.gl_ast.specs.Template.{Expr, call, cat, Exprs, no_exprs, NamedExprs, no_named, AttrValue, fixed, live, Part, attribute, modifier, spread}
+use Rattle.gl_ast.specs.Template.{Expr, call, cat, no_exprs, AttrValue, fixed, live, Part, attribute, modifier, spread}
 use Rattle.gl_ast.specs.ExprCode.{expr_code}
 
 abbrev pub text_code : Coded Text

@@ -7,7 +7,7 @@ use Rattle.gl_ast.specs.View.{stmt_view, seen_stmts, seen_slots}
 use Rattle.gl_ast.specs.declared.stmt.Stmt.{Stmt}
 use Rattle.gl_ast.specs.declared.stmt.Stmt.TheVariants as code
 use Rattle.gl_ast.specs.declared.stmt.Slot.{Slot}
-use Rattle.gl_ast.specs.declared.stmt.Body.TheDeep.{deep-Stmt, deep-Block, deep-Slot, deep-Body, deep-Slots}
+use Rattle.gl_ast.specs.declared.stmt.Body.TheDeep.{deep-Stmt, deep-Slot, deep-Body, deep-Slots}
 use Rattle.gl_ast.specs.declared.stmt.Body.TheInside.{Inside as BodyInside}
 use Rattle.gl_ast.specs.declared.stmt.Slots.TheInside.{Inside as SlotsInside}
 use denote.Param.Weighed.{most}

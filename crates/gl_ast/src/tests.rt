@@ -150,24 +150,39 @@ fn body(alloc: Global) -> Result<Body, Fail> {
     Ok(body)
 }
 
+fn expr_kind(expr: &Expr) -> usize {
+    match expr {
+        Expr::Lit(_) => 0,
+        Expr::This { .. } => 1,
+        Expr::Arg { .. } => 2,
+        Expr::Bare { .. } => 3,
+        Expr::Call { .. } => 4,
+        Expr::Cat(_) => 5,
+    }
+}
+
+fn stmt_kind(stmt: &Stmt) -> usize {
+    match stmt {
+        Stmt::Text(_) => 0,
+        Stmt::Comment(_) => 1,
+        Stmt::Put(_) => 2,
+        Stmt::Element { .. } => 3,
+        Stmt::Component { .. } => 4,
+        Stmt::If { .. } => 5,
+        Stmt::Each { .. } => 6,
+        Stmt::Let { .. } => 7,
+        Stmt::Yield { .. } => 8,
+    }
+}
+
 fn check_exprs(rt: &impl Abort, alloc: Global) -> Result<(), Fail> {
     assert!(rt; Exprs::new(alloc).is_empty());
     let exprs = Exprs::from_vec(exprs(alloc)?.into_vec());
     assert_eq!(rt; exprs.len(), 6);
     assert!(rt; matches!(exprs.get(0), Some(Expr::Lit(Lit::Str(_)))));
-    assert!(rt;
-        matches!(
-            exprs.as_slice(),
-            [
-                Expr::Lit(_),
-                Expr::This { .. },
-                Expr::Arg { .. },
-                Expr::Bare { .. },
-                Expr::Call { .. },
-                Expr::Cat(_)
-            ]
-        )
-    );
+    for (at, expr) in exprs.as_slice().iter().enumerate() {
+        assert_eq!(rt; expr_kind(expr), at);
+    }
     Ok(())
 }
 
@@ -220,22 +235,9 @@ fn check_body(rt: &impl Abort, alloc: Global) -> Result<(), Fail> {
     assert!(rt; !body.is_empty());
     assert_eq!(rt; body.len(), 9);
     assert!(rt; matches!(body.get(5), Some(Stmt::If { unless: false, .. })));
-    assert!(rt;
-        matches!(
-            body.as_slice(),
-            [
-                Stmt::Text(_),
-                Stmt::Comment(_),
-                Stmt::Put(_),
-                Stmt::Element { .. },
-                Stmt::Component { .. },
-                Stmt::If { .. },
-                Stmt::Each { .. },
-                Stmt::Let { .. },
-                Stmt::Yield { .. }
-            ]
-        )
-    );
+    for (at, stmt) in body.as_slice().iter().enumerate() {
+        assert_eq!(rt; stmt_kind(stmt), at);
+    }
     Ok(())
 }
 

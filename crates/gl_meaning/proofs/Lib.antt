@@ -4,6 +4,7 @@ pub mod Calls
 mod CaseTodo
 mod CasesActions
 mod CasesLists
+mod CasesManifest
 mod CasesNames
 mod CasesPaths
 mod CasesScopes

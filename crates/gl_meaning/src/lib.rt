@@ -7,4 +7,23 @@
 //! from them.
 #![tactic(auto)]
 
+mod actions;
+mod classes;
+mod events;
+mod kind;
 pub mod laws;
+mod manifest;
+mod path;
+mod path_steps;
+mod script;
+mod steps;
+
+pub use kind::Kind;
+pub use manifest::{
+    Action, Actions, Class, Classes, ExprList, Fields, Getters, Manifest, Step, StepKind, Steps,
+};
+pub use path::{Path, PathStep, PathSteps};
+pub use script::{Event, Events, Script};
+
+#[cfg(test)]
+mod tests;
