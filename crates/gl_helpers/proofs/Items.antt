@@ -43,3 +43,7 @@ pub list_of_values : (vs : List (Value ℕ)) → list_of (values_of vs) ≡ vs
 list_of_values = list_of-values_of
 
 pub ruleset list_laws = (list_of_values)
+
+-- one more item is made
+pub made_next : {A B : Type 0} (f : A → B) (item : A) (rest : List A) (new : B) (done next all : List B) → new ≡ f item → next ≡ done ++ new ∷ [] → done ++ map f (item ∷ rest) ≡ all → next ++ map f rest ≡ all
+made_next f item rest new done next all is e whole = ap (λ l. l ++ map f rest) e ∙ append_assoc done (new ∷ []) (map f rest) ∙ ap (λ x. done ++ x ∷ map f rest) is ∙ whole

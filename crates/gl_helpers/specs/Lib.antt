@@ -1,0 +1,5 @@
+pub mod Lent
+pub mod Proper
+pub mod Records
+pub mod Table
+pub mod View

@@ -1,9 +1,21 @@
 // How deep values are nested.
 ghost use Rattle.std.specs.Prelude.{◌≡◌, ◌<◌, nat_lt};
+ghost use Rattle.gl_value.specs.Helpers.{not_deep};
 ghost use Rattle.gl_value.specs.Value.{depth, values_depth, members_depth, values_of, pairs_of};
 ghost use Rattle.gl_value.specs.View.{view, seen_items, seen_pairs};
 
-use gl_value::{Pair, Value};
+use gl_value::{DEEPEST, Pair, Value};
+
+/// The value; undefined where it is nested deeper than [`DEEPEST`]. It takes no memory.
+pub fn not_deep(value: Value) -> Value
+    ensures { view result ≡ not_deep (view value) }
+{
+    if is_deeper(&value, DEEPEST) {
+        Value::Undefined
+    } else {
+        value
+    }
+}
 
 /// Whether a value is nested deeper than `most`. It takes no memory.
 #[cycle(deeper)]

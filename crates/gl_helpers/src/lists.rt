@@ -3,11 +3,15 @@ ghost use Rattle.std.specs.Prelude.{◌≡◌, ◌<◌, ◌++◌, [], ◌∷◌,
 ghost use Rattle.std.specs.List.{list_any};
 ghost use Rattle.std.specs.Ordering.{int_eq};
 ghost use Rattle.std.specs.Str.{chars};
-ghost use Rattle.gl_value.specs.Helpers.{items_in, at_places, is_before};
-ghost use Rattle.gl_value.specs.Value.{same, property};
+ghost use Rattle.gl_value.specs.Helpers.{items_in, at_places, is_before, raw_value};
+ghost use Rattle.gl_value.specs.Value.{list, values_of, same, property};
 ghost use Rattle.gl_value.specs.View.{view, seen_items};
+ghost use Rattle.gl_helpers.specs.View.{Names, seen_listing};
 
+use crate::argument::Arguments;
+use crate::helper::Listing;
 use crate::number::number_of;
+use crate::wording::text_in;
 use gl_value::{List, Text, Value};
 use std::alloc::{AllocError, Global};
 
@@ -33,19 +37,19 @@ pub fn includes(items: &[Value], value: &Value) -> bool
     false
 }
 
-/// The list of the values.
-pub fn array(alloc: Global, values: &[Value]) -> Result<List, AllocError>
+// The list of the values.
+fn array(alloc: Global, values: &[Value]) -> Result<List, AllocError>
     ensures { IfOk result (λ l. l ≡ seen_items values.now) }
 {
-    let mut list = List::new(alloc);
+    let mut list = List::from_vec(Vec::with_capacity(alloc, values.len())?);
     for value in values {
         list.push(value.copy()?)?;
     }
     Ok(list)
 }
 
-/// The items, then a value.
-pub fn append(alloc: Global, items: &[Value], value: &Value) -> Result<List, AllocError>
+// The items, then a value.
+fn append(alloc: Global, items: &[Value], value: &Value) -> Result<List, AllocError>
     ensures { IfOk result (λ l. l ≡ seen_items items.now ++ view value.now ∷ []) }
 {
     let mut list = array(alloc, items)?;
@@ -53,8 +57,8 @@ pub fn append(alloc: Global, items: &[Value], value: &Value) -> Result<List, All
     Ok(list)
 }
 
-/// The items from back to front.
-pub fn reverse(alloc: Global, items: &[Value]) -> Result<List, AllocError>
+// The items from back to front.
+fn reverse(alloc: Global, items: &[Value]) -> Result<List, AllocError>
     ensures { IfOk result (λ l. l ≡ reverse (seen_items items.now)) }
 {
     let mut values = array(alloc, items)?.into_vec();
@@ -80,9 +84,9 @@ pub fn has_property(item: &Value, name: &Text, value: &Value) -> bool
     item.find(name.as_str()).same(value)
 }
 
-/// The items whose property of that name is the same as a value.
+// The items whose property of that name is the same as a value.
 #[tactic(auto, using(crate::proofs::Items::kept_laws))]
-pub fn with_property(
+fn with_property(
     alloc: Global,
     items: &[Value],
     name: &Text,
@@ -97,9 +101,9 @@ pub fn with_property(
     Ok(list)
 }
 
-/// The items whose property of that name isn't the same as a value.
+// The items whose property of that name isn't the same as a value.
 #[tactic(auto, using(crate::proofs::Items::kept_laws))]
-pub fn without_property(
+fn without_property(
     alloc: Global,
     items: &[Value],
     name: &Text,
@@ -114,11 +118,11 @@ pub fn without_property(
     Ok(list)
 }
 
-/// The property of that name of each item.
-pub fn pluck(alloc: Global, items: &[Value], name: &Text) -> Result<List, AllocError>
+// The property of that name of each item.
+fn pluck(alloc: Global, items: &[Value], name: &Text) -> Result<List, AllocError>
     ensures { IfOk result (λ l. l ≡ map (property name.now) (seen_items items.now)) }
 {
-    let mut list = List::new(alloc);
+    let mut list = List::from_vec(Vec::with_capacity(alloc, items.len())?);
     for item in items {
         list.push(item.property(name.as_str())?)?;
     }
@@ -132,9 +136,9 @@ fn is_at(place: usize, at: i64) -> bool
     place as i128 == i128::from(at)
 }
 
-/// The items without the one at a place, counted from 0; all of them where there is none.
+// The items without the one at a place, counted from 0; all of them where there is none.
 #[tactic(auto, using(crate::proofs::Items::kept_laws))]
-pub fn without_place(alloc: Global, items: &[Value], at: i64) -> Result<List, AllocError>
+fn without_place(alloc: Global, items: &[Value], at: i64) -> Result<List, AllocError>
     ensures { IfOk result (λ l. l ≡ at_places (λ p. not (int_eq p at)) 0 (seen_items items.now)) }
 {
     let mut list = List::new(alloc);
@@ -161,10 +165,10 @@ fn is_from(place: usize, from: i64) -> bool
     place as i128 >= i128::from(from)
 }
 
-/// The items at places from `from` to before the number of `end`, counted from 0; to the end of them where `end`
-/// is undefined.
+// The items at places from `from` to before the number of `end`, counted from 0; to the end of them where `end`
+// is undefined.
 #[tactic(auto, using(crate::proofs::Items::kept_laws))]
-pub fn slice(alloc: Global, items: &[Value], from: i64, end: &Value) -> Result<List, AllocError>
+fn slice(alloc: Global, items: &[Value], from: i64, end: &Value) -> Result<List, AllocError>
     ensures { IfOk result (λ l. l ≡ at_places (λ p. not (int_lt p from) && is_before p (view end.now)) 0 (seen_items items.now)) }
 {
     let mut list = List::new(alloc);
@@ -173,4 +177,24 @@ pub fn slice(alloc: Global, items: &[Value], from: i64, end: &Value) -> Result<L
         push_if(&mut list, kept, &items[place])?;
     }
     Ok(list)
+}
+
+/// What such a helper gives.
+pub fn listed(alloc: Global, helper: Listing, args: &Arguments) -> Result<List, AllocError>
+    ensures { IfOk result (λ l. (names : Names) → list (values_of l) ≡ raw_value nat_eq args.now names (seen_listing helper)) }
+{
+    let items = items_in(args.at(0));
+    let with = args.at(1);
+    match helper {
+        Listing::Array => array(alloc, args.all()),
+        Listing::Append => append(alloc, items, with),
+        Listing::RemoveAt => without_place(alloc, items, number_of(with)),
+        Listing::Slice => slice(alloc, items, number_of(with), args.at(2)),
+        Listing::Reverse => reverse(alloc, items),
+        Listing::Where => with_property(alloc, items, text_in(alloc, with)?.text(), args.at(2)),
+        Listing::RemoveWhere => {
+            without_property(alloc, items, text_in(alloc, with)?.text(), args.at(2))
+        }
+        Listing::Pluck => pluck(alloc, items, text_in(alloc, with)?.text()),
+    }
 }

@@ -5,6 +5,9 @@
 //! worked cases in `proofs/`. They render the whole tree anew at each turn, and know nothing of how a
 //! program does it. `docs/MEANING.md` tells them in plain words. The module `laws` has what follows
 //! from them.
+//!
+//! Beside them stand the types of manifests, scripts and key paths, which `specs/View.antt` maps to
+//! what the definitions speak of.
 #![tactic(auto)]
 
 mod actions;

@@ -161,3 +161,55 @@ fn rows(rt: HostRuntime) {
     assert_eq!(rt; table.name(9), Some(""));
     assert_eq!(rt; table.name(1), None);
 }
+
+// The names of the helpers, in the order of their numbers.
+const HELPER_NAMES: [&str; 33] = [
+    "if",
+    "unless",
+    "concat",
+    "array",
+    "hash",
+    "get",
+    "fn",
+    "add",
+    "sub",
+    "mul",
+    "min",
+    "max",
+    "eq",
+    "ne",
+    "not",
+    "and",
+    "or",
+    "lt",
+    "lte",
+    "gt",
+    "gte",
+    "length",
+    "append",
+    "removeAt",
+    "put",
+    "slice",
+    "reverse",
+    "includes",
+    "where",
+    "removeWhere",
+    "updateWhere",
+    "pluck",
+    "join",
+];
+
+// Texts that name no helper.
+const NO_HELPERS: [&str; 6] = ["", "If", "removeat", "remove", "joins", "outlet"];
+
+#[test]
+fn helper_names(rt: HostRuntime) {
+    let table = helpers();
+    for (place, name) in (0u16..).zip(HELPER_NAMES.iter()) {
+        assert_eq!(rt; table.find(*name), Some(place));
+        assert_eq!(rt; HELPERS.find(*name), Some(place));
+    }
+    for name in NO_HELPERS.iter() {
+        assert_eq!(rt; table.find(*name), None);
+    }
+}
