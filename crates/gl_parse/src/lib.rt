@@ -1,8 +1,24 @@
 //! The tree that a template or an expression spells.
 #![tactic(auto)]
 
+mod block;
+mod body;
+mod cursor;
+mod decode;
+mod expr;
 mod fault;
-mod parse;
+mod item;
+pub mod laws;
+mod name;
+mod number;
+mod operand;
+mod path;
+mod scan;
+mod spelled;
+mod statement;
+mod tag;
+mod value;
+mod words;
 
 pub use fault::ParseFault;
-pub use parse::template;
+pub use spelled::{expression, template};
