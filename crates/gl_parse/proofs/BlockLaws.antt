@@ -56,10 +56,10 @@ key_is ts p e =
     let P : Text × List Token → Type 0 = λ q. IsKey ts q.0 q.1 in
     elim (one_gave (stands_word (codes "key") ts) _ _ p e) [
       | inl h ↦ let word = first_gave (take_word (codes "key") ts) _ p h.1 in
-        let mark = first_gave (take_kind k.Equals word.0) _ p word.2 in
-        let key = first_gave (take_kind k.StringLit mark.0.1) _ p mark.2 in
-        let t = took k.StringLit mark.0.1 key.0 key.1 in
-        subst P (some_is _ _ key.2) (inr (word.0, mark.0.1, took_word (codes "key") ts word.0 word.1, took_mark k.Equals word.0 mark.0 mark.1, (t.0, t.1, t.2, ap string_of t.3)))
+          let mark = first_gave (take_kind k.Equals word.0) _ p word.2 in
+          let key = first_gave (take_kind k.StringLit mark.0.1) _ p mark.2 in
+          let t = took k.StringLit mark.0.1 key.0 key.1 in
+          subst P (some_is _ _ key.2) (inr (word.0, mark.0.1, took_word (codes "key") ts word.0 word.1, took_mark k.Equals word.0 mark.0 mark.1, (t.0, t.1, t.2, ap string_of t.3)))
       | inr h ↦ subst P (some_is _ _ h.1) (inl (refl, refl))
     ]
 
@@ -180,13 +180,13 @@ else_is depth inner chained sound sound_head ts p e =
     let P : Body × List Token → Type 0 = λ q. IsOtherwise depth ts q.0 q.1 in
     elim (one_gave (stands_opened (codes "else") ts) _ _ p e) [
       | inl h ↦ let front = first_gave (take_kind k.OpenMustache ts) _ p h.1 in
-        let word = first_gave (take_word (codes "else") front.0.1) _ p front.2 in
-        let m = took_mark k.OpenMustache ts front.0 front.1 in
-        let w = took_word (codes "else") front.0.1 word.0 word.1 in
-        elim (one_gave (stands k.CloseMustache word.0) _ _ p word.2) [
-          | inl g ↦ inr (front.0.1, word.0, m, w, inl (opened_is depth inner sound word.0 p g.1))
-          | inr g ↦ let c = under_gave _ (chained word.0) p g.1 in subst P c.2 (inr (front.0.1, word.0, m, w, inr (sound_head word.0 c.0 c.1)))
-        ]
+          let word = first_gave (take_word (codes "else") front.0.1) _ p front.2 in
+          let m = took_mark k.OpenMustache ts front.0 front.1 in
+          let w = took_word (codes "else") front.0.1 word.0 word.1 in
+          elim (one_gave (stands k.CloseMustache word.0) _ _ p word.2) [
+            | inl g ↦ inr (front.0.1, word.0, m, w, inl (opened_is depth inner sound word.0 p g.1))
+            | inr g ↦ let c = under_gave _ (chained word.0) p g.1 in subst P c.2 (inr (front.0.1, word.0, m, w, inr (sound_head word.0 c.0 c.1)))
+          ]
       | inr h ↦ subst P (some_is _ _ h.1) (inl (refl, refl))
     ]
 

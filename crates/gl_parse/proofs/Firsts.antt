@@ -99,4 +99,3 @@ kind_stands kind ts us t e f = ap (stands kind) e ∙ is_same t.kind kind f
 pub other_stands : (kind other : TokenKind) (ts us : List Token) (t : Token) → ts ≡ t ∷ us → t.kind ≡ kind → same_kind kind other ≡ false → stands other ts ≡ false
 unfolding stands
 other_stands kind other ts us t e f g = ap (stands other) e ∙ is_other t.kind kind other f g
-

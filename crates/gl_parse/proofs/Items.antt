@@ -99,10 +99,14 @@ items_start component ps given ts all e f g = ([], all, sym e, sym f, g, many_st
 pub items_go : (component : Bool) (ps qs : List Part) (given more : List (Text × AttrValue)) (ts all : List Token) (x : Item × List Token) (us : List Token) → starts_item component ts ≡ true → read_item ts ≡ Some x → qs ≡ ps ++ parts_among (x.0 ∷ []) → more ≡ given ++ arguments_among (x.0 ∷ []) → us ≡ after_comments x.1 → AreLeft component ps given ts all → AreLeft component qs more us all
 items_go component ps qs given more ts all x us going is e f g left =
     let starts : starts_next component left.1 ≡ true = ap (starts_item component) (sym left.4) ∙ going in
-    let reads : read_next left.1 ≡ Some x = ap read_item (sym left.4) ∙ is in
-    (left.0 ++ x.0 ∷ [], x.1, parts_more left.0 (x.0 ∷ []) ∙ ap (λ y. y ++ parts_among (x.0 ∷ [])) left.2 ∙ sym e,
-    arguments_more left.0 (x.0 ∷ []) ∙ ap (λ y. y ++ arguments_among (x.0 ∷ [])) left.3 ∙ sym f, g,
-    many_go (starts_next component) read_next left.0 left.1 x _ starts reads (next_shorter left.1 x reads) left.5)
+    let reads : read_next left.1 ≡ Some x = ap read_item (sym left.4) ∙ is in (
+      left.0 ++ x.0 ∷ [],
+      x.1,
+      parts_more left.0 (x.0 ∷ []) ∙ ap (λ y. y ++ parts_among (x.0 ∷ [])) left.2 ∙ sym e,
+      arguments_more left.0 (x.0 ∷ []) ∙ ap (λ y. y ++ arguments_among (x.0 ∷ [])) left.3 ∙ sym f,
+      g,
+      many_go (starts_next component) read_next left.0 left.1 x _ starts reads (next_shorter left.1 x reads) left.5,
+    )
 
 pub items_fail : (component : Bool) (ps : List Part) (given : List (Text × AttrValue)) (ts all : List Token) → starts_item component ts ≡ true → AreLeft component ps given ts all → read_item ts ≡ None → read_tag_items component all ≡ None
 unfolding read_tag_items read_items

@@ -41,6 +41,7 @@ some_pieces c (y ∷ ys) e = by_char (nat_eq y c) e where
   by_first : (vs : List Text) → before_first y vs ≡ [] → ⊥
   by_first [] f = absurd cc
   by_first (v ∷ vs) f = absurd cc
+
   by_char : (b : Bool) → (if b then [] ∷ split c ys else before_first y (split c ys)) ≡ [] → ⊥
   by_char true f = absurd cc
   by_char false f = by_first (split c ys) f
@@ -53,6 +54,7 @@ split_one c (y ∷ ys) n e = by_char (nat_eq y c) refl (split_one c ys) e where
   by_first [] f more h = absurd (some_pieces c ys f)
   by_first (v ∷ []) f more h = let m = more v f in (ap (λ z. y ∷ z) m.0 ∙ cc, m.1)
   by_first (v ∷ w ∷ vs) f more h = absurd cc
+
   by_char : (b : Bool) → nat_eq y c ≡ b → ((m : Text) → split c ys ≡ m ∷ [] → (ys ≡ m) × (has_char c ys ≡ false)) → (if b then [] ∷ split c ys else before_first y (split c ys)) ≡ n ∷ [] → (y ∷ ys ≡ n) × ((b || has_char c ys) ≡ false)
   by_char true f more h = let none : split c ys ≡ [] = cc in absurd (some_pieces c ys none)
   by_char false f more h = by_first (split c ys) refl more h

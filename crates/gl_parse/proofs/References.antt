@@ -67,9 +67,9 @@ value_grows hexadecimal n (c ∷ cs) m e = option_and_then_some (λ d. value_fro
     let f = value_grows hexadecimal (n * base hexadecimal + d) cs m more in
     let g = based hexadecimal n in
     omega arith) where
-  based : (h : Bool) (n : ℕ) → n ≤ n * base h
-  based true n = omega arith
-  based false n = omega arith
+      based : (h : Bool) (n : ℕ) → n ≤ n * base h
+      based true n = omega arith
+      based false n = omega arith
 
 large_none : (m : ℕ) → 1114111 < m → referable m ≡ None
 large_none m h =

@@ -45,8 +45,8 @@ read_stmts_are depth one sound (suc n) (t ∷ ts) p e =
       | inr f ↦ elim (one_gave (ends_body (t ∷ ts)) _ _ p f.1) [
         | inl h ↦ subst P (some_is _ _ h.1) (rw (f.0) refl)
         | inr g ↦ let s = first_gave (one (t ∷ ts)) _ p g.1 in
-          let more = first_gave (read_stmts one n s.0.1) _ p s.2 in
-          subst P (some_is _ _ more.2) (s.0.1, rw (f.0) (sound (t ∷ ts) s.0 s.1), read_stmts_are depth one sound n s.0.1 more.0 more.1)
+            let more = first_gave (read_stmts one n s.0.1) _ p s.2 in
+            subst P (some_is _ _ more.2) (s.0.1, rw (f.0) (sound (t ∷ ts) s.0 s.1), read_stmts_are depth one sound n s.0.1 more.0 more.1)
       ]
     ]
 

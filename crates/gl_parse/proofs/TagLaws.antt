@@ -209,11 +209,11 @@ after_opening_is depth inner sound all o ts opening p e =
     elim (one_gave (stands k.SelfEnd ts) _ _ p e) [
       | inl h ↦ let m = under_gave _ (take_kind k.SelfEnd ts) p h.1 in subst (IsRead (suc depth) all) m.2 (closed_stmt depth all o ts m.0.1 opening (took_mark k.SelfEnd ts m.0 m.1))
       | inr f ↦ let mark = first_gave (take_kind k.TagEnd ts) _ p f.1 in
-        let m = took_mark k.TagEnd ts mark.0 mark.1 in
-        elim (one_gave (opens_void o) _ _ p mark.2) [
-          | inl h ↦ subst (IsRead (suc depth) all) (some_is _ _ h.1) (void_stmt depth all o ts mark.0.1 opening h.0 m)
-          | inr h ↦ tagged_is depth inner sound all o ts mark.0.1 opening h.0 m p h.1
-        ]
+          let m = took_mark k.TagEnd ts mark.0 mark.1 in
+          elim (one_gave (opens_void o) _ _ p mark.2) [
+            | inl h ↦ subst (IsRead (suc depth) all) (some_is _ _ h.1) (void_stmt depth all o ts mark.0.1 opening h.0 m)
+            | inr h ↦ tagged_is depth inner sound all o ts mark.0.1 opening h.0 m p h.1
+          ]
     ]
 
 pub tag_is : (depth : ℕ) (inner : Reader Body) → Sound depth inner → (ts : List Token) (p : Stmt × List Token) → read_tag inner ts ≡ Some p → IsRead (suc depth) ts p

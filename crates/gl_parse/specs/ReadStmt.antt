@@ -186,10 +186,10 @@ read_let ts = do
 unfoldable pub read_front : Reader Front
 read_front ts =
     take_kind k.Path ts >>= λ word. (
-      if bytes_eq (codes "if") word.0 then read_if false word.1
-      else (if bytes_eq (codes "unless") word.0 then read_if true word.1
-      else (if bytes_eq (codes "each") word.0 then read_each word.1
-      else (if bytes_eq (codes "let") word.0 then read_let word.1 else None))))
+    if bytes_eq (codes "if") word.0 then read_if false word.1
+    else (if bytes_eq (codes "unless") word.0 then read_if true word.1
+    else (if bytes_eq (codes "each") word.0 then read_each word.1
+    else (if bytes_eq (codes "let") word.0 then read_let word.1 else None))))
 
 -- what follows the body of a block: an else, which a let has not
 unfoldable pub read_after_body : Reader Body → Front → Body → List Token → Taken Stmt

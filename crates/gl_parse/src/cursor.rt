@@ -77,8 +77,14 @@ impl<'a> Cursor<'a> {
         ensures { result ≡ drop 1 self.now }
     {
         match self.rest {
-            [] => Cursor { rest: self.rest, end: self.end },
-            [_, tail @ ..] => Cursor { rest: tail, end: self.end },
+            [] => Cursor {
+                rest: self.rest,
+                end: self.end,
+            },
+            [_, tail @ ..] => Cursor {
+                rest: tail,
+                end: self.end,
+            },
         }
     }
 

@@ -17,6 +17,8 @@ mod scan;
 mod spelled;
 mod statement;
 mod tag;
+#[cfg(test)]
+mod tests;
 mod value;
 mod words;
 

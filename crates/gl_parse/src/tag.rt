@@ -66,7 +66,12 @@ impl Opening {
                 parts,
                 body: Body::new(alloc),
             },
-            Opening::Component { class, parts, args, params: _ } => Stmt::Component {
+            Opening::Component {
+                class,
+                parts,
+                args,
+                params: _,
+            } => Stmt::Component {
                 class,
                 parts,
                 args,
@@ -81,7 +86,12 @@ impl Opening {
     {
         match self {
             Opening::Element { tag, parts } => Ok(Stmt::Element { tag, parts, body }),
-            Opening::Component { class, parts, args, params } => Ok(Stmt::Component {
+            Opening::Component {
+                class,
+                parts,
+                args,
+                params,
+            } => Ok(Stmt::Component {
                 class,
                 parts,
                 args,
