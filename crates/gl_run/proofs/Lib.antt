@@ -12,6 +12,7 @@ pub mod PathOrder
 pub mod Playing
 pub mod Saying
 pub mod Sessions
+pub mod Spelled
 pub mod TreeLines
 pub mod Utf8
 pub mod Words
