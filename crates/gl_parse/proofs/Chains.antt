@@ -19,16 +19,19 @@ more_chain : {A : Type 0} (One : List Token → A → List Token → Type 0) (ts
 more_chain {A} One ts y ys x one more e = subst (λ (z : List A × List Token). Chain One ts z.0 z.1) (same_Some {A = List A × List Token} (y.0 ∷ ys.0, ys.1) x e) (y.1, one, more)
 
 -- what is read stands there
-pub many_chain : {A : Type 0} (starts : List Token → Bool) (one : List Token → Taken A) (One : List Token → A → List Token → Type 0) (n : ℕ) (ts : List Token) (x : List A × List Token) → ((us : List Token) (y : A × List Token) → one us ≡ Some y → One us y.0 y.1) → read_many starts one n ts ≡ Some x → Chain One ts x.0 x.1
+pub many_started : {A : Type 0} (starts : List Token → Bool) (one : List Token → Taken A) (One : List Token → A → List Token → Type 0) (n : ℕ) (ts : List Token) (x : List A × List Token) → ((us : List Token) (y : A × List Token) → starts us ≡ true → one us ≡ Some y → One us y.0 y.1) → read_many starts one n ts ≡ Some x → Chain One ts x.0 x.1
 unfolding read_many
-many_chain {A} starts one One zero ts x h e = elim (starts ts) as (λ b. ◌≡◌ {A = Taken (List A)} (if b then None else Some ([], ts)) (Some x) → Chain One ts x.0 x.1) [
+many_started {A} starts one One zero ts x h e = elim (starts ts) as (λ b. ◌≡◌ {A = Taken (List A)} (if b then None else Some ([], ts)) (Some x) → Chain One ts x.0 x.1) [
   | true ↦ λ f. absurd cc
   | false ↦ λ f. none_chain One ts x f
 ] e
-many_chain {A} starts one One (suc n) ts x h e = by_start (starts ts) (λ us y. many_chain starts one One n us y h) e where
-  by_start : (b : Bool) → ((us : List Token) (y : List A × List Token) → read_many starts one n us ≡ Some y → Chain One us y.0 y.1) → (if b then (one ts >>= λ y. (read_many starts one n y.1 >>= λ more. Some (y.0 ∷ more.0, more.1))) else Some ([], ts)) ≡ Some x → Chain One ts x.0 x.1
-  by_start true rest f = option_and_then_some _ _ x f (λ y p later. option_and_then_some _ _ x later (λ ys q last. more_chain One ts y ys x (h ts y p) (rest y.1 ys q) last))
-  by_start false rest f = none_chain One ts x f
+many_started {A} starts one One (suc n) ts x h e = by_start (starts ts) refl (λ us y. many_started starts one One n us y h) e where
+  by_start : (b : Bool) → starts ts ≡ b → ((us : List Token) (y : List A × List Token) → read_many starts one n us ≡ Some y → Chain One us y.0 y.1) → (if b then (one ts >>= λ y. (read_many starts one n y.1 >>= λ more. Some (y.0 ∷ more.0, more.1))) else Some ([], ts)) ≡ Some x → Chain One ts x.0 x.1
+  by_start true g rest f = option_and_then_some _ _ x f (λ y p later. option_and_then_some _ _ x later (λ ys q last. more_chain One ts y ys x (h ts y g p) (rest y.1 ys q) last))
+  by_start false g rest f = none_chain One ts x f
+
+pub many_chain : {A : Type 0} (starts : List Token → Bool) (one : List Token → Taken A) (One : List Token → A → List Token → Type 0) (n : ℕ) (ts : List Token) (x : List A × List Token) → ((us : List Token) (y : A × List Token) → one us ≡ Some y → One us y.0 y.1) → read_many starts one n ts ≡ Some x → Chain One ts x.0 x.1
+many_chain starts one One n ts x h e = many_started starts one One n ts x (λ us y g p. h us y p) e
 
 -- what one in a chain has to do with its reading
 pub record IsRead {A : Type 0} (starts : List Token → Bool) (one : List Token → Taken A) (Follow : List Token → Type 0) (ts : List Token) (x : A) (vs : List Token) : Type 0 where

@@ -1,16 +1,17 @@
 -- Laws of reading the items of a tag.
-use Rattle.std.proofs.Common.{◌≡◌, ◌≤◌, ◌<◌, ℕ, List, [], ◌∷◌, ◌++◌, Bool, true, false, length, Option, Some, None, refl, sym, ap, ◌∙◌, append-nil, arith}
-use Rattle.std.specs.Prelude.{if◌then◌else◌, option_map}
-use Rattle.std.proofs.lemmas.Option.{option_and_then_some}
+use Rattle.std.proofs.Common.{◌≡◌, ◌≤◌, ◌<◌, ℕ, List, [], ◌∷◌, ◌++◌, Bool, true, false, length, drop, Option, Some, None, refl, sym, ap, ◌∙◌, append-nil, arith}
+use Rattle.std.specs.Prelude.{if◌then◌else◌, ◌==◌, option_map}
+use Rattle.std.proofs.lemmas.Option.{cond_some, option_and_then_some}
 use Rattle.gl_base.specs.Answers.{◌>>=◌}
 use Rattle.gl_base.specs.Texts.{Text}
 use Rattle.gl_ast.specs.Grammar.{deepest_calls, Item, part_item, argument_item, after_comments, parts_among, arguments_among}
 use Rattle.gl_ast.specs.Settling.{is_comment}
 use Rattle.gl_ast.specs.Template.{AttrValue, Part, attribute, modifier, spread}
+use Rattle.gl_ast.specs.TokenText.{leads}
 use Rattle.gl_ast.specs.declared.token.Token.{Token}
 use Rattle.gl_ast.specs.declared.token.TokenKind.TheVariants as k
 use Rattle.gl_parse.specs.ReadExpr.{read_name, read_arguments, read_expr}
-use Rattle.gl_parse.specs.ReadItem.{read_attribute, read_argument, read_modifier, read_spread, starts_item, read_item, read_items, read_tag_items}
+use Rattle.gl_parse.specs.ReadItem.{read_at, read_attribute, read_argument, read_modifier, read_spread, starts_item, read_item, read_items, read_tag_items}
 use Rattle.gl_parse.specs.ReadValue.{read_given}
 use Rattle.gl_parse.specs.Take.{Taken, stands, take_kind, read_many}
 use Rattle.gl_parse.proofs.Many.{IsLeft, many_start, many_go, many_fail, many_end}
@@ -25,15 +26,23 @@ attribute_shorter ts x e = option_and_then_some _ _ x e (λ name p e1. option_an
     let i = left_is value.1 _ x last in
     omega arith))
 
+at_shorter : (ts : List Token) (x : Text × List Token) → read_at ts ≡ Some x → length x.1 < length ts
+unfolding read_at
+at_shorter ts x e = option_and_then_some _ _ x e (λ name p last.
+    let f = kind_shorter k.Argument ts name p in
+    let h = cond_some (leads (λ c. c == 64) name.0) (drop 1 name.0, name.1) x last in
+    let g : length x.1 ≡ length name.1 = ap (λ (y : Text × List Token). length y.1) (sym h.1) in
+    omega arith)
+
 argument_shorter : (ts : List Token) (x : Item × List Token) → read_argument ts ≡ Some x → length x.1 < length ts
 unfolding read_argument
 argument_shorter ts x e = option_and_then_some _ _ x e (λ name p e1. option_and_then_some _ _ x e1 (λ value q last.
-    let f = kind_shorter k.Argument ts name p in
+    let f = at_shorter ts name p in
     let g = given_leaves name.1 value q in
     let i = left_is value.1 _ x last in
     omega arith))
 
-modifier_shorter : (ts : List Token) (x : Item × List Token) → read_modifier ts ≡ Some x → length x.1 < length ts
+pub modifier_shorter : (ts : List Token) (x : Item × List Token) → read_modifier ts ≡ Some x → length x.1 < length ts
 unfolding read_modifier
 modifier_shorter ts x e = option_and_then_some _ _ x e (λ front p e1. option_and_then_some _ _ x e1 (λ name q e2. option_and_then_some _ _ x e2 (λ given s e3. option_and_then_some _ _ x e3 (λ back t last.
     let f = kind_shorter k.OpenMustache ts front p in

@@ -2,11 +2,13 @@ pub mod BlockLaws
 pub mod Bodies
 pub mod Called
 pub mod Chains
+pub mod ExprLaws
 pub mod ExprLists
 pub mod Falls
 pub mod FirstTokens
 pub mod Firsts
 pub mod FlatLaws
+pub mod ItemLaws
 pub mod Items
 pub mod Lower
 pub mod Many
@@ -16,9 +18,12 @@ pub mod Scanned
 pub mod Shorter
 pub mod ShorterValues
 pub mod SpellsRead
+pub mod Starts
 pub mod StmtLaws
 pub mod TagLaws
 pub mod Takings
 pub mod Telling
+pub mod TokenLaws
 pub mod TokenPieces
 pub mod Utf8
+pub mod ValueLaws

@@ -63,9 +63,13 @@ tag_parts_are ts q e =
     let Q : (List Part × List (Text × AttrValue)) × List Token → Type 0 = λ r. AreItems ts (map part_item r.0.0) r.1 in
     subst Q m.2 (subst P (sym (items_are_parts (length ts) ts m.0.0 m.0.1 m.1)) (read_items_are false (length ts) ts m.0.0 m.0.1 m.1))
 
-reads_tag_items : (ts : List Token) (is : List Item) (us : List Token) → starts_item true us ≡ false → AreItems ts is us → read_tag_items true ts ≡ Some ((parts_among is, arguments_among is), us)
+-- neither an item nor `=` comes first
+abbrev NoItem : Bool → List Token → Type 0
+NoItem component ts = (starts_item component ts ≡ false) × (stands k.Equals ts ≡ false)
+
+reads_tag_items : (ts : List Token) (is : List Item) (us : List Token) → NoItem true us → AreItems ts is us → read_tag_items true ts ≡ Some ((parts_among is, arguments_among is), us)
 unfolding read_tag_items
-reads_tag_items ts is us none are = rw (reads_items (length ts) ts is us (omega arith) none are) refl
+reads_tag_items ts is us none are = rw (reads_items (length ts) ts is us (omega arith) none.0 none.1 are) refl
 
 no_arguments : (ps : List Part) → arguments_among (map part_item ps) ≡ []
 no_arguments [] = refl
@@ -75,14 +79,14 @@ parts_of_parts : (ps : List Part) → parts_among (map part_item ps) ≡ ps
 parts_of_parts [] = refl
 parts_of_parts (p ∷ ps) = ap (λ l. p ∷ l) (parts_of_parts ps)
 
-reads_tag_parts : (ts : List Token) (ps : List Part) (us : List Token) → starts_item false us ≡ false → AreItems ts (map part_item ps) us → read_tag_items false ts ≡ Some ((ps, []), us)
+reads_tag_parts : (ts : List Token) (ps : List Part) (us : List Token) → NoItem false us → AreItems ts (map part_item ps) us → read_tag_items false ts ≡ Some ((ps, []), us)
 unfolding read_tag_items
-reads_tag_parts ts ps us none are = rw (reads_parts (length ts) ts ps us (omega arith) none are, parts_of_parts ps, no_arguments ps) refl
+reads_tag_parts ts ps us none are = rw (reads_parts (length ts) ts ps us (omega arith) none.0 none.1 are, parts_of_parts ps, no_arguments ps) refl
 
-no_item : (component : Bool) (kind : TokenKind) (ts us : List Token) → Mark kind ts us → same_kind kind k.Attribute ≡ false → same_kind kind k.OpenMustache ≡ false → same_kind kind k.Spread ≡ false → same_kind kind k.Argument ≡ false → starts_item component ts ≡ false
+no_item : (component : Bool) (kind : TokenKind) (ts us : List Token) → Mark kind ts us → same_kind kind k.Attribute ≡ false → same_kind kind k.OpenMustache ≡ false → same_kind kind k.Spread ≡ false → same_kind kind k.Argument ≡ false → same_kind kind k.Equals ≡ false → NoItem component ts
 unfolding starts_item
-no_item true kind ts us m a o s g = rw (stands_mark kind k.Attribute ts us m, stands_mark kind k.OpenMustache ts us m, stands_mark kind k.Spread ts us m, stands_mark kind k.Argument ts us m, a, o, s, g) refl
-no_item false kind ts us m a o s g = rw (stands_mark kind k.Attribute ts us m, stands_mark kind k.OpenMustache ts us m, stands_mark kind k.Spread ts us m, a, o, s) refl
+no_item true kind ts us m a o s g e = (rw (stands_mark kind k.Attribute ts us m, stands_mark kind k.OpenMustache ts us m, stands_mark kind k.Spread ts us m, stands_mark kind k.Argument ts us m, a, o, s, g) refl, stands_mark kind k.Equals ts us m ∙ e)
+no_item false kind ts us m a o s g e = (rw (stands_mark kind k.Attribute ts us m, stands_mark kind k.OpenMustache ts us m, stands_mark kind k.Spread ts us m, a, o, s) refl, stands_mark kind k.Equals ts us m ∙ e)
 
 pub read_parameters_are : (ts : List Token) (p : List Text × List Token) → read_parameters ts ≡ Some p → AreParameters ts p.0 p.1
 unfolding read_parameters
@@ -155,17 +159,17 @@ opening_is ts p e =
 
 -- neither an item nor parameters stand there
 abbrev IsTagEnd : List Token → Type 0
-IsTagEnd ts = (starts_item true ts ≡ false) × (starts_item false ts ≡ false) × (stands k.Parameters ts ≡ false)
+IsTagEnd ts = NoItem true ts × NoItem false ts × (stands k.Parameters ts ≡ false)
 
 self_end : (ts us : List Token) → Mark k.SelfEnd ts us → IsTagEnd ts
-self_end ts us m = (no_item true k.SelfEnd ts us m refl refl refl refl, no_item false k.SelfEnd ts us m refl refl refl refl, stands_mark k.SelfEnd k.Parameters ts us m)
+self_end ts us m = (no_item true k.SelfEnd ts us m refl refl refl refl refl, no_item false k.SelfEnd ts us m refl refl refl refl refl, stands_mark k.SelfEnd k.Parameters ts us m)
 
 tag_end : (ts us : List Token) → Mark k.TagEnd ts us → IsTagEnd ts
-tag_end ts us m = (no_item true k.TagEnd ts us m refl refl refl refl, no_item false k.TagEnd ts us m refl refl refl refl, stands_mark k.TagEnd k.Parameters ts us m)
+tag_end ts us m = (no_item true k.TagEnd ts us m refl refl refl refl refl, no_item false k.TagEnd ts us m refl refl refl refl refl, stands_mark k.TagEnd k.Parameters ts us m)
 
-parameters_no_item : (ws ns_end : List Token) (ns : List Text) → IsTagEnd ns_end → AreParameters ws ns ns_end → starts_item true ws ≡ false
+parameters_no_item : (ws ns_end : List Token) (ns : List Text) → IsTagEnd ns_end → AreParameters ws ns ns_end → NoItem true ws
 parameters_no_item ws xs ns ends (inl (e, f)) = rw e (ends.0)
-parameters_no_item ws xs ns ends (inr m) = no_item true k.Parameters ws xs (m.0, m.1, m.2) refl refl refl refl
+parameters_no_item ws xs ns ends (inr m) = no_item true k.Parameters ws xs (m.0, m.1, m.2) refl refl refl refl refl
 
 reads_opening : (ts : List Token) (o : Opening) (us : List Token) → IsTagEnd us → IsOpen ts o us → read_opening ts ≡ Some (o, us)
 unfolding read_opening read_named_tag read_element read_component

@@ -1,10 +1,11 @@
 -- What an opening tag has, read from the front of the tokens.
-use Rattle.std.specs.Prelude.{ℕ, List, [], ◌∷◌, Bool, false, ◌&&◌, ◌||◌, drop, length, if◌then◌else◌, Option, Some, None, option_map}
+use Rattle.std.specs.Prelude.{ℕ, List, [], ◌∷◌, Bool, false, ◌&&◌, ◌||◌, ◌==◌, drop, length, if◌then◌else◌, Option, Some, None, option_map}
 use Rattle.gl_base.specs.Answers.{◌>>=◌}
 use Rattle.gl_base.specs.Texts.{Text}
 use Rattle.gl_ast.specs.Grammar.{deepest_calls, Item, part_item, argument_item, after_comments, parts_among, arguments_among}
 use Rattle.gl_ast.specs.Settling.{is_comment}
 use Rattle.gl_ast.specs.Template.{AttrValue, Part, attribute, modifier, spread}
+use Rattle.gl_ast.specs.TokenText.{leads}
 use Rattle.gl_ast.specs.declared.token.Token.{Token}
 use Rattle.gl_ast.specs.declared.token.TokenKind.TheVariants as k
 use Rattle.gl_parse.specs.ReadExpr.{read_name, read_arguments, read_expr}
@@ -17,12 +18,15 @@ read_attribute ts = do
   value ← read_given name.1
   Some (part_item (attribute name.0 value.0), value.1)
 
--- an argument's name stands after `@`
+-- an argument's name, which stands after `@`
+unfoldable pub read_at : List Token → Taken Text
+read_at ts = take_kind k.Argument ts >>= λ name. (if leads (λ c. c == 64) name.0 then Some (drop 1 name.0, name.1) else None)
+
 unfoldable pub read_argument : List Token → Taken Item
 read_argument ts = do
-  name ← take_kind k.Argument ts
+  name ← read_at ts
   value ← read_given name.1
-  Some (argument_item (drop 1 name.0) value.0, value.1)
+  Some (argument_item name.0 value.0, value.1)
 
 unfoldable pub read_modifier : List Token → Taken Item
 read_modifier ts = do

@@ -10,10 +10,10 @@ ghost use Rattle.gl_parse.specs.View.{item_view};
 use crate::ParseFault;
 use crate::cursor::Cursor;
 use crate::expr::{DEEPEST_CALLS, arguments};
-use crate::name::name;
+use crate::name::{is_argument, name};
 use crate::value::given;
 use crate::words::{parameters_of, without_first};
-use gl_ast::{Args, Argument, Names, Part, Parts, TokenKind};
+use gl_ast::{Args, Argument, Names, Part, Parts, Str, TokenKind};
 use std::alloc::{AllocError, Global};
 
 /// The parts and the arguments of a tag.
@@ -39,12 +39,24 @@ fn attribute(alloc: Global, tokens: &mut Cursor) -> Result<Item, ParseFault>
     Ok(Item::Part(Part::Attr { name, value }))
 }
 
-// An argument's name stands after `@`.
+// An argument's name, which stands after `@`.
+#[tactic(auto, unfolding(crate::specs::ReadItem::read_at))]
+fn at_name(alloc: Global, tokens: &mut Cursor) -> Result<Str, ParseFault>
+    ensures { Gives Fails (λ n. (n, tokens.new)) result (read.read_at tokens.old) }
+{
+    let offset = tokens.place();
+    let raw = tokens.take(TokenKind::Argument)?;
+    if !is_argument(raw) {
+        return Err(ParseFault::NotInGrammar { offset });
+    }
+    Ok(without_first(alloc, raw)?)
+}
+
 #[tactic(auto, unfolding(crate::specs::ReadItem::read_argument))]
 fn argument(alloc: Global, tokens: &mut Cursor) -> Result<Item, ParseFault>
     ensures { Gives Fails (λ i. (item_view i, tokens.new)) result (read.read_argument tokens.old) }
 {
-    let name = without_first(alloc, tokens.take(TokenKind::Argument)?)?;
+    let name = at_name(alloc, tokens)?;
     let value = given(alloc, tokens)?;
     Ok(Item::Argument(Argument { name, value }))
 }
