@@ -6,16 +6,13 @@ use Rattle.std.proofs.lemmas.Bool.{and_parts}
 use Rattle.std.proofs.lemmas.Bool.Decides.{nat_tests}
 use Rattle.std.proofs.lemmas.Str.{is_utf8-from_IsUtf8, IsUtf8-from_ascii, chars-IsAscii}
 use Rattle.std.proofs.lemmas.Str.Ascii.{IsAscii-nil}
-use Rattle.gl_run.specs.Names.{in_name, in_tag, is_name, is_tag}
+use Rattle.gl_run.specs.Names.{in_name, is_name}
 
 abbrev Small : (ℕ → Bool) → Type 0
 Small p = (c : ℕ) → p c ≡ true → c < 128
 
 in_name_small : Small in_name
 in_name_small c e = grind (arith, nat_tests)
-
-in_tag_small : Small in_tag
-in_tag_small c e = grind (arith, nat_tests)
 
 ascii_cons : (c : ℕ) (cs : List ℕ) → c < 128 → IsAscii cs → IsAscii (c ∷ cs)
 ascii_cons c cs h k zero = h
@@ -29,22 +26,10 @@ pub name_ascii : (s : List ℕ) → is_name s ≡ true → IsAscii s
 unfolding is_name
 name_ascii s e = all_ascii in_name in_name_small s (and_parts _ (list_all in_name s) e).1
 
-pub tag_ascii : (s : List ℕ) → is_tag s ≡ true → IsAscii s
-unfolding is_tag
-tag_ascii s e = all_ascii in_tag in_tag_small s (and_parts _ (list_all in_tag s) e).1
-
 pub name_utf8 : (s : List ℕ) → is_name s ≡ true → is_utf8 s ≡ true
 name_utf8 s e = is_utf8-from_IsUtf8 s (IsUtf8-from_ascii s (name_ascii s e))
 
 pub name_chars : (s : List ℕ) → is_name s ≡ true → chars s ≡ s
 name_chars s e = chars-IsAscii s (name_ascii s e)
 
-pub tag_utf8 : (s : List ℕ) → is_tag s ≡ true → is_utf8 s ≡ true
-tag_utf8 s e = is_utf8-from_IsUtf8 s (IsUtf8-from_ascii s (tag_ascii s e))
-
-pub tag_chars : (s : List ℕ) → is_tag s ≡ true → chars s ≡ s
-tag_chars s e = chars-IsAscii s (tag_ascii s e)
-
 pub ruleset name_laws = (name_utf8, name_chars)
-
-pub ruleset tag_laws = (tag_utf8, tag_chars)

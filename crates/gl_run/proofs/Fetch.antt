@@ -4,12 +4,12 @@ use Rattle.std.proofs.lemmas.Bool.Decides.{nat_tests}
 use Rattle.std.proofs.lemmas.List.{take_all, length-take}
 use Rattle.gl_base.specs.Texts.{Text, bytes_of}
 use Rattle.gl_outside.specs.Shelf.{Entry, Reads, IsAbsent, file_of}
-use Rattle.gl_run.specs.Load.{kept, absent, not_built}
+use Rattle.gl_run.specs.Load.{kept, absent, too_long}
 
 short_kept : (limit : ℕ) (name : Text) (bytes : List ℕ) → length bytes ≤ limit → kept limit name (Some bytes) ≡ Ok bytes
 short_kept limit name bytes h = let t : leb (length bytes) limit ≡ true = grind (arith, nat_tests) in rw t refl
 
-long_kept : (limit : ℕ) (name : Text) (bytes : List ℕ) → limit < length bytes → kept limit name (Some bytes) ≡ Err not_built
+long_kept : (limit : ℕ) (name : Text) (bytes : List ℕ) → limit < length bytes → kept limit name (Some bytes) ≡ Err (too_long name)
 long_kept limit name bytes h = let t : leb (length bytes) limit ≡ false = grind (arith, nat_tests) in rw t refl
 
 within : (limit : ℕ) (bytes new : List ℕ) → new ≡ take (limit + 1) bytes → length new ≤ limit → length bytes ≤ limit
@@ -25,7 +25,7 @@ read_whole limit o files name raw new is e h short =
     let whole = take_all (limit + 1) r.0 (omega arith) in
     rw (is, r.1) (short_kept limit name r.0 len ∙ ap Ok (sym (r.2 ∙ whole)))
 
-pub read_long : (limit : ℕ) (o : Option (List Entry)) (files : List Entry) (name : Text) (raw new : List ℕ) → bytes_of name ≡ raw → o ≡ Some files → Reads o raw (limit + 1) [] new → limit < length new → kept limit name (file_of files (bytes_of name)) ≡ Err not_built
+pub read_long : (limit : ℕ) (o : Option (List Entry)) (files : List Entry) (name : Text) (raw new : List ℕ) → bytes_of name ≡ raw → o ≡ Some files → Reads o raw (limit + 1) [] new → limit < length new → kept limit name (file_of files (bytes_of name)) ≡ Err (too_long name)
 read_long limit o files name raw new is e h long =
     let r = subst (λ (x : Option (List Entry)). Reads x raw (limit + 1) [] new) e h in
     rw (is, r.1) (long_kept limit name r.0 (past limit r.0 new r.2 long))

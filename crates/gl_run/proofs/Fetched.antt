@@ -1,7 +1,7 @@
 -- Which file can't be read, among those that a load fetches.
 use Rattle.std.proofs.Common.{◌≡◌, List, [], ◌∷◌, Ok, inl, inr}
 use Rattle.gl_base.specs.Texts.{Text}
-use Rattle.gl_ast.specs.Template.{Stmt}
+use Rattle.gl_ast.specs.Template.{Body}
 use Rattle.gl_outside.specs.Shelf.{Entry}
 use Rattle.gl_run.specs.Manifest.{Manifest}
 use Rattle.gl_run.specs.Load.{manifest_in, tree_in, fetched}
@@ -11,6 +11,8 @@ use Rattle.gl_run.specs.declared.load.LoadFault.TheVariants as v
 
 weaker : (e : LoadFault) (ns ms : List Text) → ((n : Text) → IsAmong n ns → IsAmong n ms) → FailsAmong e ns → FailsAmong e ms
 weaker (v.Absent name) ns ms more h = tt
+weaker (v.TooLong name) ns ms more h = tt
+weaker (v.NotInGrammar name offset) ns ms more h = tt
 weaker v.NotBuilt ns ms more h = tt
 weaker (v.ReadFault name) ns ms more h = more name h
 weaker v.Memory ns ms more h = tt
@@ -27,6 +29,6 @@ pub template_fails : (e : LoadFault) (files : List Entry) (manifest script : Tex
 unfolding fetched
 template_fails e files manifest script found is h = weaker e (found.file ∷ []) (fetched files manifest script) (λ n m. rw is (inr (inl (only_one n found.file m)))) h
 
-pub script_fails : (e : LoadFault) (files : List Entry) (manifest script : Text) (found : Manifest) (tree : List Stmt) → manifest_in files manifest ≡ Ok found → tree_in files found.cells found.file ≡ Ok tree → FailsAmong e (script ∷ []) → FailsAmong e (fetched files manifest script)
+pub script_fails : (e : LoadFault) (files : List Entry) (manifest script : Text) (found : Manifest) (tree : Body) → manifest_in files manifest ≡ Ok found → tree_in files found.cells found.file ≡ Ok tree → FailsAmong e (script ∷ []) → FailsAmong e (fetched files manifest script)
 unfolding fetched
 script_fails e files manifest script found tree is too h = weaker e (script ∷ []) (fetched files manifest script) (λ n m. rw (is, too) (inr (inr (inl (only_one n script m))))) h

@@ -8,7 +8,10 @@ use Rattle.gl_run.specs.Session.{App, session}
 use Rattle.gl_run.specs.Page.{pages}
 use Rattle.gl_run.specs.Plays.{Plays}
 use Rattle.gl_run.specs.Output.{Output, run_words, command_output, loaded_output, output_of, Answers}
-use Rattle.gl_run.specs.Run.{status_of, fetched_by, play_ending, Completes}
+use Rattle.gl_run.specs.Loads.{seen_app, Loads, FailsAmong}
+use Rattle.gl_run.specs.Run.{status_of, fetched_by, load_ending, play_ending, Completes, Tells}
+use Rattle.gl_run.specs.declared.load.LoadFault.{LoadFault}
+use Rattle.gl_run.specs.declared.load.LoadFault.TheVariants as load
 use Rattle.gl_run.specs.declared.session.PlayFault.{PlayFault}
 use Rattle.gl_run.specs.declared.session.PlayFault.TheVariants as play
 use Rattle.gl_run.specs.declared.status.Status.{Status}
@@ -48,3 +51,12 @@ completes status.Refused old new o p read write = inr p
 completes status.ReadFault old new o p read write = absurd (read refl)
 completes status.WriteFault old new o p read write = absurd (write refl)
 completes status.NoMemory old new o p read write = inl refl
+
+-- a load that fails is told by its line
+pub load_tells : (e : LoadFault) (loaded : Result App Refusal) (names : List Text) → Loads seen_app (Err e) loaded → FailsAmong e names → Tells (Err (load_ending e)) (loaded_output loaded) names
+load_tells (load.Absent name) loaded names is among = rw is refl
+load_tells (load.TooLong name) loaded names is among = rw is refl
+load_tells (load.NotInGrammar name offset) loaded names is among = rw is.1 (offset, is.2, refl)
+load_tells load.NotBuilt loaded names is among = rw is refl
+load_tells (load.ReadFault name) loaded names is among = among
+load_tells load.Memory loaded names is among = tt

@@ -15,7 +15,4 @@ pub mod Render
 pub mod Run
 pub mod Seen
 pub mod Session
-pub mod Spelling
 pub mod Status
-pub mod Template
-pub mod View

@@ -1,17 +1,20 @@
 -- What a run loads, or why it refuses.
-use Rattle.std.specs.Prelude.{ℕ, List, [], ◌∷◌, Bool, true, false, ◌&&◌, Option, Some, None, Result, Ok, Err, if◌then◌else◌, nat_le, length, is_some, option_and_then}
+use Rattle.std.specs.Prelude.{ℕ, List, [], ◌∷◌, Bool, true, false, ◌&&◌, Option, Some, None, Result, Ok, Err, if◌then◌else◌, nat_le, length, is_some}
 use Rattle.gl_base.specs.Texts.{Text, bytes_of}
 use Rattle.gl_base.specs.Names.{named}
-use Rattle.gl_ast.specs.Template.{Expr, this, Stmt, put, element, Body, end, stmt, body_of}
+use Rattle.gl_ast.specs.Template.{Expr, this, Stmt, text_stmt, put, element, Body, end, stmt}
 use Rattle.gl_outside.specs.Shelf.{Entry, file_of}
+use Rattle.gl_parse.specs.ReadStmt.{template_of}
 use Rattle.gl_run.specs.Manifest.{Manifest, manifest_from, script_from}
 use Rattle.gl_run.specs.Render.{Cells}
 use Rattle.gl_run.specs.Session.{Event, App}
-use Rattle.gl_run.specs.Template.{template_of}
 
--- a file that isn't there, or an input that isn't of the small form
+-- a file that isn't there, one that is too long, a template that is not in the grammar, with its length, or an input that
+-- isn't of the small form
 pub data Refusal : Type 0 where
   absent : Text → Refusal
+  too_long : Text → Refusal
+  not_in_grammar : Text → ℕ → Refusal
   not_built : Refusal
 
 infixl 10 ◌>>=◌
@@ -30,35 +33,42 @@ formed (Some x) = Ok x
 -- the bytes of a file that is there and isn't too long
 abbrev pub kept : ℕ → Text → Option (List ℕ) → Result (List ℕ) Refusal
 kept limit name None = Err (absent name)
-kept limit name (Some bytes) = if nat_le (length bytes) limit then Ok bytes else Err not_built
+kept limit name (Some bytes) = if nat_le (length bytes) limit then Ok bytes else Err (too_long name)
 
 unfoldable pub small_file : List Entry → Text → Result (List ℕ) Refusal
 small_file files name = kept most name (file_of files (bytes_of name))
 
 -- each `{{this.x}}` names a field
 abbrev pub is_field : Cells → Expr → Bool
-is_field cells (this x names) = is_some (named x cells)
+is_field cells (this x []) = is_some (named x cells)
 is_field cells _ = false
 
+-- The small form has texts, `{{this.x}}` of fields, and elements without parts round these.
 abbrev mutual
-  pub has_fields : Cells → Stmt → Bool
-  has_fields cells (put e) = is_field cells e
-  has_fields cells (element tag parts b) = all_have_fields cells b
-  has_fields cells _ = true
+  pub is_small : Cells → Stmt → Bool
+  is_small cells (text_stmt t) = true
+  is_small cells (put e) = is_field cells e
+  is_small cells (element tag [] b) = are_small cells b
+  is_small cells _ = false
 
-  pub all_have_fields : Cells → Body → Bool
-  all_have_fields cells end = true
-  all_have_fields cells (stmt s b) = has_fields cells s && all_have_fields cells b
+  pub are_small : Cells → Body → Bool
+  are_small cells end = true
+  are_small cells (stmt s b) = is_small cells s && are_small cells b
 
--- the tree of a template whose names are fields
-unfoldable pub known_tree : Cells → List Stmt → Option (List Stmt)
-known_tree cells tree = if all_have_fields cells (body_of tree) then Some tree else None
+-- the tree of a template of the small form
+unfoldable pub known_tree : Cells → Body → Option Body
+known_tree cells tree = if are_small cells tree then Some tree else None
+
+-- the tree that the bytes of a template spell
+abbrev pub spelled : Text → ℕ → Option Body → Result Body Refusal
+spelled name size None = Err (not_in_grammar name size)
+spelled name size (Some tree) = Ok tree
 
 unfoldable pub manifest_in : List Entry → Text → Result Manifest Refusal
 manifest_in files name = small_file files name >>= λ bytes. formed (manifest_from bytes)
 
-unfoldable pub tree_in : List Entry → Cells → Text → Result (List Stmt) Refusal
-tree_in files cells name = small_file files name >>= λ bytes. formed (option_and_then (known_tree cells) (template_of bytes))
+unfoldable pub tree_in : List Entry → Cells → Text → Result Body Refusal
+tree_in files cells name = small_file files name >>= λ bytes. (spelled name (length bytes) (template_of bytes) >>= λ tree. formed (known_tree cells tree))
 
 unfoldable pub events_in : List Entry → Cells → Text → Result (List Event) Refusal
 events_in files cells name = small_file files name >>= λ bytes. formed (script_from cells bytes)
@@ -68,7 +78,7 @@ unfoldable pub load_of : List Entry → Text → Text → Result App Refusal
 load_of files manifest script =
     manifest_in files manifest >>= λ m.
     (tree_in files m.cells m.file >>= λ tree.
-    (events_in files m.cells script >>= λ events. Ok (record { body = body_of tree; cells = m.cells; events = events })))
+    (events_in files m.cells script >>= λ events. Ok (record { body = tree; cells = m.cells; events = events })))
 
 abbrev pub after_ok : {A : Type 0} → Result A Refusal → (A → List Text) → List Text
 after_ok (Err r) rest = []

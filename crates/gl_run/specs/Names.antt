@@ -27,16 +27,8 @@ starts_name c = is_letter c || c == 95 || c == 36
 abbrev pub in_name : ℕ → Bool
 in_name c = starts_name c || is_digit c || c == 45
 
--- a tag name goes on with letters, digits and `-`
-abbrev pub in_tag : ℕ → Bool
-in_tag c = is_letter c || is_digit c || c == 45
-
 abbrev pub reserved : List Text
 reserved = codes "this" ∷ codes "true" ∷ codes "false" ∷ codes "null" ∷ codes "undefined" ∷ codes "else" ∷ codes "yield" ∷ []
-
--- the tags that have no end tag
-abbrev pub void_tags : List Text
-void_tags = codes "area" ∷ codes "base" ∷ codes "br" ∷ codes "col" ∷ codes "embed" ∷ codes "hr" ∷ codes "img" ∷ codes "input" ∷ codes "link" ∷ codes "meta" ∷ codes "param" ∷ codes "source" ∷ codes "track" ∷ codes "wbr" ∷ []
 
 abbrev pub is_one_of : List Text → Text → Bool
 is_one_of names name = list_any (λ n. bytes_eq n name) names
@@ -44,10 +36,6 @@ is_one_of names name = list_any (λ n. bytes_eq n name) names
 -- a name that isn't reserved
 unfoldable pub is_name : Text → Bool
 is_name s = starts_name (slice_index s 0) && not (is_one_of reserved s) && list_all in_name s
-
--- the name of an element that has an end tag: a small letter, then letters, digits and `-`
-unfoldable pub is_tag : Text → Bool
-is_tag s = is_small (slice_index s 0) && not (is_one_of void_tags s) && list_all in_tag s
 
 -- A class name is a capital and then what follows one: nothing; a letter or a digit and what follows one;
 -- or `::` and a class name.

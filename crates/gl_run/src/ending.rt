@@ -3,10 +3,11 @@ ghost use Rattle.std.specs.Prelude.{◌≡◌, ◌++◌, IsTrue, true};
 ghost use Rattle.gl_base.specs.Texts.{is_ascii_text};
 ghost use Rattle.gl_value.specs.Quote.{quoted};
 ghost use Rattle.gl_run.specs.Lines.{Says, SaysOn};
+ghost use Rattle.gl_run.specs.Output.{grammar_line};
 ghost use Rattle.gl_run.specs.Run.{status_of, line_of};
 
 use crate::Status;
-use crate::line::{say_ascii, say_quoted};
+use crate::line::{say_ascii, say_number, say_quoted};
 use crate::load::LoadFault;
 use crate::session::PlayFault;
 use gl_outside::Sink;
@@ -20,6 +21,10 @@ pub enum RunFault {
     Usage,
     #[error("absent")]
     Absent(Text),
+    #[error("longer than 16777216 bytes")]
+    TooLong(Text),
+    #[error("not in the grammar at byte {offset}")]
+    NotInGrammar { file: Text, offset: u64 },
     #[error("not built yet")]
     NotBuilt,
     #[error("read fault")]
@@ -38,6 +43,8 @@ impl From<LoadFault> for RunFault {
     fn from(fault: LoadFault) -> Self {
         match fault {
             LoadFault::Absent(file) => RunFault::Absent(file),
+            LoadFault::TooLong(file) => RunFault::TooLong(file),
+            LoadFault::NotInGrammar { file, offset } => RunFault::NotInGrammar { file, offset },
             LoadFault::NotBuilt => RunFault::NotBuilt,
             LoadFault::ReadFault(file) => RunFault::ReadFault(file),
             LoadFault::Memory => RunFault::Memory,
@@ -65,7 +72,8 @@ pub fn status_of(ending: &Result<(), RunFault>) -> Status
     match ending {
         Ok(()) => Status::Done,
         Err(RunFault::Usage) => Status::Usage,
-        Err(RunFault::Absent(_) | RunFault::NotBuilt) => Status::Refused,
+        Err(RunFault::Absent(_) | RunFault::TooLong(_) | RunFault::NotBuilt) => Status::Refused,
+        Err(RunFault::NotInGrammar { file: _, offset: _ }) => Status::Refused,
         Err(RunFault::ReadFault(_)) => Status::ReadFault,
         Err(RunFault::WriteFault) => Status::WriteFault,
         Err(RunFault::Memory) => Status::NoMemory,
@@ -81,6 +89,15 @@ fn say_of_file<E: Sink>(err: &mut E, file: &Text, matter: &str) -> bool
     say_ascii(err, whole, matter)
 }
 
+// Says the name of a template and the byte at which it is not in the grammar.
+fn say_of_grammar<E: Sink>(err: &mut E, file: &Text, offset: u64) -> bool
+    ensures { SaysOn true result (E.took err.old) (E.took err.new) (E.faults err.old) (E.faults err.new) (E.wants err.old) (E.wants err.new) (grammar_line file.now offset) }
+{
+    let whole = say_of_file(err, file, ": not in the grammar at byte ");
+    let whole = say_number(err, whole, offset);
+    say_ascii(err, whole, "\n")
+}
+
 // Says the line of a run that ended so, which is none where all was written, and tells whether all was taken.
 fn say_ending<E: Sink>(err: &mut E, ending: &Result<(), RunFault>) -> bool
     ensures { SaysOn true result (E.took err.old) (E.took err.new) (E.faults err.old) (E.faults err.new) (E.wants err.old) (E.wants err.new) (line_of ending.now) }
@@ -89,6 +106,8 @@ fn say_ending<E: Sink>(err: &mut E, ending: &Result<(), RunFault>) -> bool
         Ok(()) => true,
         Err(RunFault::Usage) => say_ascii(err, true, "bad command line\n"),
         Err(RunFault::Absent(file)) => say_of_file(err, file, ": absent\n"),
+        Err(RunFault::TooLong(file)) => say_of_file(err, file, ": longer than 16777216 bytes\n"),
+        Err(RunFault::NotInGrammar { file, offset }) => say_of_grammar(err, file, *offset),
         Err(RunFault::NotBuilt) => say_ascii(err, true, "not built yet\n"),
         Err(RunFault::ReadFault(file)) => say_of_file(err, file, ": read fault\n"),
         Err(RunFault::WriteFault) => say_ascii(err, true, "write fault\n"),

@@ -4,7 +4,6 @@
 mod ending;
 mod fault;
 mod known;
-pub mod laws;
 mod line;
 mod load;
 mod manifest;
@@ -12,9 +11,7 @@ mod names;
 mod page;
 mod session;
 mod status;
-mod template;
 mod top;
-mod tree;
 
 pub use ending::RunFault;
 pub use fault::FormFault;

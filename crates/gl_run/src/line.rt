@@ -1,5 +1,5 @@
 // Lines on the error sink. They take no memory, and a fault of the sink changes nothing else.
-ghost use Rattle.std.specs.Prelude.{◌≡◌, ◌<◌, ◌++◌, ◌∷◌, [], IsTrue, codes, true, false};
+ghost use Rattle.std.specs.Prelude.{◌≡◌, ◌<◌, ◌++◌, ◌∷◌, [], IsTrue, codes, decimal, true, false};
 ghost use Rattle.std.specs.Str.{chars};
 ghost use Rattle.std.specs.Fmt.{digits, digit_glyph};
 ghost use Rattle.gl_base.specs.Texts.{is_ascii_text};
@@ -48,6 +48,17 @@ fn say_code<E: Sink>(err: &mut E, whole: bool, code: u32) -> bool
     }
     let whole = say_char(err, whole, digit_of(code / 16));
     say_char(err, whole, digit_of(code % 16))
+}
+
+// A number in decimal.
+pub fn say_number<E: Sink>(err: &mut E, whole: bool, number: u64) -> bool
+    ensures { SaysOn whole result (E.took err.old) (E.took err.new) (E.faults err.old) (E.faults err.new) (E.wants err.old) (E.wants err.new) (decimal number) }
+{
+    if number < 10 {
+        return say_char(err, whole, digit_of(number as u32));
+    }
+    let whole = say_number(err, whole, number / 10);
+    say_char(err, whole, digit_of((number % 10) as u32))
 }
 
 // The hexadecimal digit of a number below 16.

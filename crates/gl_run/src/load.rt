@@ -1,21 +1,20 @@
 // Loads an app and its script from a shelf.
-ghost use Rattle.std.specs.Prelude.{◌≡◌, ◌≤◌, [], ◌∷◌, List, Some, IfErr, option_and_then};
+ghost use Rattle.std.specs.Prelude.{◌≡◌, ◌≤◌, [], ◌∷◌, ℕ, List, Some, IfErr, length};
 ghost use Rattle.std.specs.Str.{chars};
+ghost use Rattle.gl_base.specs.Texts.{Text};
 ghost use Rattle.gl_outside.specs.Shelf.{Entry};
-ghost use Rattle.gl_run.specs.View.{statements};
-ghost use Rattle.gl_base.specs.Answers.{Gives};
-ghost use Rattle.gl_run.specs.Forms.{Fails};
-ghost use Rattle.gl_run.specs.Template.{template_of};
-ghost use Rattle.gl_run.specs.Load.{known_tree, small_file, manifest_in, tree_in, events_in, load_of, fetched};
+ghost use Rattle.gl_parse.specs.ReadStmt.{template_of};
+ghost use Rattle.gl_ast.specs.Template.{body_of};
+ghost use Rattle.gl_run.specs.Load.{small_file, spelled, manifest_in, tree_in, events_in, load_of, fetched};
 ghost use Rattle.gl_run.specs.Loads.{seen_app, Loads, Causes, FailsAmong};
 ghost use Rattle.gl_run.specs.Seen.{seen_manifest};
 
 use crate::FormFault;
 use crate::known::known_tree;
 use crate::manifest::{Manifest, manifest_from, script_from};
-use crate::template::template_of;
-use crate::tree::Body;
+use gl_ast::Body;
 use gl_outside::{Shelf, ShelfFault};
+use gl_parse::{ParseFault, template};
 use gl_value::{NamedValues, Text};
 use std::alloc::{AllocError, Global};
 use thiserror::Error;
@@ -25,6 +24,10 @@ use thiserror::Error;
 pub enum LoadFault {
     #[error("absent")]
     Absent(Text),
+    #[error("longer than 16777216 bytes")]
+    TooLong(Text),
+    #[error("not in the grammar at byte {offset}")]
+    NotInGrammar { file: Text, offset: u64 },
     #[error("not built yet")]
     NotBuilt,
     #[error("read fault")]
@@ -73,7 +76,7 @@ fn fetch_small<S: Shelf>(alloc: Global, shelf: &mut S, name: &str) -> Result<Vec
     match shelf.fetch(name, MOST + 1, &mut bytes) {
         Ok(()) => {
             if bytes.len() > MOST {
-                return Err(LoadFault::NotBuilt);
+                return Err(LoadFault::TooLong(file));
             }
             Ok(bytes)
         }
@@ -96,12 +99,17 @@ fn manifest_in<S: Shelf>(alloc: Global, shelf: &mut S, name: &str) -> Result<Man
     Ok(manifest_from(alloc, &bytes)?)
 }
 
-// The tree of a template of the form, whose names are fields.
-fn tree_from(alloc: Global, fields: &NamedValues, bytes: &[u8]) -> Result<Body, FormFault>
-    ensures { Gives Fails (λ t. statements t) result (option_and_then (known_tree fields.now) (template_of bytes.now)) }
+// The tree that the bytes of a template spell; the file is given for its fault.
+fn spelled(alloc: Global, file: Text, bytes: &[u8]) -> Result<Body, LoadFault>
+    ensures told { Loads (λ b. body_of b) result (spelled file (length bytes.now) (template_of bytes.now)) }
+    ensures causes { IfErr result (λ e. (misses misses_now faults faults_now : ℕ) → Causes e misses misses_now faults faults_now) }
+    ensures named { IfErr result (λ e. (names : List Text) → FailsAmong e names) }
 {
-    let tree = template_of(alloc, bytes)?;
-    known_tree(fields, tree)
+    match template(alloc, bytes) {
+        Ok(template) => Ok(template.into_body()),
+        Err(ParseFault::NotInGrammar { offset }) => Err(LoadFault::NotInGrammar { file, offset }),
+        Err(ParseFault::Memory) => Err(LoadFault::Memory),
+    }
 }
 
 #[tactic(auto, unfolding(crate::specs::Load::tree_in))]
@@ -112,14 +120,15 @@ fn tree_in<S: Shelf>(
     name: &str,
 ) -> Result<Body, LoadFault>
     ensures keeps { S.holds shelf.new ≡ S.holds shelf.old }
-    ensures told { (files : List Entry) → S.holds shelf.old ≡ Some files → Loads statements result (tree_in files fields.now (chars name.now)) }
+    ensures told { (files : List Entry) → S.holds shelf.old ≡ Some files → Loads (λ b. body_of b) result (tree_in files fields.now (chars name.now)) }
     ensures causes { IfErr result (λ e. Causes e (S.misses shelf.old) (S.misses shelf.new) (S.faults shelf.old) (S.faults shelf.new)) }
     ensures named { IfErr result (λ e. FailsAmong e (chars name.now ∷ [])) }
     ensures misses_stay { S.misses shelf.old ≤ S.misses shelf.new }
     ensures faults_stay { S.faults shelf.old ≤ S.faults shelf.new }
 {
     let bytes = fetch_small(alloc, shelf, name)?;
-    Ok(tree_from(alloc, fields, &bytes)?)
+    let tree = spelled(alloc, Text::from_str(alloc, name)?, &bytes)?;
+    Ok(known_tree(fields, tree)?)
 }
 
 #[tactic(auto, unfolding(crate::specs::Load::events_in))]

@@ -3,7 +3,7 @@ ghost use Rattle.std.specs.Prelude.{◌≡◌, slice_index};
 ghost use Rattle.std.specs.List.{list_all, list_any};
 ghost use Rattle.std.specs.Str.{bytes_eq};
 ghost use Rattle.gl_run.specs.Places.{PlaceAfter};
-ghost use Rattle.gl_run.specs.Names.{is_small, starts_name, in_name, in_tag, is_name, is_tag, is_class_name, is_one_of, reserved, void_tags};
+ghost use Rattle.gl_run.specs.Names.{starts_name, in_name, is_name, is_class_name, is_one_of, reserved};
 
 const RESERVED: [&str; 7] = [
     "this",
@@ -15,29 +15,17 @@ const RESERVED: [&str; 7] = [
     "yield",
 ];
 
-const VOID: [&str; 14] = [
-    "area", "base", "br", "col", "embed", "hr", "img", "input", "link", "meta", "param", "source",
-    "track", "wbr",
-];
-
 fn starts_name(b: u8) -> bool
     ensures { result ≡ starts_name b }
 {
     b.is_ascii_alphabetic() || b == b'_' || b == b'$'
 }
 
-/// Whether a name may go on with the byte.
-pub fn in_name(b: u8) -> bool
+// Whether a name may go on with the byte.
+fn in_name(b: u8) -> bool
     ensures { result ≡ in_name b }
 {
     starts_name(b) || b.is_ascii_digit() || b == b'-'
-}
-
-/// Whether a tag name may go on with the byte.
-pub fn in_tag(b: u8) -> bool
-    ensures { result ≡ in_tag b }
-{
-    b.is_ascii_alphanumeric() || b == b'-'
 }
 
 fn is_one_of(words: &[&str], name: &[u8]) -> bool
@@ -52,12 +40,6 @@ fn is_reserved(name: &[u8]) -> bool
     is_one_of(&RESERVED, name)
 }
 
-fn is_void(name: &[u8]) -> bool
-    ensures { result ≡ is_one_of void_tags name.now }
-{
-    is_one_of(&VOID, name)
-}
-
 fn begins_name(name: &[u8]) -> bool
     ensures { result ≡ starts_name (slice_index name.now 0) }
 {
@@ -67,25 +49,10 @@ fn begins_name(name: &[u8]) -> bool
     }
 }
 
-fn begins_tag(name: &[u8]) -> bool
-    ensures { result ≡ is_small (slice_index name.now 0) }
-{
-    match name.first() {
-        None => false,
-        Some(first) => first.is_ascii_lowercase(),
-    }
-}
-
 fn goes_on_as_name(name: &[u8]) -> bool
     ensures { result ≡ list_all in_name name.now }
 {
     name.iter().all(|b| in_name(*b))
-}
-
-fn goes_on_as_tag(name: &[u8]) -> bool
-    ensures { result ≡ list_all in_tag name.now }
-{
-    name.iter().all(|b| in_tag(*b))
 }
 
 /// Whether the bytes are a name that is not reserved.
@@ -97,17 +64,6 @@ pub fn is_name(name: &[u8]) -> bool
         return false;
     }
     goes_on_as_name(name)
-}
-
-/// Whether the bytes are the name of an element that has an end tag.
-#[tactic(auto, unfolding(crate::specs::Names::is_tag))]
-pub fn is_tag(name: &[u8]) -> bool
-    ensures { result ≡ is_tag name.now }
-{
-    if !begins_tag(name) || is_void(name) {
-        return false;
-    }
-    goes_on_as_tag(name)
 }
 
 // Where a class name stands after some of its bytes.

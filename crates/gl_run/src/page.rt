@@ -1,12 +1,12 @@
 // Prints the page that a template shows over the values of its fields.
 ghost use Rattle.std.specs.Prelude.{◌≡◌, ◌+◌, ◌++◌, [], IfOk, OnOk};
-ghost use Rattle.gl_ast.specs.Template.{this, body_of};
-ghost use Rattle.gl_run.specs.View.{view, statements};
+ghost use Rattle.gl_ast.specs.Template.{body_of};
+ghost use Rattle.gl_ast.specs.View.{expr_view, stmt_view};
 ghost use Rattle.gl_run.specs.Render.{shown};
 ghost use Rattle.gl_run.specs.Print.{numbered, text_line, element_line, deeper};
 ghost use Rattle.gl_run.specs.Page.{nodes, nodes_all, lines_of, lines_all, page_of};
 
-use crate::tree::{Body, Stmt};
+use gl_ast::{Body, Expr, Stmt};
 use gl_value::{NamedValues, Text, push_quoted};
 use std::alloc::{AllocError, Global};
 
@@ -49,13 +49,16 @@ fn push_element_line(
     out.push_ascii(">\n")
 }
 
-// The text that `{{this.NAME}}` shows.
-fn shown(alloc: Global, fields: &NamedValues, name: &Text) -> Result<Text, AllocError>
-    ensures { IfOk result (λ t. t ≡ shown fields.now (this name.now [])) }
+// The text that a mustache shows.
+fn shown(alloc: Global, fields: &NamedValues, expr: &Expr) -> Result<Text, AllocError>
+    ensures { IfOk result (λ t. t ≡ shown fields.now (expr_view expr.now)) }
 {
-    match fields.get(name.as_str()) {
-        Some(value) => value.text_of(alloc),
-        None => Ok(Text::new(alloc)),
+    match expr {
+        Expr::This { member, rest: _ } => match fields.get(member.as_str()) {
+            Some(value) => value.text_of(alloc),
+            None => Ok(Text::new(alloc)),
+        },
+        _ => Ok(Text::new(alloc)),
     }
 }
 
@@ -85,24 +88,29 @@ fn push_stmt(
     number: u128,
     stmt: &Stmt,
 ) -> Result<u128, AllocError>
-    ensures next { IfOk result (λ n. n ≡ number + nodes (view stmt.now)) }
-    ensures lines { OnOk result (out.new ≡ out.old ++ lines_of fields.now indent.now number (view stmt.now)) }
+    ensures next { IfOk result (λ n. n ≡ number + nodes (stmt_view stmt.now)) }
+    ensures lines { OnOk result (out.new ≡ out.old ++ lines_of fields.now indent.now number (stmt_view stmt.now)) }
 {
     match stmt {
         Stmt::Text(text) => {
             push_text_line(out, indent, number, text)?;
             after(number)
         }
-        Stmt::Put(name) => {
-            let text = shown(alloc, fields, name)?;
+        Stmt::Put(expr) => {
+            let text = shown(alloc, fields, expr)?;
             push_text_line(out, indent, number, &text)?;
             after(number)
         }
-        Stmt::Element { tag, body } => {
+        Stmt::Element {
+            tag,
+            parts: _,
+            body,
+        } => {
             push_element_line(out, indent, number, tag)?;
             let inner = deeper(indent)?;
             push_body(out, alloc, fields, &inner, after(number)?, body)
         }
+        _ => Ok(number),
     }
 }
 
@@ -116,8 +124,8 @@ fn push_body(
     number: u128,
     body: &Body,
 ) -> Result<u128, AllocError>
-    ensures next { IfOk result (λ n. n ≡ number + nodes_all (body_of (statements body.now))) }
-    ensures lines { OnOk result (out.new ≡ out.old ++ lines_all fields.now indent.now number (body_of (statements body.now))) }
+    ensures next { IfOk result (λ n. n ≡ number + nodes_all (body_of body.now)) }
+    ensures lines { OnOk result (out.new ≡ out.old ++ lines_all fields.now indent.now number (body_of body.now)) }
 {
     let mut next = number;
     for stmt in body.as_slice() {
@@ -135,7 +143,7 @@ pub fn push_page(
     fields: &NamedValues,
     tree: &Body,
 ) -> Result<(), AllocError>
-    ensures { OnOk result (out.new ≡ out.old ++ page_of fields.now (body_of (statements tree.now))) }
+    ensures { OnOk result (out.new ≡ out.old ++ page_of fields.now (body_of tree.now)) }
 {
     let indent = Text::new(alloc);
     push_body(out, alloc, fields, &indent, 1, tree)?;

@@ -3,13 +3,12 @@ ghost use Rattle.std.specs.Prelude.{◌≡◌, ◌<◌, ◌≤◌, ◌++◌, ◌
 ghost use Rattle.gl_value.specs.Named.{set_named};
 ghost use Rattle.gl_value.specs.View as value;
 ghost use Rattle.gl_ast.specs.Template.{body_of};
-ghost use Rattle.gl_run.specs.View.{statements};
 ghost use Rattle.gl_run.specs.Print.{start_line, set_line};
 ghost use Rattle.gl_run.specs.Page.{set_page, start_page, pages};
 ghost use Rattle.gl_run.specs.Plays.{Puts, Plays};
 
 use crate::page::{after, push_page};
-use crate::tree::Body;
+use gl_ast::Body;
 use gl_outside::{Sink, SinkFault};
 use gl_value::{NamedValues, Text, Value};
 use std::alloc::{AllocError, Global};
@@ -37,7 +36,7 @@ impl From<AllocError> for PlayFault {
 // The text of the first turn.
 #[tactic(auto, unfolding(crate::specs::Page::start_page))]
 fn start_page(alloc: Global, fields: &NamedValues, tree: &Body) -> Result<Text, AllocError>
-    ensures { IfOk result (λ t. t ≡ start_page fields.now (body_of (statements tree.now))) }
+    ensures { IfOk result (λ t. t ≡ start_page fields.now (body_of tree.now)) }
 {
     let mut text = Text::new(alloc);
     text.push_ascii("= 0 start\n")?;
@@ -65,7 +64,7 @@ fn set_page(
     turn: u128,
     field: &Text,
 ) -> Result<Text, AllocError>
-    ensures { IfOk result (λ t. t ≡ set_page fields.now (body_of (statements tree.now)) turn field.now) }
+    ensures { IfOk result (λ t. t ≡ set_page fields.now (body_of tree.now) turn field.now) }
 {
     let mut text = Text::new(alloc);
     push_set_line(&mut text, turn, field)?;
@@ -93,7 +92,7 @@ fn play_start<K: Sink>(
     tree: &Body,
     out: &mut K,
 ) -> Result<(), PlayFault>
-    ensures puts { Puts result (K.took out.old) (K.took out.new) (start_page fields.now (body_of (statements tree.now))) }
+    ensures puts { Puts result (K.took out.old) (K.took out.new) (start_page fields.now (body_of tree.now)) }
     ensures failed { IsErrOf result PlayFault.WriteFault → K.faults out.old < K.faults out.new }
     ensures later { K.faults out.old ≤ K.faults out.new }
 {
@@ -111,7 +110,7 @@ fn play_set<K: Sink>(
     out: &mut K,
 ) -> Result<u128, PlayFault>
     ensures puts { Puts result (K.took out.old) (K.took out.new)
-        (set_page (set_named event.now.0 (value.view event.now.1) fields.old) (body_of (statements tree.now)) turn event.now.0) }
+        (set_page (set_named event.now.0 (value.view event.now.1) fields.old) (body_of tree.now) turn event.now.0) }
     ensures fields { OnOk result (fields.new ≡ set_named event.now.0 (value.view event.now.1) fields.old) }
     ensures next { IfOk result (λ n. n ≡ turn + 1) }
     ensures failed { IsErrOf result PlayFault.WriteFault → K.faults out.old < K.faults out.new }
@@ -133,7 +132,7 @@ pub fn play<K: Sink>(
     events: &NamedValues,
     out: &mut K,
 ) -> Result<(), PlayFault>
-    ensures plays { Plays result (K.took out.old) (K.took out.new) (pages fields (body_of (statements tree.now)) events.now) }
+    ensures plays { Plays result (K.took out.old) (K.took out.new) (pages fields (body_of tree.now) events.now) }
     ensures failed { IsErrOf result PlayFault.WriteFault → K.faults out.old < K.faults out.new }
     ensures later { K.faults out.old ≤ K.faults out.new }
 {

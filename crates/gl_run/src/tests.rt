@@ -29,7 +29,7 @@ const NULL: &str =
 const NESTED: &str =
     "{\"classes\":{\"My::App2\":{\"fields\":{\"n\":\"\\u0007\\\"\"},\"template\":\"app.hbs\"}},\"root\":\"My::App2\"}";
 
-const ROWS: [Row; 13] = [
+const ROWS: [Row; 16] = [
     (
         "an empty page",
         RUN,
@@ -88,12 +88,40 @@ const ROWS: [Row; 13] = [
         [ONE, "<p></b>", "[]"],
         Status::Refused,
         "",
+        "\"app.hbs\": not in the grammar at byte 3\n",
+    ),
+    (
+        "a void tag with an end tag",
+        RUN,
+        [ONE, "12345678<br></br>", "[]"],
+        Status::Refused,
+        "",
+        "\"app.hbs\": not in the grammar at byte 12\n",
+    ),
+    (
+        "elements in elements",
+        RUN,
+        [
+            ONE,
+            "<ul>\n  <li><b>{{~this.n~}} </b>&lt;</li><br></ul>",
+            "[]",
+        ],
+        Status::Done,
+        "= 0 start\n#1 <ul>\n  #2 \"\\n  \"\n  #3 <li>\n    #4 <b>\n      #5 \"0\"\n    #6 \"<\"\n  #7 <br>\n",
+        "",
+    ),
+    (
+        "an attribute",
+        RUN,
+        [ONE, "<p title=\"a\"></p>", "[]"],
+        Status::Refused,
+        "",
         "not built yet\n",
     ),
     (
-        "a void tag",
+        "a property of a field",
         RUN,
-        [ONE, "<br></br>", "[]"],
+        [ONE, "{{this.n.length}}", "[]"],
         Status::Refused,
         "",
         "not built yet\n",
@@ -176,6 +204,25 @@ fn rows(rt: HostRuntime) -> Result<(), Fail> {
     for row in &ROWS {
         check_row(&rt, rt.alloc(), row)?;
     }
+    Ok(())
+}
+
+// A file of one byte more than the most.
+#[test]
+fn too_long(rt: HostRuntime) -> Result<(), Fail> {
+    let alloc = rt.alloc();
+    let mut files = Files::new(alloc);
+    files.push(File::new(
+        String::from_str(alloc, "m.json")?,
+        vec![in alloc; b' '; 16_777_217]?,
+    ))?;
+    let mut shelf = CalmShelf::new(files);
+    let mut out = CalmSink::new(alloc);
+    let mut err = CalmSink::new(alloc);
+    let mut last = Last::new();
+    let status = run(alloc, RUN, &mut shelf, &mut out, &mut err, &mut last);
+    assert_eq!(rt; status, Status::Refused);
+    assert_eq!(rt; err.taken(), "\"m.json\": longer than 16777216 bytes\n".as_bytes());
     Ok(())
 }
 

@@ -11,7 +11,7 @@ returns-then-len-gt-MOST-clause-told g c = λ files e.
     let name = c.args.name.now in
     let read = rw c.new-bytes.ensures.items at c.in-Ok.ensures.read in
     let long : 16777216 < length c.fetch.new.into.items = search rules in
-    read_long 16777216 _ files (chars name) name c.fetch.new.into.items (encodes-chars name c.utf8.name) e read long
+    rw c.in_ok-file.ensures (read_long 16777216 _ files (chars name) name c.fetch.new.into.items (encodes-chars name c.utf8.name) e read long)
 
 pub returns-else-len-gt-MOST-clause-told : goal.returns-else-len-gt-MOST-clause-told
 unfolding small_file

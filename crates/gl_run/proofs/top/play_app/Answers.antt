@@ -1,6 +1,6 @@
 use Rattle.std.proofs.lemmas.Result.{err_from_is_err_and}
 use Rattle.gl_run.specs.Loads.{seen_app}
-use Rattle.gl_run.proofs.Outputs.{played_whole, played_part}
+use Rattle.gl_run.proofs.Outputs.{played_whole, played_part, load_tells}
 use Rattle.gl_run.proofs.top.play_app.Goals as goal
 
 pub returns-in_err-play-clause-told : goal.returns-in_err-play-clause-told
@@ -10,3 +10,8 @@ returns-in_err-play-clause-told g c = λ files e.
 
 pub returns-clause-told : goal.returns-clause-told
 returns-clause-told g c = λ files e. played_whole _ _ (seen_app c.in_ok-app.app) _ (c.in_ok-app.ensures.told files e) c.in_ok-play.ensures.plays
+
+pub returns-in_err-app-clause-tells : goal.returns-in_err-app-clause-tells
+returns-in_err-app-clause-tells g c = λ files e.
+    let p = err_from_is_err_and c.from_residual.result c.from_residual.ensures.1 in
+    rw (p.1, p.2) (load_tells c.in_err-app.field-0.0 _ _ (c.in_err-app.ensures.told files e) (c.in_err-app.ensures.named files e))
