@@ -13,7 +13,7 @@ word = literal (v.text (codes "a"))
 chained : canonical (body_of (element (codes "p") (attribute (codes "class") (fixed (codes "a")) ∷ []) (body_of (
     text_stmt (codes "\n")
     ∷ if_stmt (argument (codes "x") []) false (body_of (text_stmt (codes "y") ∷ []))
-      (body_of (if_stmt (argument (codes "z") []) false (body_of (text_stmt (codes "w") ∷ [])) end ∷ []))
+    (body_of (if_stmt (argument (codes "z") []) false (body_of (text_stmt (codes "w") ∷ [])) end ∷ []))
     ∷ [])) ∷ []))
     ≡ codes "<p class=\"a\">&#10;{{#if @x}}y{{else}}{{#if @z}}w{{/if}}{{/if}}</p>"
 unfolding canonical void_names digits

@@ -225,7 +225,7 @@ abbrev pub IsElse : Reach → Reach → List Token → Body → List Token → T
 IsElse Plain Chained ts c us =
     ((ts ≡ us) × (c ≡ end))
     ⊎ ((vs ws : List Token) × Mark k.OpenMustache ts vs × Word (codes "else") vs ws
-       × (((xs : List Token) × Mark k.CloseMustache ws xs × Plain xs us) ⊎ Chained ws us))
+    × (((xs : List Token) × Mark k.CloseMustache ws xs × Plain xs us) ⊎ Chained ws us))
 
 -- Statements, where elements and blocks may nest so deep.
 abbrev mutual

@@ -222,7 +222,10 @@ fn too_long(rt: HostRuntime) -> Result<(), Fail> {
     let mut last = Last::new();
     let status = run(alloc, RUN, &mut shelf, &mut out, &mut err, &mut last);
     assert_eq!(rt; status, Status::Refused);
-    assert_eq!(rt; err.taken(), "\"m.json\": longer than 16777216 bytes\n".as_bytes());
+    assert_eq!(rt;
+        err.taken(),
+        "\"m.json\": longer than 16777216 bytes\n".as_bytes()
+    );
     Ok(())
 }
 
