@@ -1,4 +1,4 @@
-use Rattle.std.proofs.Common.{◌≡◌, ◌≤◌, Some, None, length, refl, rules}
+use Rattle.std.proofs.Common.{◌≡◌, ◌≤◌, None, length, refl, rules}
 use Rattle.gl_ast.specs.Grammar.{Spells}
 use Rattle.gl_ast.specs.Template.{Body, body_of}
 use Rattle.gl_parse.specs.ReadStmt.{template_of}
@@ -9,8 +9,8 @@ use Rattle.gl_run.proofs.load.spelled.Goals as goal
 pub returns-in-Ok-clause-told : goal.returns-in-Ok-clause-told
 returns-in-Ok-clause-told c =
     let spells : Spells c.args.bytes.now (body_of c.in-Ok.template.body) = search rules in
-    let is : template_of c.args.bytes.now ≡ Some (body_of c.into_body.result) = search (rules, spells_read) in
-    rw is refl
+    let is = spells_read c.args.bytes.now (body_of c.in-Ok.template.body) spells in
+    rw (is, c.into_body.ensures) refl
 
 pub returns-in-Err-NotInGrammar-clause-told : goal.returns-in-Err-NotInGrammar-clause-told
 returns-in-Err-NotInGrammar-clause-told c =
