@@ -1,0 +1,12 @@
+//! The canonical spelling: one text for each tree of a template.
+#![tactic(auto)]
+
+mod expression;
+mod part;
+mod scan;
+mod show;
+mod stmt;
+mod text;
+mod value;
+
+pub use show::show_body;
