@@ -34,7 +34,7 @@ within run cs false is h = let e = run_some run cs is in grind (arith, nat_tests
 step : (r front : Bool) (c run : ℕ) (cs : List ℕ) (s : Bool) → nat_le (suc (length cs)) (run_from run cs) ≡ s → list_all is_white cs ≡ s
     → marked (run_from run cs) false cs ≡ text_from false cs → marked (run_from run cs) front cs ≡ text_from front cs
     → (if true && (front || nat_le (suc (length cs)) (run_from run cs)) then numbered c else text_char c) ++ marked (run_from run cs) (front && true) cs
-      ≡ (if true && (front || list_all is_white cs) then numbered c ++ text_from front cs else text_char c ++ text_from false cs)
+    ≡ (if true && (front || list_all is_white cs) then numbered c ++ text_from front cs else text_char c ++ text_from false cs)
 step r true c run cs s e h plain more = ap (λ l. numbered c ++ l) more
 step r false c run cs true e h plain more = rw (e, h) (ap (λ l. numbered c ++ l) more)
 step r false c run cs false e h plain more = rw (e, h) (ap (λ l. text_char c ++ l) more)
@@ -52,7 +52,7 @@ marked_text run front (c ∷ cs) h =
   where
     white_case : (run : ℕ) (front : Bool) (c : ℕ) (cs : List ℕ) (t : Bool) → suc (length cs) ≤ run → marked (run_from run cs) true cs ≡ text_from true cs → marked (run_from run cs) false cs ≡ text_from false cs → marked (run_from (length cs) cs) false cs ≡ text_from false cs
         → (if t && (front || nat_le (suc (length cs)) (run_from (if t then run else length cs) cs)) then numbered c else text_char c) ++ marked (run_from (if t then run else length cs) cs) (front && t) cs
-          ≡ (if t && (front || list_all is_white cs) then numbered c ++ text_from front cs else text_char c ++ text_from false cs)
+        ≡ (if t && (front || list_all is_white cs) then numbered c ++ text_from front cs else text_char c ++ text_from false cs)
     white_case run true c cs true h edge plain other = step true true c run cs (list_all is_white cs) (within run cs (list_all is_white cs) refl h) refl plain edge
     white_case run false c cs true h edge plain other = step true false c run cs (list_all is_white cs) (within run cs (list_all is_white cs) refl h) refl plain plain
     white_case run front c cs false h edge plain other = ap (λ b. text_char c ++ marked (run_from (length cs) cs) b cs) (never front) ∙ ap (λ l. text_char c ++ l) other

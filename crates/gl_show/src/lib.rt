@@ -6,6 +6,8 @@ mod part;
 mod scan;
 mod show;
 mod stmt;
+#[cfg(test)]
+mod tests;
 mod text;
 mod value;
 

@@ -25,7 +25,11 @@ fn is_text(stmt: &Stmt) -> bool
 fn write_between(after_text: bool, stmt: &Stmt, out: &mut Text) -> Result<(), AllocError>
     ensures { OnOk result (out.new ≡ out.old ++ between after_text (stmt_view stmt.now)) }
 {
-    if after_text && is_text(stmt) { out.push_ascii("{{!}}") } else { Ok(()) }
+    if after_text && is_text(stmt) {
+        out.push_ascii("{{!}}")
+    } else {
+        Ok(())
+    }
 }
 
 // Whether the element has no end tag.
@@ -138,7 +142,12 @@ fn write_bodies(body: &Body, otherwise: &Body, word: &str, out: &mut Text) -> Re
 }
 
 // Adds the head of an `each`, with its key.
-fn write_each_head(list: &Expr, key: &Text, params: &Names, out: &mut Text) -> Result<(), AllocError>
+fn write_each_head(
+    list: &Expr,
+    key: &Text,
+    params: &Names,
+    out: &mut Text,
+) -> Result<(), AllocError>
     ensures { OnOk result (out.new ≡ out.old ++ (codes "{{#each " ++ (expr_text (expr_view list.now) ++ (codes " key=" ++ (string_text key.now ++ (parameters_text params.now ++ codes "}}")))))) }
 {
     out.push_ascii("{{#each ")?;
@@ -176,22 +185,42 @@ pub fn write_stmt(stmt: &Stmt, out: &mut Text) -> Result<(), AllocError>
         }
         Stmt::Put(expr) => write_mustache(expr, out),
         Stmt::Element { tag, parts, body } => write_element(tag, parts, body, out),
-        Stmt::Component { class, parts, args, slots } => {
+        Stmt::Component {
+            class,
+            parts,
+            args,
+            slots,
+        } => {
             out.push_ascii("<")?;
             out.push_text(class)?;
             write_args(args, out)?;
             write_parts(parts, out)?;
             write_slots(class, slots, out)
         }
-        Stmt::If { test, unless, body, otherwise } => {
+        Stmt::If {
+            test,
+            unless,
+            body,
+            otherwise,
+        } => {
             write_if_head(test, *unless, out)?;
             write_bodies(body, otherwise, if_word(*unless), out)
         }
-        Stmt::Each { list, key, params, body, otherwise } => {
+        Stmt::Each {
+            list,
+            key,
+            params,
+            body,
+            otherwise,
+        } => {
             write_each_head(list, key, params, out)?;
             write_bodies(body, otherwise, "each", out)
         }
-        Stmt::Let { values, params, body } => write_let(values, params, body, out),
+        Stmt::Let {
+            values,
+            params,
+            body,
+        } => write_let(values, params, body, out),
         Stmt::Yield { values, .. } => write_yield(values, out),
     }
 }

@@ -115,7 +115,11 @@ pub fn write_value_text(text: &Text, out: &mut Text) -> Result<(), AllocError>
 fn push_string_char(out: &mut Text, character: char) -> Result<(), AllocError>
     ensures { OnOk result (out.new ≡ out.old ++ string_char character) }
 {
-    if character == '"' { out.push_ascii("\\\"") } else { out.push_char(character) }
+    if character == '"' {
+        out.push_ascii("\\\"")
+    } else {
+        out.push_char(character)
+    }
 }
 
 /// Adds a text as a string of a mustache, between quotes.

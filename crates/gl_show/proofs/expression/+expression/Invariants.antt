@@ -21,11 +21,11 @@ decreases-write_named l = 3 * named_depth (named_of l.pairs.now) + 1
 abbrev pub invariant-write_exprs-loop-item : goal.invariant-write_exprs-loop-item
 invariant-write_exprs-loop-item l = record {
   written : l.out ++ exprs_text (exprs_of (seen_exprs (drop l.item-index l.item-items))) ≡ l.initial.out ++ exprs_text (exprs_of l.exprs);
-  shallow : exprs_depth (exprs_of (seen_exprs (drop l.item-index l.item-items))) ≤ exprs_depth (exprs_of l.exprs)
+  shallow : exprs_depth (exprs_of (seen_exprs (drop l.item-index l.item-items))) ≤ exprs_depth (exprs_of l.exprs);
 }
 
 abbrev pub invariant-write_named-loop-pair : goal.invariant-write_named-loop-pair
 invariant-write_named-loop-pair l = record {
   written : l.out ++ named_text (named_of (seen_pairs (drop l.pair-index l.pair-items))) ≡ l.initial.out ++ named_text (named_of l.pairs);
-  shallow : named_depth (named_of (seen_pairs (drop l.pair-index l.pair-items))) ≤ named_depth (named_of l.pairs)
+  shallow : named_depth (named_of (seen_pairs (drop l.pair-index l.pair-items))) ≤ named_depth (named_of l.pairs);
 }

@@ -30,5 +30,5 @@ decreases-write_slots l = 4 * slots_depth (slots_of l.slots.now) + 3
 abbrev pub invariant-write_body-loop-stmt : goal.invariant-write_body-loop-stmt
 invariant-write_body-loop-stmt l = record {
   written : l.out ++ body_text l.after_text (body_of (seen_stmts (drop l.stmt-index l.stmt-items))) ≡ l.initial.out ++ body_text false (body_of l.body);
-  shallow : body_depth (body_of (seen_stmts (drop l.stmt-index l.stmt-items))) ≤ body_depth (body_of l.body)
+  shallow : body_depth (body_of (seen_stmts (drop l.stmt-index l.stmt-items))) ≤ body_depth (body_of l.body);
 }
