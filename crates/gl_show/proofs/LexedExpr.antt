@@ -42,7 +42,7 @@ ascii_append (x ∷ xs) ys a b = let h = both (ltb x 128) (is_ascii_text xs) a i
 segment_ascii : (s : List ℕ) → is_segment s ≡ true → is_ascii_text s ≡ true
 segment_ascii s w = elim (one_of (is_name s) (is_word is_digit is_digit s) w) [ inl h ↦ name_ascii s h | inr h ↦ digits_ascii s h ]
 
-segments_ascii : (ns : List (List ℕ)) → list_all is_segment ns ≡ true → is_ascii_text (segments_text ns) ≡ true
+pub segments_ascii : (ns : List (List ℕ)) → list_all is_segment ns ≡ true → is_ascii_text (segments_text ns) ≡ true
 segments_ascii [] w = refl
 segments_ascii (n ∷ ns) w = let h = both (is_segment n) (list_all is_segment ns) w in ascii_append n (segments_text ns) (segment_ascii n h.0) (segments_ascii ns h.1)
 
@@ -109,14 +109,14 @@ name_no_dot b e = grind (arith, nat_tests)
 digit_no_dot : (b : ℕ) → is_digit b ≡ true → (b == 46) ≡ false
 digit_no_dot b e = grind (arith, nat_tests)
 
-name_no_dots : (n : List ℕ) → is_name n ≡ true → NonePass (λ d. d == 46) n
+pub name_no_dots : (n : List ℕ) → is_name n ≡ true → NonePass (λ d. d == 46) n
 name_no_dots n w = word_no_dots starts_name in_name start_no_dot name_no_dot n w
 
 segment_no_dots : (s : List ℕ) → is_segment s ≡ true → NonePass (λ d. d == 46) s
 segment_no_dots s w = elim (one_of (is_name s) (is_word is_digit is_digit s) w) [ inl h ↦ name_no_dots s h | inr h ↦ word_no_dots is_digit is_digit digit_no_dot digit_no_dot s h ]
 
 -- the names of a path
-path_names : (n : List ℕ) (ns : List (List ℕ)) → NonePass (λ d. d == 46) n → list_all is_segment ns ≡ true → names_of (n ++ segments_text ns) ≡ n ∷ ns
+pub path_names : (n : List ℕ) (ns : List (List ℕ)) → NonePass (λ d. d == 46) n → list_all is_segment ns ≡ true → names_of (n ++ segments_text ns) ≡ n ∷ ns
 path_names n [] h ws = ap names_of (append-nil n) ∙ split-none 46 n h
 path_names n (m ∷ ms) h ws =
     let w = both (is_segment m) (list_all is_segment ms) ws in

@@ -76,7 +76,7 @@ lexed_text {P} s rest can e r l =
     (subst (λ (x : Text). IsTight x × (all_scalars x ≡ true)) (sym same) (text_tight s can e, w.2)) refl l)
 
 -- a comment
-comment_is : (s : Text) → comment_of (codes "<!--" ++ (s ++ codes "-->")) ≡ s
+pub comment_is : (s : Text) → comment_of (codes "<!--" ++ (s ++ codes "-->")) ≡ s
 comment_is s =
     let n : length (codes "<!--" ++ (s ++ codes "-->")) - 7 ≡ length s = omega (arith, length-append s (codes "-->")) in
     ap (λ i. take i (s ++ codes "-->")) n ∙ take_front s (codes "-->")

@@ -1,5 +1,7 @@
 pub mod Arguments
 pub mod Bodies
+pub mod CanExprs
+pub mod CanStmts
 pub mod ContentTokens
 pub mod Decoding
 pub mod Edges
@@ -13,11 +15,15 @@ pub mod LexedTag
 pub mod LexedValue
 pub mod Numbers
 pub mod Parameters
+pub mod ProperTokens
 pub mod Runs
 pub mod Scanned
 pub mod Scanning
 pub mod Settled
+pub mod SettledProper
+pub mod Shapes
 pub mod SpelledCanon
 pub mod Strings
 pub mod TagTokens
+pub mod TokenForms
 pub mod Voids

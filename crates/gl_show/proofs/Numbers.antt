@@ -87,11 +87,11 @@ minus_then n ds rest is h s = natural_then n ds rest is h s
 digit_no_sign : (b : ℕ) → is_digit b ≡ true → eqb b 45 ≡ false
 digit_no_sign b e = grind (arith, nat_tests)
 
-natural_of : (n : ℕ) (ds : List ℕ) → IsNumber n ds → integer_of ds ≡ pos n
+pub natural_of : (n : ℕ) (ds : List ℕ) → IsNumber n ds → integer_of ds ≡ pos n
 natural_of n [] is = let w = is.0 in cc
 natural_of n (c ∷ cs) is = let e = digit_no_sign c (both (is_digit c) (list_all is_digit cs) is.0).0 in rw e (ap pos is.1)
 
-less : (n : ℕ) → pos 0 -ℤ pos (suc n) ≡ negsuc n
+pub less : (n : ℕ) → pos 0 -ℤ pos (suc n) ≡ negsuc n
 less n = let t : leb 1 (suc n) ≡ true = grind (arith, nat_tests) in let e : suc n - 1 ≡ n = omega arith in rw (t, e) refl
 
 small : (n limit : ℕ) → limit < 2 ^ 64 → nat_le n limit ≡ true → n < 2 ^ 64

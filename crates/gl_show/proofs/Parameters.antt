@@ -100,7 +100,7 @@ up_to_all (c ∷ cs) rest a = let h = both (in_name c) (list_all in_name cs) a i
 start_in : (b : ℕ) → starts_name b ≡ true → in_name b ≡ true
 start_in b e = rw e refl
 
-all_in : (n : Text) → is_name n ≡ true → list_all in_name n ≡ true
+pub all_in : (n : Text) → is_name n ≡ true → list_all in_name n ≡ true
 all_in [] w = cc
 all_in (c ∷ cs) w = let h = both (starts_name c) (list_all in_name cs) w in let k = start_in c h.0 in rw k h.1
 
@@ -111,7 +111,7 @@ up_to_names n (m ∷ ms) w =
     ∙ up_to_all n (32 ∷ ((m ++ spaced_names ms) ++ 124 ∷ [])) (all_in n w.0.0)
     ∙ ap (λ l. n ++ 32 ∷ l) (up_to_names m ms w.1)
 
-pieces_front : (n : Text) (rest ws : List Text) (more : Text) → list_all in_name n ≡ true → pieces more ≡ [] ∷ ws → pieces (n ++ more) ≡ n ∷ ws
+pub pieces_front : (n : Text) (rest ws : List Text) (more : Text) → list_all in_name n ≡ true → pieces more ≡ [] ∷ ws → pieces (n ++ more) ≡ n ∷ ws
 pieces_front [] rest ws more a e = e
 pieces_front (c ∷ cs) rest ws more a e =
     let h = both (in_name c) (list_all in_name cs) a in
