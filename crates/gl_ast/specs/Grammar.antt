@@ -1,6 +1,6 @@
 -- Which tokens spell which tree. Each relation says that a tree is spelled by the tokens that stand in front of a list,
 -- and what is left after them. A tree is spelled by one alternative of the grammar for each of its kinds.
-use Rattle.std.specs.Prelude.{◌≡◌, ◌≤◌, ◌⊎◌, ℕ, zero, suc, List, [], ◌∷◌, Bool, true, false, ◌||◌, ◌&&◌, codes, length, map, if◌then◌else◌}
+use Rattle.std.specs.Prelude.{◌≡◌, ◌≤◌, ◌⊎◌, ℕ, zero, suc, List, [], ◌∷◌, Bool, true, false, ◌||◌, ◌&&◌, codes, length, map, if◌then◌else◌, Some}
 use Rattle.std.specs.Str.{is_utf8}
 use Rattle.gl_base.specs.Names.{has_text}
 use Rattle.gl_base.specs.Texts.{Text}
@@ -9,7 +9,7 @@ use Rattle.gl_ast.specs.Marks.{is_capital, is_small}
 use Rattle.gl_ast.specs.Settling.{settled, is_text, is_comment}
 use Rattle.gl_ast.specs.Template.{Plain, Expr, literal, this, argument, bare, call, cat, Exprs, no_exprs, expr, NamedExprs, no_named, named_expr, AttrValue, fixed, live, Part, attribute, modifier, spread, Stmt, text_stmt, comment_stmt, put, element, component_stmt, if_stmt, each, let_stmt, yield, Body, end, stmt, Slots, no_slots, block}
 use Rattle.gl_ast.specs.Tokens.{IsTokens, IsLoneTokens}
-use Rattle.gl_ast.specs.TokenText.{decoded, string_of, integer_of, names_of, is_free, comment_of, end_name_of, parameters_of, leads}
+use Rattle.gl_ast.specs.TokenText.{decoded, string_of, whole_of, names_of, is_free, comment_of, end_name_of, parameters_of, leads}
 use Rattle.gl_ast.specs.Void.{void_names}
 use Rattle.gl_ast.specs.declared.token.Token.{Token}
 use Rattle.gl_ast.specs.declared.token.TokenKind.{TokenKind}
@@ -45,7 +45,7 @@ IsLiteral ts v.undefined us = Word (codes "undefined") ts us
 IsLiteral ts v.null us = Word (codes "null") ts us
 IsLiteral ts (v.boolean true) us = Word (codes "true") ts us
 IsLiteral ts (v.boolean false) us = Word (codes "false") ts us
-IsLiteral ts (v.integer z) us = Stands k.Number (λ x. integer_of x ≡ z) ts us
+IsLiteral ts (v.integer z) us = Stands k.Number (λ x. whole_of x ≡ Some z) ts us
 IsLiteral ts (v.text s) us = Stands k.StringLit (λ x. string_of x ≡ s) ts us
 IsLiteral ts _ us = ⊥
 
@@ -273,6 +273,10 @@ abbrev mutual
 -- The bytes spell the template: they are UTF-8, and their tokens, after white-space control, are those of its statements.
 abbrev pub Spells : List ℕ → Body → Type 0
 Spells bytes b = (list : List Token) × (is_utf8 bytes ≡ true) × IsTokens bytes list × AreStmts deepest_nesting (settled bytes list) b []
+
+-- some bytes spell it
+abbrev pub IsTemplate : Body → Type 0
+IsTemplate b = ∥ ((bytes : List ℕ) × Spells bytes b) ∥₁
 
 -- The bytes spell the expression, with white space round it or not.
 abbrev pub SpellsExpr : List ℕ → Expr → Type 0

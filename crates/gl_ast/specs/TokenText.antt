@@ -8,7 +8,7 @@ use Rattle.gl_value.specs.Value.{split}
 use Rattle.gl_ast.specs.Marks.{is_between, is_white, is_capital, is_small, is_letter, is_digit}
 use Rattle.gl_ast.specs.References.{references}
 use Rattle.gl_ast.specs.Scans.{begins}
-use Rattle.gl_ast.specs.Words.{number_from, reserved}
+use Rattle.gl_ast.specs.Words.{number_from, greatest, reserved}
 
 -- the characters in front of the first c
 abbrev pub up_to : ℕ → Text → Text
@@ -93,6 +93,15 @@ string_of (quote ∷ cs) = unescaped quote (take (length cs - 1) cs)
 abbrev pub integer_of : Text → ℤ
 integer_of [] = pos 0
 integer_of (c ∷ cs) = if c == 45 then pos 0 -ℤ pos (number_from 0 cs) else pos (number_from 0 (c ∷ cs))
+
+-- the same without its sign
+abbrev pub magnitude_of : Text → ℕ
+magnitude_of [] = 0
+magnitude_of (c ∷ cs) = if c == 45 then number_from 0 cs else number_from 0 (c ∷ cs)
+
+-- the integer of a number that is not too large
+abbrev pub whole_of : Text → Option ℤ
+whole_of cs = if nat_le (magnitude_of cs) greatest then Some (integer_of cs) else None
 
 -- the head and the segments of a path
 abbrev pub names_of : Text → List Text

@@ -12,6 +12,7 @@ mod part;
 mod parts;
 mod slots;
 mod stmt;
+mod template;
 mod token;
 
 pub use edge::Edge;
@@ -19,6 +20,7 @@ pub use expr::{Expr, Exprs, Lit, NamedExpr, Names, Pairs, Str};
 pub use mode::{Around, Mode, Quote};
 pub use part::{Args, Argument, AttrValue, Part, Parts};
 pub use stmt::{Block, Body, Slot, Slots, Stmt};
+pub use template::Template;
 pub use token::{Token, TokenKind, Tokens};
 
 #[cfg(test)]

@@ -1,5 +1,9 @@
+pub mod Fault
+pub mod Pieces
 pub mod ReadExpr
 pub mod ReadItem
 pub mod ReadStmt
 pub mod ReadValue
 pub mod Take
+pub mod Referring
+pub mod View

@@ -2,24 +2,26 @@
 use Rattle.std.specs.Prelude.{ℕ, zero, suc, List, [], ◌∷◌, Bool, true, false, ◌&&◌, ◌||◌, not, length, drop, codes, if◌then◌else◌, Option, Some, None, option_map}
 use Rattle.std.specs.Str.{bytes_eq}
 use Rattle.gl_base.specs.Answers.{◌>>=◌}
-use Rattle.gl_base.specs.Names.{named, has_text}
+use Rattle.gl_base.specs.Names.{has_text}
 use Rattle.gl_base.specs.Texts.{Text}
 use Rattle.gl_value.specs.Value as v
 use Rattle.gl_ast.specs.Grammar.{deepest_calls, has_argument}
 use Rattle.gl_ast.specs.Scans.{begins}
-use Rattle.gl_ast.specs.Template.{Expr, literal, this, argument, bare, call, Exprs, no_exprs, expr, NamedExprs, no_named, named_expr, exprs_of, named_of}
-use Rattle.gl_ast.specs.TokenText.{string_of, integer_of, names_of, is_free}
+use Rattle.gl_ast.specs.Template.{Plain, Expr, literal, this, argument, bare, call, Exprs, NamedExprs, exprs_of, named_of}
+use Rattle.gl_ast.specs.TokenText.{string_of, whole_of, names_of, is_free, has_char}
 use Rattle.gl_ast.specs.Words.{reserved}
 use Rattle.gl_ast.specs.declared.token.Token.{Token}
 use Rattle.gl_ast.specs.declared.token.TokenKind.{TokenKind}
 use Rattle.gl_ast.specs.declared.token.TokenKind.TheVariants as k
-use Rattle.gl_parse.specs.Take.{Taken, stands, take_kind}
+use Rattle.gl_parse.specs.Take.{Taken, same_kind, stands, take_kind, read_many}
 
--- the constants that words stand for
-abbrev pub constants : List (Text × Expr)
-constants =
-    (codes "true", literal (v.boolean true)) ∷ (codes "false", literal (v.boolean false))
-    ∷ (codes "null", literal v.null) ∷ (codes "undefined", literal v.undefined) ∷ []
+-- the constant that a word stands for
+unfoldable pub constant_of : Text → Option Plain
+constant_of n =
+    if bytes_eq (codes "true") n then Some (v.boolean true)
+    else (if bytes_eq (codes "false") n then Some (v.boolean false)
+    else (if bytes_eq (codes "null") n then Some v.null
+    else (if bytes_eq (codes "undefined") n then Some v.undefined else None)))
 
 -- after `this`
 abbrev pub this_path : List Text → Option Expr
@@ -28,7 +30,7 @@ this_path (n ∷ ns) = Some (this n ns)
 
 -- after another reserved name
 abbrev pub constant_path : Text → List Text → Option Expr
-constant_path n [] = named n constants
+constant_path n [] = option_map literal (constant_of n)
 constant_path n (m ∷ ns) = None
 
 -- the expression that a path's names are
@@ -36,52 +38,43 @@ unfoldable pub path_expr : List Text → Option Expr
 path_expr [] = None
 path_expr (n ∷ ns) =
     if begins (64 ∷ []) n then Some (argument (drop 1 n) ns)
-    else (if bytes_eq n (codes "this") then this_path ns
+    else (if bytes_eq (codes "this") n then this_path ns
     else (if has_text n reserved then constant_path n ns else Some (bare n ns)))
 
 -- the expression that one token is
 unfoldable pub token_expr : TokenKind → Text → Option Expr
-token_expr k.Path x = path_expr (names_of x)
-token_expr k.Number x = Some (literal (v.integer (integer_of x)))
-token_expr k.StringLit x = Some (literal (v.text (string_of x)))
-token_expr _ x = None
+token_expr kind x =
+    if same_kind kind k.Path then path_expr (names_of x)
+    else (if same_kind kind k.Number then option_map (λ z. literal (v.integer z)) (whole_of x)
+    else (if same_kind kind k.StringLit then Some (literal (v.text (string_of x))) else None))
 
 unfoldable pub read_token : List Token → Taken Expr
 read_token [] = None
 read_token (t ∷ ts) = option_map (λ e. (e, ts)) (token_expr t.kind t.text)
 
--- the name that a path of one name is
-abbrev pub lone_name : List Text → Option Text
-lone_name (n ∷ []) = if is_free n then Some n else None
-lone_name _ = None
-
 -- a path of one name that is not reserved
-unfoldable pub read_name : List Token → Taken Text
-read_name ts = take_kind k.Path ts >>= λ p. option_map (λ n. (n, p.1)) (lone_name (names_of p.0))
+abbrev pub is_lone : Text → Bool
+is_lone x = not (has_char 46 x) && is_free x
 
-abbrev pub is_some_name : Option Text → Bool
-is_some_name None = false
-is_some_name (Some n) = true
+unfoldable pub read_name : List Token → Taken Text
+read_name ts = take_kind k.Path ts >>= λ p. (if is_lone p.0 then Some p else None)
 
 -- such a name comes first
 unfoldable pub stands_name : List Token → Bool
 stands_name [] = false
-stands_name (t ∷ ts) = stands k.Path (t ∷ ts) && is_some_name (lone_name (names_of t.text))
+stands_name (t ∷ ts) = same_kind t.kind k.Path && is_lone t.text
 
 -- a name and `=` come first
 unfoldable pub stands_named : List Token → Bool
-stands_named [] = false
-stands_named (t ∷ ts) = stands_name (t ∷ ts) && stands k.Equals ts
+stands_named ts = stands_name ts && stands k.Equals (drop 1 ts)
 
 -- the first token of an expression comes first, and is no name before `=`
 unfoldable pub starts_expr : List Token → Bool
 starts_expr ts = (stands k.Path ts || stands k.Number ts || stands k.StringLit ts || stands k.OpenParen ts) && not (stands_named ts)
 
 -- expressions one after another, at most so many, where `one` reads one of them
-unfoldable pub read_exprs : (List Token → Taken Expr) → ℕ → List Token → Taken (List Expr)
-read_exprs one zero ts = if starts_expr ts then None else Some ([], ts)
-read_exprs one (suc n) ts =
-    if starts_expr ts then (one ts >>= λ e. (read_exprs one n e.1 >>= λ more. Some (e.0 ∷ more.0, more.1))) else Some ([], ts)
+abbrev pub read_exprs : (List Token → Taken Expr) → ℕ → List Token → Taken (List Expr)
+read_exprs one n ts = read_many starts_expr one n ts
 
 -- one after its name and `=`
 unfoldable pub read_pair : (List Token → Taken Expr) → List Token → Taken (Text × Expr)
@@ -91,10 +84,8 @@ read_pair one ts = do
   value ← one mark.1
   Some ((name.0, value.0), value.1)
 
-unfoldable pub read_named : (List Token → Taken Expr) → ℕ → List Token → Taken (List (Text × Expr))
-read_named one zero ts = if stands_name ts then None else Some ([], ts)
-read_named one (suc n) ts =
-    if stands_name ts then (read_pair one ts >>= λ p. (read_named one n p.1 >>= λ more. Some (p.0 ∷ more.0, more.1))) else Some ([], ts)
+abbrev pub read_named : (List Token → Taken Expr) → ℕ → List Token → Taken (List (Text × Expr))
+read_named one n ts = read_many stands_name (read_pair one) n ts
 
 -- positional arguments, then named ones
 unfoldable pub read_arguments : (List Token → Taken Expr) → List Token → Taken (Exprs × NamedExprs)

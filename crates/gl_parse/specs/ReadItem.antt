@@ -1,15 +1,16 @@
 -- What an opening tag has, read from the front of the tokens.
-use Rattle.std.specs.Prelude.{ℕ, zero, suc, List, [], ◌∷◌, Bool, ◌&&◌, ◌||◌, drop, if◌then◌else◌, Option, Some, None}
+use Rattle.std.specs.Prelude.{ℕ, List, [], ◌∷◌, Bool, false, ◌&&◌, ◌||◌, ◌==◌, drop, length, if◌then◌else◌, Some, None, option_map}
 use Rattle.gl_base.specs.Answers.{◌>>=◌}
 use Rattle.gl_base.specs.Texts.{Text}
-use Rattle.gl_ast.specs.Grammar.{deepest_calls, Item, part_item, argument_item}
+use Rattle.gl_ast.specs.Grammar.{deepest_calls, Item, part_item, argument_item, after_comments, parts_among, arguments_among}
 use Rattle.gl_ast.specs.Settling.{is_comment}
-use Rattle.gl_ast.specs.Template.{attribute, modifier, spread}
+use Rattle.gl_ast.specs.Template.{AttrValue, Part, attribute, modifier, spread}
+use Rattle.gl_ast.specs.TokenText.{leads}
 use Rattle.gl_ast.specs.declared.token.Token.{Token}
 use Rattle.gl_ast.specs.declared.token.TokenKind.TheVariants as k
 use Rattle.gl_parse.specs.ReadExpr.{read_name, read_arguments, read_expr}
 use Rattle.gl_parse.specs.ReadValue.{read_given}
-use Rattle.gl_parse.specs.Take.{Taken, stands, take_kind}
+use Rattle.gl_parse.specs.Take.{Taken, stands, take_kind, read_many}
 
 unfoldable pub read_attribute : List Token → Taken Item
 read_attribute ts = do
@@ -17,12 +18,15 @@ read_attribute ts = do
   value ← read_given name.1
   Some (part_item (attribute name.0 value.0), value.1)
 
--- an argument's name stands after `@`
+-- an argument's name, which stands after `@`
+unfoldable pub read_at : List Token → Taken Text
+read_at ts = take_kind k.Argument ts >>= λ name. (if leads (λ c. c == 64) name.0 then Some (drop 1 name.0, name.1) else None)
+
 unfoldable pub read_argument : List Token → Taken Item
 read_argument ts = do
-  name ← take_kind k.Argument ts
+  name ← read_at ts
   value ← read_given name.1
-  Some (argument_item (drop 1 name.0) value.0, value.1)
+  Some (argument_item name.0 value.0, value.1)
 
 unfoldable pub read_modifier : List Token → Taken Item
 read_modifier ts = do
@@ -45,11 +49,16 @@ read_item ts =
     else (if stands k.OpenMustache ts then read_modifier ts
     else (if stands k.Spread ts then read_spread ts else read_argument ts))
 
--- the items, and mustache comments among them, of so many tokens at most
+-- the items, each after mustache comments or none, of so many at most, and the comments after them
 unfoldable pub read_items : Bool → ℕ → List Token → Taken (List Item)
-read_items component n [] = Some ([], [])
-read_items component zero (t ∷ ts) = None
-read_items component (suc n) (t ∷ ts) =
-    if is_comment t.kind then read_items component n ts
-    else (if starts_item component (t ∷ ts) then (read_item (t ∷ ts) >>= λ i. (read_items component n i.1 >>= λ more. Some (i.0 ∷ more.0, more.1)))
-    else Some ([], t ∷ ts))
+read_items component n ts =
+    read_many (λ us. starts_item component (after_comments us)) (λ us. read_item (after_comments us)) n ts >>= λ is. Some (is.0, after_comments is.1)
+
+-- the parts and the arguments of a tag
+unfoldable pub read_tag_items : Bool → List Token → Taken (List Part × List (Text × AttrValue))
+read_tag_items component ts = option_map (λ is. ((parts_among is.0, arguments_among is.0), is.1)) (read_items component (length ts) ts)
+
+-- a mustache comment comes first
+abbrev pub starts_comment : List Token → Bool
+starts_comment [] = false
+starts_comment (t ∷ ts) = is_comment t.kind

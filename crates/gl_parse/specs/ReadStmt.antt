@@ -1,32 +1,41 @@
 -- Statements, read from the front of the tokens.
-use Rattle.std.specs.Prelude.{ℕ, zero, suc, List, [], ◌∷◌, Bool, true, false, ◌&&◌, ◌||◌, drop, length, map, nat_le, codes, if◌then◌else◌, Option, Some, None, option_map}
+use Rattle.std.specs.Prelude.{ℕ, zero, suc, List, [], ◌∷◌, Bool, true, false, ◌&&◌, ◌||◌, ◌==◌, drop, length, map, nat_le, codes, if◌then◌else◌, Option, Some, None, option_map}
 use Rattle.std.specs.Str.{bytes_eq, is_utf8}
 use Rattle.gl_base.specs.Answers.{◌>>=◌}
 use Rattle.gl_base.specs.Texts.{Text}
-use Rattle.gl_ast.specs.Grammar.{deepest_calls, deepest_nesting, part_item, parts_among, arguments_among, is_void, is_silent, if_word}
+use Rattle.gl_ast.specs.Grammar.{deepest_calls, deepest_nesting, is_void, is_silent, if_word}
 use Rattle.gl_ast.specs.Marks.{is_small, is_capital}
 use Rattle.gl_ast.specs.Settling.{settled}
-use Rattle.gl_ast.specs.Template.{Expr, Stmt, text_stmt, comment_stmt, put, element, component_stmt, if_stmt, each, let_stmt, yield, Body, end, stmt, no_slots, block, body_of, exprs_of}
+use Rattle.gl_ast.specs.Template.{Expr, Exprs, AttrValue, Part, Stmt, text_stmt, comment_stmt, put, element, component_stmt, if_stmt, each, let_stmt, yield, Body, end, stmt, no_slots, block, body_of, exprs_of}
 use Rattle.gl_ast.specs.TokenReading.{template_tokens, lone_tokens}
 use Rattle.gl_ast.specs.TokenText.{decoded, string_of, comment_of, end_name_of, parameters_of, leads}
 use Rattle.gl_ast.specs.declared.token.Token.{Token}
 use Rattle.gl_ast.specs.declared.token.TokenKind.TheVariants as k
 use Rattle.gl_parse.specs.ReadExpr.{read_exprs, read_expr, read_mustache}
-use Rattle.gl_parse.specs.ReadItem.{read_items}
+use Rattle.gl_parse.specs.ReadItem.{read_tag_items}
 use Rattle.gl_parse.specs.Take.{Taken, stands, stands_word, take_kind, take_word}
 
 -- how a reader of one statement, of a body and of a block's head look
 abbrev pub Reader : Type 0 → Type 0
 Reader A = List Token → Taken A
 
--- `{{` and the word else come first
-unfoldable pub stands_else : List Token → Bool
-stands_else [] = false
-stands_else (t ∷ ts) = stands k.OpenMustache (t ∷ ts) && stands_word (codes "else") ts
+-- `{{` and this word come first
+unfoldable pub stands_opened : Text → List Token → Bool
+stands_opened w ts = stands k.OpenMustache ts && stands_word w (drop 1 ts)
 
 -- what ends a body: an end tag, the end of a block, an else
 unfoldable pub ends_body : List Token → Bool
-ends_body ts = stands k.EndTag ts || stands k.OpenClosing ts || stands_else ts
+ends_body ts = stands k.EndTag ts || stands k.OpenClosing ts || stands_opened (codes "else") ts
+
+-- a body ends here, as it does at the end of the tokens
+abbrev pub is_end : List Token → Bool
+is_end [] = true
+is_end (t ∷ ts) = ends_body (t ∷ ts)
+
+-- the first token gives no statement
+abbrev pub stands_silent : List Token → Bool
+stands_silent [] = false
+stands_silent (t ∷ ts) = is_silent t
 
 -- statements, and silent tokens among them, of so many tokens at most, where `one` reads one of them
 unfoldable pub read_stmts : Reader Stmt → ℕ → List Token → Taken (List Stmt)
@@ -49,59 +58,84 @@ read_yield ts = do
   back ← take_kind k.CloseMustache values.1
   Some (yield (exprs_of values.0) (codes "default"), back.1)
 
-unfoldable pub stands_yield : List Token → Bool
-stands_yield [] = false
-stands_yield (t ∷ ts) = stands k.OpenMustache (t ∷ ts) && stands_word (codes "yield") ts
-
 -- a statement without another in it
 unfoldable pub read_flat : List Token → Taken Stmt
 read_flat ts =
     if stands k.Text ts then option_map (λ t. (text_stmt (decoded t.0), t.1)) (take_kind k.Text ts)
     else (if stands k.HtmlComment ts then option_map (λ t. (comment_stmt (comment_of t.0), t.1)) (take_kind k.HtmlComment ts)
-    else (if stands_yield ts then read_yield ts else option_map (λ e. (put e.0, e.1)) (read_mustache ts)))
+    else (if stands_opened (codes "yield") ts then read_yield ts else option_map (λ e. (put e.0, e.1)) (read_mustache ts)))
 
 -- an end tag of this name
 unfoldable pub take_end_tag : Text → List Token → Option (List Token)
 take_end_tag name ts = take_kind k.EndTag ts >>= λ t. (if bytes_eq (end_name_of t.0) name then Some t.1 else None)
 
--- the body of an element or component, after its opening tag, and its end tag
-unfoldable pub read_tagged : Reader Body → Text → List Token → Taken Body
-read_tagged inner name ts = do
-  front ← take_kind k.TagEnd ts
-  body ← inner front.1
-  rest ← take_end_tag name body.1
-  Some (body.0, rest)
-
--- an element from its items on
-unfoldable pub read_element_rest : Reader Body → Text → List Token → Taken Body
-read_element_rest inner tag ts =
-    if stands k.SelfEnd ts then option_map (λ t. (end, t.1)) (take_kind k.SelfEnd ts)
-    else (if is_void tag then option_map (λ t. (end, t.1)) (take_kind k.TagEnd ts) else read_tagged inner tag ts)
-
-unfoldable pub read_element : Reader Body → Text → List Token → Taken Stmt
-read_element inner tag ts = do
-  items ← read_items false (length ts) ts
-  body ← read_element_rest inner tag items.1
-  Some (element tag (parts_among items.0) body.0, body.1)
-
 -- `as |..|`, or no parameters
 unfoldable pub read_parameters : List Token → Taken (List Text)
 read_parameters ts = if stands k.Parameters ts then option_map (λ t. (parameters_of t.0, t.1)) (take_kind k.Parameters ts) else Some ([], ts)
 
-unfoldable pub read_component : Reader Body → Text → List Token → Taken Stmt
-read_component inner c ts = do
-  items ← read_items true (length ts) ts
-  names ← read_parameters items.1
-  if stands k.SelfEnd names.1
-    then option_map (λ t. (component_stmt c (parts_among items.0) (arguments_among items.0) no_slots, t.1)) (take_kind k.SelfEnd names.1)
-    else option_map (λ b. (component_stmt c (parts_among items.0) (arguments_among items.0) (block (codes "default") names.0 b.0 no_slots), b.1)) (read_tagged inner c names.1)
+-- What stands in an opening tag in front of its end: of an element its name and parts, of a component its arguments
+-- and parameters too.
+pub data Opening : Type 0 where
+  element_opening : Text → List Part → Opening
+  component_opening : Text → List Part → List (Text × AttrValue) → List Text → Opening
 
--- an element or a component, by the first letter of its name
-unfoldable pub read_tag : Reader Body → List Token → Taken Stmt
-read_tag inner ts = do
+abbrev pub name_of : Opening → Text
+name_of (element_opening n ps) = n
+name_of (component_opening n ps given ns) = n
+
+-- it is a void element
+abbrev pub opens_void : Opening → Bool
+opens_void (element_opening n ps) = is_void n
+opens_void (component_opening n ps given ns) = false
+
+-- the statement without a body, and with one
+abbrev pub empty_tag : Opening → Stmt
+empty_tag (element_opening n ps) = element n ps end
+empty_tag (component_opening n ps given ns) = component_stmt n ps given no_slots
+
+abbrev pub full_tag : Opening → Body → Stmt
+full_tag (element_opening n ps) b = element n ps b
+full_tag (component_opening n ps given ns) b = component_stmt n ps given (block (codes "default") ns b no_slots)
+
+unfoldable pub read_element : Text → Reader Opening
+read_element n ts = option_map (λ i. (element_opening n i.0.0, i.1)) (read_tag_items false ts)
+
+unfoldable pub read_component : Text → Reader Opening
+read_component n ts = do
+  items ← read_tag_items true ts
+  names ← read_parameters items.1
+  Some (component_opening n items.0.0 items.0.1 names.0, names.1)
+
+-- a component or an element, by the first letter of its name
+unfoldable pub read_named_tag : Text → Reader Opening
+read_named_tag n ts = if leads is_capital n then read_component n ts else (if leads is_small n then read_element n ts else None)
+
+-- the name after `<`
+unfoldable pub opened_name : Text → Option Text
+opened_name [] = None
+opened_name (c ∷ cs) = if c == 60 then Some cs else None
+
+unfoldable pub read_opening : Reader Opening
+read_opening ts = do
   opening ← take_kind k.TagOpening ts
-  let name = drop 1 opening.0
-  if leads is_capital name then read_component inner name opening.1 else read_element inner name opening.1
+  name ← opened_name opening.0
+  read_named_tag name opening.1
+
+-- a body and the end tag
+unfoldable pub read_tagged : Reader Body → Opening → List Token → Taken Stmt
+read_tagged inner o ts = do
+  body ← inner ts
+  rest ← take_end_tag (name_of o) body.1
+  Some (full_tag o body.0, rest)
+
+-- the end of an opening tag, and what follows
+unfoldable pub read_after_opening : Reader Body → Opening → List Token → Taken Stmt
+read_after_opening inner o ts =
+    if stands k.SelfEnd ts then option_map (λ t. (empty_tag o, t.1)) (take_kind k.SelfEnd ts)
+    else (take_kind k.TagEnd ts >>= λ mark. (if opens_void o then Some (empty_tag o, mark.1) else read_tagged inner o mark.1))
+
+unfoldable pub read_tag : Reader Body → List Token → Taken Stmt
+read_tag inner ts = read_opening ts >>= λ o. read_after_opening inner o.0 o.1
 
 -- the key of an each
 unfoldable pub read_key : List Token → Taken Text
@@ -121,40 +155,54 @@ read_two ts = read_parameters ts >>= λ names. (if nat_le (length names.0) 2 the
 unfoldable pub read_opened : Reader Body → List Token → Taken Body
 read_opened inner ts = take_kind k.CloseMustache ts >>= λ mark. inner mark.1
 
--- what follows the word of an if or unless
-unfoldable pub read_if : Reader Body → Reader Body → Bool → List Token → Taken Stmt
-read_if inner otherwise unless ts = do
-  test ← read_expr deepest_calls ts
-  body ← read_opened inner test.1
-  more ← otherwise body.1
-  Some (if_stmt test.0 unless body.0 more.0, more.1)
+-- what stands in a block from its word up to its `}}`
+pub data Front : Type 0 where
+  if_front : Expr → Bool → Front
+  each_front : Expr → Text → List Text → Front
+  let_front : Exprs → List Text → Front
 
-unfoldable pub read_each : Reader Body → Reader Body → List Token → Taken Stmt
-read_each inner otherwise ts = do
+-- after the word of an if or unless
+unfoldable pub read_if : Bool → Reader Front
+read_if unless ts = option_map (λ e. (if_front e.0 unless, e.1)) (read_expr deepest_calls ts)
+
+unfoldable pub read_each : Reader Front
+read_each ts = do
   items ← read_expr deepest_calls ts
   key ← read_key items.1
   names ← read_two key.1
-  body ← read_opened inner names.1
-  more ← otherwise body.1
-  Some (each items.0 key.0 names.0 body.0 more.0, more.1)
+  Some (each_front items.0 key.0 names.0, names.1)
 
 -- a let has at least one value
-unfoldable pub read_let : Reader Body → List Token → Taken Stmt
-read_let inner ts = do
-  first ← read_expr deepest_calls ts
-  values ← read_exprs (read_expr deepest_calls) (length first.1) first.1
-  names ← read_parameters values.1
-  body ← read_opened inner names.1
-  Some (let_stmt (exprs_of (first.0 ∷ values.0)) names.0 body.0, body.1)
+abbrev pub some_values : List Expr → Bool
+some_values [] = false
+some_values (e ∷ es) = true
+
+unfoldable pub read_let : Reader Front
+read_let ts = do
+  values ← read_exprs (read_expr deepest_calls) (length ts) ts
+  names ← (if some_values values.0 then read_parameters values.1 else None)
+  Some (let_front (exprs_of values.0) names.0, names.1)
+
+unfoldable pub read_front : Reader Front
+read_front ts =
+    take_kind k.Path ts >>= λ word. (
+    if bytes_eq (codes "if") word.0 then read_if false word.1
+    else (if bytes_eq (codes "unless") word.0 then read_if true word.1
+    else (if bytes_eq (codes "each") word.0 then read_each word.1
+    else (if bytes_eq (codes "let") word.0 then read_let word.1 else None))))
+
+-- what follows the body of a block: an else, which a let has not
+unfoldable pub read_after_body : Reader Body → Front → Body → List Token → Taken Stmt
+read_after_body otherwise (if_front e unless) b ts = option_map (λ c. (if_stmt e unless b c.0, c.1)) (otherwise ts)
+read_after_body otherwise (each_front e key ns) b ts = option_map (λ c. (each e key ns b c.0, c.1)) (otherwise ts)
+read_after_body otherwise (let_front es ns) b ts = Some (let_stmt es ns b, ts)
 
 -- a block from its word on, up to what closes it
 unfoldable pub read_head : Reader Body → Reader Body → List Token → Taken Stmt
-read_head inner otherwise ts =
-    take_kind k.Path ts >>= λ word. (
-      if bytes_eq word.0 (codes "if") then read_if inner otherwise false word.1
-      else (if bytes_eq word.0 (codes "unless") then read_if inner otherwise true word.1
-      else (if bytes_eq word.0 (codes "each") then read_each inner otherwise word.1
-      else (if bytes_eq word.0 (codes "let") then read_let inner word.1 else None))))
+read_head inner otherwise ts = do
+  front ← read_front ts
+  body ← read_opened inner front.1
+  read_after_body otherwise front.0 body.0 body.1
 
 -- a body of one statement
 abbrev pub only : Stmt → Body
@@ -167,7 +215,7 @@ read_after_else inner chained ts =
 
 unfoldable pub read_else : Reader Body → Reader Stmt → List Token → Taken Body
 read_else inner chained ts =
-    if stands_else ts then (do
+    if stands_opened (codes "else") ts then (do
       front ← take_kind k.OpenMustache ts
       word ← take_word (codes "else") front.1
       read_after_else inner chained word)
@@ -203,24 +251,23 @@ read_nested inner head ts =
 unfoldable pub read_block_with : Reader Stmt → Reader Stmt → List Token → Taken Stmt
 read_block_with one chained ts = read_head (read_body one) (read_else (read_body one) chained) ts
 
-abbrev pub read_none : List Token → Taken Stmt
-read_none ts = None
-
--- one statement, and a block from its word on, where elements and blocks may nest so deep in them
+-- one statement, and a block that an else has as its head, where elements and blocks may nest so deep
 unfoldable mutual
   pub read_stmt : ℕ → List Token → Taken Stmt
   read_stmt zero ts = read_flat ts
-  read_stmt (suc depth) ts = read_nested (read_body (read_stmt depth)) (read_blocks depth) ts
+  read_stmt (suc depth) ts = read_nested (read_body (read_stmt depth)) (read_block_with (read_stmt depth) (read_chained depth)) ts
 
-  pub read_blocks : ℕ → List Token → Taken Stmt
-  read_blocks zero ts = read_block_with read_flat read_none ts
-  read_blocks (suc depth) ts = read_block_with (read_nested (read_body (read_stmt depth)) (read_blocks depth)) (read_blocks depth) ts
+  pub read_chained : ℕ → List Token → Taken Stmt
+  read_chained zero ts = None
+  read_chained (suc depth) ts = read_block_with (read_stmt depth) (read_chained depth) ts
 
 -- the statements of a template, where nothing is left
+abbrev pub nothing_left : List Token → Bool
+nothing_left [] = true
+nothing_left (t ∷ ts) = false
+
 unfoldable pub whole : {A : Type 0} → Taken A → Option A
-whole None = None
-whole (Some (x, [])) = Some x
-whole (Some (x, t ∷ ts)) = None
+whole read = read >>= λ p. (if nothing_left p.1 then Some p.0 else None)
 
 -- the tree that the tokens of a template spell
 unfoldable pub read_template : List Token → Option Body
@@ -230,9 +277,14 @@ read_template ts = whole (read_body (read_stmt deepest_nesting) ts)
 unfoldable pub read_lone : List Token → Option Expr
 read_lone ts = whole (read_expr deepest_calls ts)
 
--- the same of bytes in UTF-8
-unfoldable pub template_of : List ℕ → Option Body
-template_of bytes = if is_utf8 bytes then (template_tokens bytes >>= λ list. read_template (settled bytes list)) else None
+-- the tree that a text spells
+unfoldable pub text_tree : List ℕ → Option Body
+text_tree text = template_tokens text >>= λ list. read_template (settled text list)
 
+-- the same of bytes, which are UTF-8
+unfoldable pub template_of : List ℕ → Option Body
+template_of bytes = if is_utf8 bytes then text_tree bytes else None
+
+-- the expression that a text spells
 unfoldable pub expression_of : List ℕ → Option Expr
-expression_of bytes = lone_tokens bytes >>= read_lone
+expression_of text = lone_tokens text >>= read_lone

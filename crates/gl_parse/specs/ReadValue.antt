@@ -1,41 +1,47 @@
 -- Values of attributes and arguments, read from the front of the tokens.
-use Rattle.std.specs.Prelude.{ℕ, zero, suc, List, [], ◌∷◌, Bool, true, false, ◌&&◌, length, if◌then◌else◌, Option, Some, None, option_map}
+use Rattle.std.specs.Prelude.{List, [], ◌∷◌, ◌++◌, Bool, ◌&&◌, ◌||◌, drop, length, if◌then◌else◌, Some, option_map}
 use Rattle.gl_base.specs.Answers.{◌>>=◌}
-use Rattle.gl_base.specs.Texts.{Text}
 use Rattle.gl_value.specs.Value as v
 use Rattle.gl_ast.specs.Template.{Expr, literal, cat, AttrValue, fixed, live, exprs_of}
 use Rattle.gl_ast.specs.TokenText.{decoded}
 use Rattle.gl_ast.specs.declared.token.Token.{Token}
+use Rattle.gl_ast.specs.declared.token.TokenKind.{TokenKind}
 use Rattle.gl_ast.specs.declared.token.TokenKind.TheVariants as k
 use Rattle.gl_parse.specs.ReadExpr.{read_mustache}
-use Rattle.gl_parse.specs.Take.{Taken, stands, take_kind}
+use Rattle.gl_parse.specs.Take.{Taken, stands, take_kind, read_many, with_front}
 
 -- a text, and after it the quote that closes the value
 unfoldable pub stands_plain : List Token → Bool
-stands_plain [] = false
-stands_plain (t ∷ ts) = stands k.Text (t ∷ ts) && stands k.CloseQuote ts
+stands_plain ts = stands k.Text ts && stands k.CloseQuote (drop 1 ts)
+
+-- a value that is a text
+unfoldable pub read_fixed : TokenKind → List Token → Taken AttrValue
+read_fixed kind ts = option_map (λ t. (fixed (decoded t.0), t.1)) (take_kind kind ts)
 
 -- a text of a quoted value
 unfoldable pub read_quoted_text : List Token → Taken Expr
 read_quoted_text ts = option_map (λ t. (literal (v.text (decoded t.0)), t.1)) (take_kind k.Text ts)
 
--- the texts and mustaches of a quoted value, at most so many; where `wanting` is true a mustache is to come
-unfoldable pub read_quoted : Bool → ℕ → List Token → Taken (List Expr)
-read_quoted wanting zero ts = if wanting then None else Some ([], ts)
-read_quoted wanting (suc n) ts =
-    if stands k.Text ts then (read_quoted_text ts >>= λ e. (read_quoted wanting n e.1 >>= λ more. Some (e.0 ∷ more.0, more.1)))
-    else (if stands k.OpenMustache ts then (read_mustache ts >>= λ e. (read_quoted false n e.1 >>= λ more. Some (e.0 ∷ more.0, more.1)))
-    else (if wanting then None else Some ([], ts)))
+-- a text or a mustache of a quoted value
+unfoldable pub starts_quoted : List Token → Bool
+starts_quoted ts = stands k.Text ts || stands k.OpenMustache ts
 
--- a value of texts and mustaches
+unfoldable pub read_quoted : List Token → Taken Expr
+read_quoted ts = if stands k.Text ts then read_quoted_text ts else read_mustache ts
+
+-- a value of texts and mustaches, with one mustache at least: texts, the first mustache, and texts and mustaches
 unfoldable pub read_cat : List Token → Taken AttrValue
-read_cat ts = read_quoted true (length ts) ts >>= λ es. Some (live (cat (exprs_of es.0)), es.1)
+read_cat ts = do
+  texts ← read_many (stands k.Text) read_quoted_text (length ts) ts
+  first ← read_mustache texts.1
+  all ← with_front (texts.0 ++ first.0 ∷ []) (read_many starts_quoted read_quoted (length first.1) first.1)
+  Some (live (cat (exprs_of all.0)), all.1)
 
 -- what stands between the quotes
 unfoldable pub read_between : List Token → Taken AttrValue
 read_between ts =
     if stands k.CloseQuote ts then Some (fixed [], ts)
-    else (if stands_plain ts then option_map (λ t. (fixed (decoded t.0), t.1)) (take_kind k.Text ts) else read_cat ts)
+    else (if stands_plain ts then read_fixed k.Text ts else read_cat ts)
 
 unfoldable pub read_quote : List Token → Taken AttrValue
 read_quote ts = do
@@ -47,7 +53,7 @@ read_quote ts = do
 -- a value
 unfoldable pub read_value : List Token → Taken AttrValue
 read_value ts =
-    if stands k.Unquoted ts then option_map (λ t. (fixed (decoded t.0), t.1)) (take_kind k.Unquoted ts)
+    if stands k.Unquoted ts then read_fixed k.Unquoted ts
     else (if stands k.OpenMustache ts then option_map (λ e. (live e.0, e.1)) (read_mustache ts) else read_quote ts)
 
 -- `=` and a value, or none

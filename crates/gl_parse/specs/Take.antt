@@ -1,6 +1,7 @@
 -- The first token, by its kind.
-use Rattle.std.specs.Prelude.{ℕ, List, [], ◌∷◌, Bool, false, ◌&&◌, nat_eq, if◌then◌else◌, Option, Some, None}
+use Rattle.std.specs.Prelude.{ℕ, zero, suc, List, [], ◌∷◌, ◌++◌, Bool, false, ◌&&◌, nat_eq, if◌then◌else◌, Option, Some, None}
 use Rattle.std.specs.Str.{bytes_eq}
+use Rattle.gl_base.specs.Answers.{◌>>=◌}
 use Rattle.gl_base.specs.Texts.{Text}
 use Rattle.gl_ast.specs.declared.token.Token.{Token}
 use Rattle.gl_ast.specs.declared.token.TokenKind.{TokenKind}
@@ -53,9 +54,20 @@ take_kind kind (t ∷ ts) = if same_kind t.kind kind then Some (t.text, ts) else
 -- the first token is a path that is this word
 unfoldable pub stands_word : Text → List Token → Bool
 stands_word w [] = false
-stands_word w (t ∷ ts) = same_kind t.kind k.Path && bytes_eq t.text w
+stands_word w (t ∷ ts) = same_kind t.kind k.Path && bytes_eq w t.text
 
 -- it is a path of this word, and these are the tokens after it
 unfoldable pub take_word : Text → List Token → Option (List Token)
 take_word w [] = None
-take_word w (t ∷ ts) = if same_kind t.kind k.Path && bytes_eq t.text w then Some ts else None
+take_word w (t ∷ ts) = if same_kind t.kind k.Path && bytes_eq w t.text then Some ts else None
+
+-- as many as stand there one after another, and at most so many, where `starts` tells whether one more comes and `one`
+-- reads it
+unfoldable pub read_many : {A : Type 0} → (List Token → Bool) → (List Token → Taken A) → ℕ → List Token → Taken (List A)
+read_many starts one zero ts = if starts ts then None else Some ([], ts)
+read_many starts one (suc n) ts =
+    if starts ts then (one ts >>= λ x. (read_many starts one n x.1 >>= λ more. Some (x.0 ∷ more.0, more.1))) else Some ([], ts)
+
+-- a reading of a list, with a front before the list
+abbrev pub with_front : {A B : Type 0} → List A → Option (List A × B) → Option (List A × B)
+with_front front read = read >>= λ x. Some (front ++ x.0, x.1)

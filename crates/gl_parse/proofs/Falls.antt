@@ -1,0 +1,115 @@
+-- A statement takes at least one token.
+use Rattle.std.proofs.Common.{◌≡◌, ◌<◌, ◌≤◌, ◌+◌, ℕ, zero, suc, List, [], ◌∷◌, Bool, true, false, cond, ◌⊎◌, inl, inr, length, map, refl, sym, ap, subst, ◌∙◌, arith}
+use Rattle.std.specs.Prelude.{codes}
+use Rattle.gl_base.specs.Texts.{Text}
+use Rattle.gl_ast.specs.Grammar.{deepest_calls, part_item, Mark, Stands, Word, IsKey, AreParameters, IsIf, IsEach, IsLet, IsElse, IsClosing, IsStmt, AreStmts, IsChained, IsComponentRest, IsElementRest, is_silent, after_silent, if_word}
+use Rattle.gl_ast.specs.Template.{Expr, Exprs, Stmt, text_stmt, comment_stmt, put, element, component_stmt, if_stmt, each, let_stmt, yield, Body, end, stmt, Slots, no_slots, block}
+use Rattle.gl_ast.specs.declared.token.Token.{Token}
+use Rattle.gl_ast.specs.declared.token.TokenKind.TheVariants as k
+use Rattle.gl_parse.proofs.BlockLaws.{IsOtherwise}
+use Rattle.gl_parse.proofs.FirstTokens.{mark_falls, some_falls}
+use Rattle.gl_parse.proofs.Lower.{expr_falls, exprs_fall, mustache_falls, items_fall}
+
+-- bodies take no token more
+abbrev pub Falls : ℕ → Type 0
+Falls depth = (ts : List Token) (b : Body) (us : List Token) → AreStmts depth ts b us → length us ≤ length ts
+
+abbrev pub HeadFalls : ℕ → Type 0
+HeadFalls depth = (ts : List Token) (c : Body) (us : List Token) → IsChained depth ts c us → length us < length ts
+
+abbrev pub StmtFalls : ℕ → Type 0
+StmtFalls depth = (ts : List Token) (s : Stmt) (us : List Token) → IsStmt depth ts s us → length us < length ts
+
+parameters_fall : (ts : List Token) (ns : List Text) (us : List Token) → AreParameters ts ns us → length us ≤ length ts
+parameters_fall ts ns us (inl (e, f)) = let h = ap length e in omega (arith, h)
+parameters_fall ts ns us (inr m) = omega (arith, some_falls k.Parameters _ ts us m)
+
+key_falls : (ts : List Token) (key : Text) (us : List Token) → IsKey ts key us → length us ≤ length ts
+key_falls ts key us (inl (e, f)) = let h = ap length e in omega (arith, h)
+key_falls ts key us (inr (vs, ws, w, m, s)) = omega (arith, some_falls k.Path _ ts vs w, mark_falls k.Equals vs ws m, some_falls k.StringLit _ ws us s)
+
+closing_falls : (word : Text) (ts us : List Token) → IsClosing ts word us → length us < length ts
+closing_falls word ts us (vs, ws, m, w, n) = omega (arith, mark_falls k.OpenClosing ts vs m, some_falls k.Path _ vs ws w, mark_falls k.CloseMustache ws us n)
+
+else_falls : (depth : ℕ) → Falls depth → HeadFalls depth → (ts : List Token) (c : Body) (us : List Token) → IsOtherwise depth ts c us → length us ≤ length ts
+else_falls depth falls head_falls ts c us (inl (e, f)) = let h = ap length e in omega (arith, h)
+else_falls depth falls head_falls ts c us (inr (vs, ws, m, w, inl (xs, n, i))) = omega (arith, mark_falls k.OpenMustache ts vs m, some_falls k.Path _ vs ws w, mark_falls k.CloseMustache ws xs n, falls xs c us i)
+else_falls depth falls head_falls ts c us (inr (vs, ws, m, w, inr r)) = omega (arith, mark_falls k.OpenMustache ts vs m, some_falls k.Path _ vs ws w, head_falls ws c us r)
+
+heads_fall : (depth : ℕ) → Falls depth → HeadFalls depth → HeadFalls (suc depth)
+heads_fall depth falls head_falls ts (stmt (if_stmt e unless b c) end) us (vs, ws, xs, ys, w, x, m, i, o) =
+    omega (arith, some_falls k.Path _ ts vs w, expr_falls deepest_calls vs e ws x, mark_falls k.CloseMustache ws xs m, falls xs b ys i, else_falls depth falls head_falls ys c us o)
+heads_fall depth falls head_falls ts (stmt (each e key ns b c) end) us (two, (us1, us2, us3, us4, us5, us6, w, x, is, params, m, i, o)) =
+    omega (arith, some_falls k.Path _ ts us1 w, expr_falls deepest_calls us1 e us2 x, key_falls us2 key us3 is, parameters_fall us3 ns us4 params, mark_falls k.CloseMustache us4 us5 m, falls us5 b us6 i, else_falls depth falls head_falls us6 c us o)
+heads_fall depth falls head_falls ts (stmt (let_stmt es ns b) end) us (some, (vs, ws, xs, ys, w, are, params, m, i)) =
+    omega (arith, some_falls k.Path _ ts vs w, exprs_fall deepest_calls vs es ws are, parameters_fall ws ns xs params, mark_falls k.CloseMustache xs ys m, falls ys b us i)
+heads_fall depth falls head_falls ts c us h = absurd h
+
+element_rest_falls : (depth : ℕ) → Falls depth → (ts : List Token) (tag : Text) (b : Body) (us : List Token) → IsElementRest (λ xs ys. AreStmts depth xs b ys) ts tag b us → length us < length ts
+element_rest_falls depth falls ts tag b us (inl (m, e)) = omega (arith, mark_falls k.SelfEnd ts us m)
+element_rest_falls depth falls ts tag b us (inr (inl (v, m, e))) = omega (arith, mark_falls k.TagEnd ts us m)
+element_rest_falls depth falls ts tag b us (inr (inr (v, (vs, ws, m, i, t)))) = omega (arith, mark_falls k.TagEnd ts vs m, falls vs b ws i, some_falls k.EndTag _ ws us t)
+
+component_rest_falls : (depth : ℕ) → Falls depth → (ts : List Token) (c : Text) (ns : List Text) (ss : Slots) (us : List Token) → IsComponentRest depth ts c ns ss us → length us < length ts
+component_rest_falls depth falls ts c ns no_slots us m = omega (arith, mark_falls k.SelfEnd ts us m)
+component_rest_falls depth falls ts c ns (block n params b no_slots) us (e, f, (vs, ws, m, i, t)) = omega (arith, mark_falls k.TagEnd ts vs m, falls vs b ws i, some_falls k.EndTag _ ws us t)
+component_rest_falls depth falls ts c ns ss us h = absurd h
+
+text_falls : (depth : ℕ) (ts : List Token) (x : Text) (us : List Token) → IsStmt depth ts (text_stmt x) us → length us < length ts
+text_falls depth ts x us m = omega (arith, some_falls k.Text _ ts us m)
+
+comment_falls : (depth : ℕ) (ts : List Token) (x : Text) (us : List Token) → IsStmt depth ts (comment_stmt x) us → length us < length ts
+comment_falls depth ts x us m = omega (arith, some_falls k.HtmlComment _ ts us m)
+
+yield_falls : (depth : ℕ) (ts : List Token) (es : Exprs) (to : Text) (us : List Token) → IsStmt depth ts (yield es to) us → length us < length ts
+yield_falls depth ts es to us (e, (vs, ws, xs, m, w, are, n)) =
+    omega (arith, mark_falls k.OpenMustache ts vs m, some_falls k.Path _ vs ws w, exprs_fall deepest_calls ws es xs are, mark_falls k.CloseMustache xs us n)
+
+flat_falls : StmtFalls zero
+flat_falls ts (text_stmt x) us m = text_falls zero ts x us m
+flat_falls ts (comment_stmt x) us m = comment_falls zero ts x us m
+flat_falls ts (put e) us m = mustache_falls ts e us m
+flat_falls ts (yield es to) us h = yield_falls zero ts es to us h
+flat_falls ts s us h = absurd h
+
+stmts_fall : (depth : ℕ) → Falls depth → HeadFalls (suc depth) → StmtFalls (suc depth)
+stmts_fall depth falls head_falls ts (text_stmt x) us m = text_falls (suc depth) ts x us m
+stmts_fall depth falls head_falls ts (comment_stmt x) us m = comment_falls (suc depth) ts x us m
+stmts_fall depth falls head_falls ts (put e) us m = mustache_falls ts e us m
+stmts_fall depth falls head_falls ts (yield es to) us h = yield_falls (suc depth) ts es to us h
+stmts_fall depth falls head_falls ts (element tag ps b) us (vs, ws, o, is, r) =
+    omega (arith, some_falls k.TagOpening _ ts vs o, items_fall vs (map part_item ps) ws is, element_rest_falls depth falls ws tag b us r)
+stmts_fall depth falls head_falls ts (component_stmt c ps given ss) us (is, ns, (vs, ws, xs, o, are, e, g, params, r)) =
+    omega (arith, some_falls k.TagOpening _ ts vs o, items_fall vs is ws are, parameters_fall ws ns xs params, component_rest_falls depth falls xs c ns ss us r)
+stmts_fall depth falls head_falls ts (if_stmt e unless b c) us (vs, ws, m, h, n) =
+    omega (arith, mark_falls k.OpenBlock ts vs m, head_falls vs (stmt (if_stmt e unless b c) end) ws h, closing_falls (if_word unless) ws us n)
+stmts_fall depth falls head_falls ts (each e key ns b c) us (vs, ws, m, h, n) =
+    omega (arith, mark_falls k.OpenBlock ts vs m, head_falls vs (stmt (each e key ns b c) end) ws h, closing_falls (codes "each") ws us n)
+stmts_fall depth falls head_falls ts (let_stmt es ns b) us (vs, ws, m, h, n) =
+    omega (arith, mark_falls k.OpenBlock ts vs m, head_falls vs (stmt (let_stmt es ns b) end) ws h, closing_falls (codes "let") ws us n)
+
+silent_case : (b : Bool) (t : Token) (ts us : List Token) → length us ≤ length ts → length (cond b us (t ∷ ts)) ≤ length (t ∷ ts)
+silent_case true t ts us h = omega (arith, h)
+silent_case false t ts us h = omega arith
+
+silent_falls : (ts : List Token) → length (after_silent ts) ≤ length ts
+silent_falls [] = omega arith
+silent_falls (t ∷ ts) = silent_case (is_silent t) t ts (after_silent ts) (silent_falls ts)
+
+bodies_fall : (depth : ℕ) → StmtFalls depth → Falls depth
+bodies_fall depth falls ts end us e = let h = ap length e in omega (arith, h, silent_falls ts)
+bodies_fall depth falls ts (stmt s b) us (vs, is, are) = omega (arith, silent_falls ts, falls (after_silent ts) s vs is, bodies_fall depth falls vs b us are)
+
+none_falls : HeadFalls zero
+none_falls ts c us h = absurd h
+
+both_fall : (depth : ℕ) → StmtFalls depth × HeadFalls depth
+both_fall zero = (flat_falls, none_falls)
+both_fall (suc depth) =
+    let p = both_fall depth in
+    let bodies = bodies_fall depth p.0 in
+    let heads = heads_fall depth bodies p.1 in
+    (stmts_fall depth bodies heads, heads)
+
+pub stmt_falls : (depth : ℕ) → StmtFalls depth
+stmt_falls depth = (both_fall depth).0
