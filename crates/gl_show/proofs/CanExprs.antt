@@ -1,6 +1,6 @@
 -- What tokens with texts of their kinds spell can be spelled: expressions, values and parts of tags.
 use Rattle.std.proofs.Common.{◌≡◌, ◌⊎◌, inl, inr, ℕ, zero, suc, List, [], ◌∷◌, ◌++◌, Bool, true, false, refl, sym, ap, subst, ◌∙◌}
-use Rattle.std.specs.Prelude.{◌&&◌, ◌==◌, not, cond, codes, map}
+use Rattle.std.specs.Prelude.{◌&&◌, ◌==◌, not, cond, codes, map, nat_le, ℤ, Some}
 use Rattle.std.specs.List.{list_all}
 use Rattle.std.specs.Str.{all_scalars, NonePass}
 use Rattle.std.proofs.lemmas.Bool.Decides.{nat_tests}
@@ -14,12 +14,12 @@ use Rattle.gl_ast.specs.Marks.{starts_name, in_name}
 use Rattle.gl_ast.specs.Scans.{begins}
 use Rattle.gl_ast.specs.Settling.{is_text, is_comment}
 use Rattle.gl_ast.specs.Template.{Plain, Expr, literal, this, argument, bare, call, cat, Exprs, no_exprs, expr, NamedExprs, no_named, named_expr, AttrValue, fixed, live, Part, attribute, modifier, spread}
-use Rattle.gl_ast.specs.TokenText.{names_of, is_free, integer_of, string_of, decoded, parameters_of}
-use Rattle.gl_ast.specs.Words.{reserved}
+use Rattle.gl_ast.specs.TokenText.{names_of, is_free, integer_of, magnitude_of, whole_of, string_of, decoded, parameters_of}
+use Rattle.gl_ast.specs.Words.{reserved, greatest}
 use Rattle.gl_ast.specs.declared.token.Token.{Token}
 use Rattle.gl_ast.specs.declared.token.TokenKind.{TokenKind}
 use Rattle.gl_ast.specs.declared.token.TokenKind.TheVariants as k
-use Rattle.gl_ast.proofs.Forward.{both}
+use Rattle.gl_ast.proofs.Forward.{both, if_some}
 use Rattle.gl_show.specs.Spellable.{is_name, is_segment, is_within, IsTextual, IsString, IsFreeName, AreFreeNames, CanLiteral, CanExpr, CanExprs, CanNamed, CanCall, CanInner, CanQuotedPart, needs_text, CanQuoted, CanCat, CanValue, CanPart, CanParts, CanArguments}
 use Rattle.gl_show.proofs.LexedExpr.{path_names, name_no_dots}
 use Rattle.gl_show.proofs.ProperTokens.{AreProper, begins_text}
@@ -63,12 +63,15 @@ name_can n ts us p g =
     ((free_head n (path_parts s.0 n [] s.1 s.2.0).0 s.2.1, s.2.1), s.3)
 
 -- literals
+whole_is : (x : Text) (z : ℤ) → whole_of x ≡ Some z → integer_of x ≡ z
+whole_is x z e = let h = (if_some (nat_le (magnitude_of x) greatest) (Some (integer_of x)) z e).1 in cc
+
 pub literal_can : (x : Plain) (ts us : List Token) → AreProper ts → IsLiteral ts x us → CanLiteral x × AreProper us
 literal_can v.undefined ts us p g = (tt, (stands_proper k.Path (λ y. y ≡ codes "undefined") ts us p g).3)
 literal_can v.null ts us p g = (tt, (stands_proper k.Path (λ y. y ≡ codes "null") ts us p g).3)
 literal_can (v.boolean true) ts us p g = (tt, (stands_proper k.Path (λ y. y ≡ codes "true") ts us p g).3)
 literal_can (v.boolean false) ts us p g = (tt, (stands_proper k.Path (λ y. y ≡ codes "false") ts us p g).3)
-literal_can (v.integer z) ts us p g = let s = stands_proper k.Number (λ y. integer_of y ≡ z) ts us p g in (ap is_within (sym s.2) ∙ s.1, s.3)
+literal_can (v.integer z) ts us p g = let s = stands_proper k.Number (λ y. whole_of y ≡ Some z) ts us p g in (ap is_within (sym (whole_is s.0 z s.2)) ∙ s.1, s.3)
 literal_can (v.text x) ts us p g = let s = stands_proper k.StringLit (λ y. string_of y ≡ x) ts us p g in (subst (λ (y : Text). IsString y) s.2 s.1, s.3)
 literal_can _ ts us p g = absurd g
 

@@ -160,13 +160,13 @@ element_can depth tag ps b Inner body ts vs ws us p g h r =
     elim r [
       | inl s ↦ ((name, parts, (λ v. s.1), subst (λ (x : Body). CanBody depth x) (sym s.1) tt), mark_proper k.SelfEnd ws us i.1 s.0)
       | inr s ↦ elim s [
-          | inl q ↦ ((name, parts, (λ v. q.2), subst (λ (x : Body). CanBody depth x) (sym q.2) tt), mark_proper k.TagEnd ws us i.1 q.1)
-          | inr q ↦
-              let z = mark_proper k.TagEnd ws q.1.0 i.1 q.1.2 in
-              let x = body q.1.0 q.1.1 z q.1.3 in
-              let no : is_void tag ≡ true → b ≡ end = (λ v. let w = sym v ∙ q.0 in absurd (true_false w)) in
-              ((name, parts, no, x.0), (stands_proper k.EndTag (λ y. end_name_of y ≡ tag) q.1.1 us x.1 q.1.4).3)
-        ]
+        | inl q ↦ ((name, parts, (λ v. q.2), subst (λ (x : Body). CanBody depth x) (sym q.2) tt), mark_proper k.TagEnd ws us i.1 q.1)
+        | inr q ↦
+            let z = mark_proper k.TagEnd ws q.1.0 i.1 q.1.2 in
+            let x = body q.1.0 q.1.1 z q.1.3 in
+            let no : is_void tag ≡ true → b ≡ end = (λ v. let w = sym v ∙ q.0 in absurd (true_false w)) in
+            ((name, parts, no, x.0), (stands_proper k.EndTag (λ y. end_name_of y ≡ tag) q.1.1 us x.1 q.1.4).3)
+      ]
     ]
   where
     true_false : true ≡ false → ⊥
@@ -220,12 +220,12 @@ mutual
   stmt_can (suc depth) (if_stmt e unless b c) ts us p g =
       let a = mark_proper k.OpenBlock (after_silent ts) g.0 (silent_proper ts p) g.2 in
       let x = if_can depth e unless b c (λ xs ys. AreStmts depth xs b ys) (λ xs ys. IsElse (λ zs. AreStmts depth zs c) (λ zs. IsChained depth zs c) xs c ys) (λ xs ys q r. body_can depth b xs ys q r)
-        (else_can depth c (λ zs. AreStmts depth zs c) (λ zs. IsChained depth zs c) (λ xs ys q r. body_can depth c xs ys q r) (λ xs ys q r. chained_can depth c xs ys q r)) g.0 g.1 a g.3 in
+      (else_can depth c (λ zs. AreStmts depth zs c) (λ zs. IsChained depth zs c) (λ xs ys q r. body_can depth c xs ys q r) (λ xs ys q r. chained_can depth c xs ys q r)) g.0 g.1 a g.3 in
       (x.0, closing_proper (if_word unless) g.1 us x.1 g.4)
   stmt_can (suc depth) (each e key ns b c) ts us p g =
       let a = mark_proper k.OpenBlock (after_silent ts) g.0 (silent_proper ts p) g.2 in
       let x = each_can depth e key ns b c (λ xs ys. AreStmts depth xs b ys) (λ xs ys. IsElse (λ zs. AreStmts depth zs c) (λ zs. IsChained depth zs c) xs c ys) (λ xs ys q r. body_can depth b xs ys q r)
-        (else_can depth c (λ zs. AreStmts depth zs c) (λ zs. IsChained depth zs c) (λ xs ys q r. body_can depth c xs ys q r) (λ xs ys q r. chained_can depth c xs ys q r)) g.0 g.1 a g.3 in
+      (else_can depth c (λ zs. AreStmts depth zs c) (λ zs. IsChained depth zs c) (λ xs ys q r. body_can depth c xs ys q r) (λ xs ys q r. chained_can depth c xs ys q r)) g.0 g.1 a g.3 in
       (x.0, closing_proper (codes "each") g.1 us x.1 g.4)
   stmt_can (suc depth) (let_stmt es ns b) ts us p g =
       let a = mark_proper k.OpenBlock (after_silent ts) g.0 (silent_proper ts p) g.2 in
@@ -247,11 +247,11 @@ mutual
   chained_can (suc depth) end ts us p g = absurd g
   chained_can (suc depth) (stmt (if_stmt e unless b c) end) ts us p g =
       let x = if_can depth e unless b c (λ xs ys. AreStmts depth xs b ys) (λ xs ys. IsElse (λ zs. AreStmts depth zs c) (λ zs. IsChained depth zs c) xs c ys) (λ xs ys q r. body_can depth b xs ys q r)
-        (else_can depth c (λ zs. AreStmts depth zs c) (λ zs. IsChained depth zs c) (λ xs ys q r. body_can depth c xs ys q r) (λ xs ys q r. chained_can depth c xs ys q r)) ts us p g in
+      (else_can depth c (λ zs. AreStmts depth zs c) (λ zs. IsChained depth zs c) (λ xs ys q r. body_can depth c xs ys q r) (λ xs ys q r. chained_can depth c xs ys q r)) ts us p g in
       ((x.0, tt), x.1)
   chained_can (suc depth) (stmt (each e key ns b c) end) ts us p g =
       let x = each_can depth e key ns b c (λ xs ys. AreStmts depth xs b ys) (λ xs ys. IsElse (λ zs. AreStmts depth zs c) (λ zs. IsChained depth zs c) xs c ys) (λ xs ys q r. body_can depth b xs ys q r)
-        (else_can depth c (λ zs. AreStmts depth zs c) (λ zs. IsChained depth zs c) (λ xs ys q r. body_can depth c xs ys q r) (λ xs ys q r. chained_can depth c xs ys q r)) ts us p g in
+      (else_can depth c (λ zs. AreStmts depth zs c) (λ zs. IsChained depth zs c) (λ xs ys q r. body_can depth c xs ys q r) (λ xs ys q r. chained_can depth c xs ys q r)) ts us p g in
       ((x.0, tt), x.1)
   chained_can (suc depth) (stmt (let_stmt es ns b) end) ts us p g =
       let x = let_can depth es ns b (λ xs ys. AreStmts depth xs b ys) (λ xs ys q r. body_can depth b xs ys q r) ts us p g in

@@ -56,10 +56,10 @@ after_char c p d ds rest low =
     char_bytes (λ bs. after (c ∷ p) ((bs ++ bytes_of ds) ++ rest) ≡ cond (eqb c d) (after p (bytes_of ds ++ rest)) None) d
     (λ l. refl)
     (λ b bs h g.
-      let high = (both (not (ltb b 128)) (all_high bs) g).0 in
-      let x : eqb c b ≡ false = grind (arith, nat_tests) in
-      let y : eqb c d ≡ false = grind (arith, nat_tests) in
-      rw (x, y) refl)
+    let high = (both (not (ltb b 128)) (all_high bs) g).0 in
+    let x : eqb c b ≡ false = grind (arith, nat_tests) in
+    let y : eqb c d ≡ false = grind (arith, nat_tests) in
+    rw (x, y) refl)
 
 -- the end of a comment is not found before it stands there
 no_sign : (cs rest : List ℕ) → begins (codes ">") cs ≡ false → begins (codes ">") (bytes_of cs ++ (45 ∷ 45 ∷ 62 ∷ rest)) ≡ false
@@ -128,28 +128,40 @@ all_as p q h (c ∷ cs) a = let k = both (p c) (list_all p cs) a in let n = h c 
 
 pub small_low : (b : ℕ) → is_small b ≡ true → b < 128
 small_low b e = grind (arith, nat_tests)
+
 pub tag_low : (b : ℕ) → in_tag b ≡ true → b < 128
 tag_low b e = grind (arith, nat_tests)
+
 capital_low : (b : ℕ) → is_capital b ≡ true → b < 128
 capital_low b e = grind (arith, nat_tests)
+
 class_low : (b : ℕ) → in_class b ≡ true → b < 128
 class_low b e = grind (arith, nat_tests)
+
 no_tag : (b : ℕ) → goes_on_name b ≡ false → in_tag b ≡ false
 no_tag b e = grind (arith, nat_tests)
+
 no_class : (b : ℕ) → goes_on_name b ≡ false → in_class b ≡ false
 no_class b e = grind (arith, nat_tests)
+
 small_letter : (b : ℕ) → is_small b ≡ true → is_letter b ≡ true
 small_letter b e = grind (arith, nat_tests)
+
 capital_letter : (b : ℕ) → is_capital b ≡ true → is_letter b ≡ true
 capital_letter b e = grind (arith, nat_tests)
+
 small_kept : (b : ℕ) → is_small b ≡ true → not (ends_tag_name b) ≡ true
 small_kept b e = grind (arith, nat_tests)
+
 tag_kept : (b : ℕ) → in_tag b ≡ true → not (ends_tag_name b) ≡ true
 tag_kept b e = grind (arith, nat_tests)
+
 capital_kept : (b : ℕ) → is_capital b ≡ true → not (ends_tag_name b) ≡ true
 capital_kept b e = grind (arith, nat_tests)
+
 class_kept : (b : ℕ) → in_class b ≡ true → not (ends_tag_name b) ≡ true
 class_kept b e = grind (arith, nat_tests)
+
 capital_not_small : (b : ℕ) → is_capital b ≡ true → is_small b ≡ false
 capital_not_small b e = grind (arith, nat_tests)
 
@@ -214,11 +226,11 @@ part_names (c ∷ cs) ps w ws =
     let k = both (is_capital c) (list_all in_class cs) w in
     let small = capital_not_small c k.0 in (
       λ rest s.
-        let no : after_tag (c ∷ ((cs ++ class_rest ps) ++ rest)) ≡ None = rw small refl in
-        ap (λ o. or_else o (after_class_part (c ∷ ((cs ++ class_rest ps) ++ rest)) >>= after_parts)) no
-        ∙ ap (λ l. after_class_part (c ∷ l) >>= after_parts) (append_assoc cs (class_rest ps) rest)
-        ∙ ap (λ o. o >>= after_parts) (word_then is_capital in_class (c ∷ cs) (class_rest ps ++ rest) w (class_stops ps rest s))
-        ∙ ap Some (classes_then ps rest ws s),
+          let no : after_tag (c ∷ ((cs ++ class_rest ps) ++ rest)) ≡ None = rw small refl in
+          ap (λ o. or_else o (after_class_part (c ∷ ((cs ++ class_rest ps) ++ rest)) >>= after_parts)) no
+          ∙ ap (λ l. after_class_part (c ∷ l) >>= after_parts) (append_assoc cs (class_rest ps) rest)
+          ∙ ap (λ o. o >>= after_parts) (word_then is_capital in_class (c ∷ cs) (class_rest ps ++ rest) w (class_stops ps rest s))
+          ∙ ap Some (classes_then ps rest ws s),
       ascii_append (c ∷ cs) (class_rest ps) (word_low is_capital in_class capital_low class_low (c ∷ cs) w) (class_ascii ps ws),
       capital_letter c k.0,
       all_join (λ b. not (ends_tag_name b)) (c ∷ cs) (class_rest ps) (word_as is_capital in_class (λ b. not (ends_tag_name b)) capital_kept class_kept (c ∷ cs) w) (class_all_kept ps ws),

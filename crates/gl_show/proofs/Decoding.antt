@@ -24,15 +24,15 @@ white_cases P a b d e f c w =
     elim (one_of (c == 32 || c == 9 || c == 10 || c == 12) (c == 13) w) [
       | inr h ↦ let s : 13 ≡ c = grind (arith, nat_tests) in subst P s f
       | inl h4 ↦ elim (one_of (c == 32 || c == 9 || c == 10) (c == 12) h4) [
-          | inr h ↦ let s : 12 ≡ c = grind (arith, nat_tests) in subst P s e
-          | inl h3 ↦ elim (one_of (c == 32 || c == 9) (c == 10) h3) [
-              | inr h ↦ let s : 10 ≡ c = grind (arith, nat_tests) in subst P s d
-              | inl h2 ↦ elim (one_of (c == 32) (c == 9) h2) [
-                  | inr h ↦ let s : 9 ≡ c = grind (arith, nat_tests) in subst P s b
-                  | inl h ↦ let s : 32 ≡ c = grind (arith, nat_tests) in subst P s a
-                ]
-            ]
+        | inr h ↦ let s : 12 ≡ c = grind (arith, nat_tests) in subst P s e
+        | inl h3 ↦ elim (one_of (c == 32 || c == 9) (c == 10) h3) [
+          | inr h ↦ let s : 10 ≡ c = grind (arith, nat_tests) in subst P s d
+          | inl h2 ↦ elim (one_of (c == 32) (c == 9) h2) [
+            | inr h ↦ let s : 9 ≡ c = grind (arith, nat_tests) in subst P s b
+            | inl h ↦ let s : 32 ≡ c = grind (arith, nat_tests) in subst P s a
+          ]
         ]
+      ]
     ]
 
 -- how a character is written: its own reference is decoded, and no character of it ends the text
@@ -53,15 +53,19 @@ text_writes c s = and_case (c == 38) refl
   where
     same : (P : ℕ → Type 0) (n : ℕ) → (c == n) ≡ true → P n → P c
     same P n e p = let k : n ≡ c = grind (arith, nat_tests) in subst P k p
+
     back_case : (t : Bool) → (c == 92) ≡ t → (c == 38) ≡ false → (c == 60) ≡ false → (c == 123) ≡ false → Writes in_content c (if t then codes "&#92;" else c ∷ [])
     back_case true e a b d = same (λ n. Writes in_content n (codes "&#92;")) 92 e (λ rest. refl, refl, refl, refl)
     back_case false e a b d = itself in_content c a (rw (b, d, e) refl) s
+
     brace_case : (t : Bool) → (c == 123) ≡ t → (c == 38) ≡ false → (c == 60) ≡ false → Writes in_content c (if t then codes "&#123;" else (if c == 92 then codes "&#92;" else c ∷ []))
     brace_case true e a b = same (λ n. Writes in_content n (codes "&#123;")) 123 e (λ rest. refl, refl, refl, refl)
     brace_case false e a b = back_case (c == 92) refl a b e
+
     less_case : (t : Bool) → (c == 60) ≡ t → (c == 38) ≡ false → Writes in_content c (if t then codes "&lt;" else (if c == 123 then codes "&#123;" else (if c == 92 then codes "&#92;" else c ∷ [])))
     less_case true e a = same (λ n. Writes in_content n (codes "&lt;")) 60 e (λ rest. refl, refl, refl, refl)
     less_case false e a = brace_case (c == 123) refl a e
+
     and_case : (t : Bool) → (c == 38) ≡ t → Writes in_content c (if t then codes "&amp;" else (if c == 60 then codes "&lt;" else (if c == 123 then codes "&#123;" else (if c == 92 then codes "&#92;" else c ∷ []))))
     and_case true e = same (λ n. Writes in_content n (codes "&amp;")) 38 e (λ rest. refl, refl, refl, refl)
     and_case false e = less_case (c == 60) refl e
@@ -72,15 +76,19 @@ value_writes c s = and_case (c == 38) refl
   where
     same : (P : ℕ → Type 0) (n : ℕ) → (c == n) ≡ true → P n → P c
     same P n e p = let k : n ≡ c = grind (arith, nat_tests) in subst P k p
+
     back_case : (t : Bool) → (c == 92) ≡ t → (c == 38) ≡ false → (c == 34) ≡ false → (c == 123) ≡ false → Writes in_value c (if t then codes "&#92;" else c ∷ [])
     back_case true e a b d = same (λ n. Writes in_value n (codes "&#92;")) 92 e (λ rest. refl, refl, refl, refl)
     back_case false e a b d = itself in_value c a (rw (b, d, e) refl) s
+
     brace_case : (t : Bool) → (c == 123) ≡ t → (c == 38) ≡ false → (c == 34) ≡ false → Writes in_value c (if t then codes "&#123;" else (if c == 92 then codes "&#92;" else c ∷ []))
     brace_case true e a b = same (λ n. Writes in_value n (codes "&#123;")) 123 e (λ rest. refl, refl, refl, refl)
     brace_case false e a b = back_case (c == 92) refl a b e
+
     quote_case : (t : Bool) → (c == 34) ≡ t → (c == 38) ≡ false → Writes in_value c (if t then codes "&quot;" else (if c == 123 then codes "&#123;" else (if c == 92 then codes "&#92;" else c ∷ [])))
     quote_case true e a = same (λ n. Writes in_value n (codes "&quot;")) 34 e (λ rest. refl, refl, refl, refl)
     quote_case false e a = brace_case (c == 123) refl a e
+
     and_case : (t : Bool) → (c == 38) ≡ t → Writes in_value c (if t then codes "&amp;" else (if c == 34 then codes "&quot;" else (if c == 123 then codes "&#123;" else (if c == 92 then codes "&#92;" else c ∷ []))))
     and_case true e = same (λ n. Writes in_value n (codes "&amp;")) 38 e (λ rest. refl, refl, refl, refl)
     and_case false e = quote_case (c == 34) refl e
@@ -123,12 +131,12 @@ text_char_cases : (P : Text → Type 0) (c : ℕ) → P (codes "&amp;") → P (c
 text_char_cases P c p q r s t = elim (c == 38) as (λ b. P (if b then codes "&amp;" else (if c == 60 then codes "&lt;" else (if c == 123 then codes "&#123;" else (if c == 92 then codes "&#92;" else c ∷ []))))) [
   | true ↦ p
   | false ↦ elim (c == 60) as (λ b. P (if b then codes "&lt;" else (if c == 123 then codes "&#123;" else (if c == 92 then codes "&#92;" else c ∷ [])))) [
-      | true ↦ q
-      | false ↦ elim (c == 123) as (λ b. P (if b then codes "&#123;" else (if c == 92 then codes "&#92;" else c ∷ []))) [
-          | true ↦ r
-          | false ↦ elim (c == 92) as (λ b. P (if b then codes "&#92;" else c ∷ [])) [ true ↦ s | false ↦ t ]
-        ]
+    | true ↦ q
+    | false ↦ elim (c == 123) as (λ b. P (if b then codes "&#123;" else (if c == 92 then codes "&#92;" else c ∷ []))) [
+      | true ↦ r
+      | false ↦ elim (c == 92) as (λ b. P (if b then codes "&#92;" else c ∷ [])) [ true ↦ s | false ↦ t ]
     ]
+  ]
 ]
 
 pub ends_append : (xs ys : Text) → is_empty_text ys ≡ false → EndsTight ys → EndsTight (xs ++ ys)

@@ -65,11 +65,13 @@ lexed_token {P} mode next tag after kind b piece rest tight is u clean goes l at
     let same : chars (take (width (b ∷ (piece ++ rest)) (kind, rest, next)) (b ∷ (piece ++ rest))) ≡ chars (b ∷ piece) = ap (λ n. chars (take n (b ∷ (piece ++ rest)))) size ∙ ap chars (take_front (b ∷ piece) rest) in
     let steps = token_steps mode (b ∷ (piece ++ rest)) (kind, rest, next) is in
     let read : read_from mode 0 at (b ∷ (piece ++ rest)) ≡ Some (token_at at (b ∷ (piece ++ rest)) (kind, rest, next) ∷ r.0) =
-    read_token mode at (b ∷ (piece ++ rest)) (kind, rest, next) tight is steps ∙ ap (λ o. o >>= λ ts. Some (token_at at (b ∷ (piece ++ rest)) (kind, rest, next) ∷ ts)) r.1 in
-    (token_at at (b ∷ (piece ++ rest)) (kind, rest, next) ∷ r.0, read,
-     (subst (λ (x : Text). IsCleanText (is_text kind) tag x) (sym same) clean, subst (λ (x : Bool). IsClean x r.0) (sym goes) r.2),
-     IsUtf8-append (b ∷ piece) rest u r.3,
-     (r.0, (token_at at (b ∷ (piece ++ rest)) (kind, rest, next), refl, refl, same), r.4))
+    read_token mode at (b ∷ (piece ++ rest)) (kind, rest, next) tight is steps ∙ ap (λ o. o >>= λ ts. Some (token_at at (b ∷ (piece ++ rest)) (kind, rest, next) ∷ ts)) r.1 in (
+      token_at at (b ∷ (piece ++ rest)) (kind, rest, next) ∷ r.0,
+      read,
+      (subst (λ (x : Text). IsCleanText (is_text kind) tag x) (sym same) clean, subst (λ (x : Bool). IsClean x r.0) (sym goes) r.2),
+      IsUtf8-append (b ∷ piece) rest u r.3,
+      (r.0, (token_at at (b ∷ (piece ++ rest)) (kind, rest, next), refl, refl, same), r.4),
+    )
 
 -- white space between tokens
 pub lexed_blank : {P : List Token → Type 0} (mode : Mode) (tag : Bool) (rest : List ℕ) → skips_white mode ≡ true → Lexed (spaced mode) tag rest P → Lexed mode tag (32 ∷ rest) P

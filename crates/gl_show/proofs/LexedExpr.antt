@@ -18,7 +18,7 @@ use Rattle.gl_ast.specs.Modes.{Found, expression_token, token, skips_white}
 use Rattle.gl_ast.specs.Settling.{is_text, opens_tag, closes_tag}
 use Rattle.gl_ast.specs.Template.{Plain, Expr, literal, this, argument, bare, call, cat, Exprs, no_exprs, expr, NamedExprs, no_named, named_expr}
 use Rattle.gl_ast.specs.TokenReading.{stands_white}
-use Rattle.gl_ast.specs.TokenText.{names_of, is_free, integer_of, string_of}
+use Rattle.gl_ast.specs.TokenText.{names_of, is_free, whole_of, string_of}
 use Rattle.gl_ast.specs.Words.{greatest}
 use Rattle.gl_ast.specs.declared.mode.Mode.{Mode}
 use Rattle.gl_ast.specs.declared.token.Token.{Token}
@@ -30,7 +30,7 @@ use Rattle.gl_show.specs.Spellable.{is_word, is_name, is_segment, IsFreeName, Is
 use Rattle.gl_show.proofs.Edges.{last_backslash}
 use Rattle.gl_show.proofs.ExprTokens.{ReadsExprs, Breaks, path_token, argument_token, number_token, minus_token, string_token, open_token, close_token, equals_token}
 use Rattle.gl_show.proofs.Lexed.{Lexed, Then, lexed_as, lexed_bytes, lexed_plain, lexed_blank, marked}
-use Rattle.gl_show.proofs.Numbers.{IsNumber, within_number, digits_ascii, integer_read}
+use Rattle.gl_show.proofs.Numbers.{IsNumber, within_number, digits_ascii, whole_read}
 use Rattle.gl_show.proofs.Scanning.{one_of, bytes_then, all_low, name_ascii}
 use Rattle.gl_show.proofs.Strings.{string_is, string_spelled}
 
@@ -221,13 +221,13 @@ lexed_literal mode reads tag (v.boolean false) rest can b l = lexed_codes mode r
 lexed_literal {P} mode reads tag (v.integer (pos n)) rest can b l =
     let is = within_number n can in
     lexed_last mode tag (decimal n) rest (digits_ascii (decimal n) is.0)
-    (lexed_as mode tag (decimal n ++ rest) (λ ts h. stands_as k.Number (λ x. x ≡ decimal n) (λ x. integer_of x ≡ pos n) ts (λ x e. ap integer_of e ∙ integer_read (pos n) can) h)
+    (lexed_as mode tag (decimal n ++ rest) (λ ts h. stands_as k.Number (λ x. x ≡ decimal n) (λ x. whole_of x ≡ Some (pos n)) ts (λ x e. ap whole_of e ∙ whole_read (pos n) can) h)
     (lexed_digits mode reads tag n (decimal n) rest is can b l))
 lexed_literal {P} mode reads tag (v.integer (negsuc n)) rest can b l =
     let is = within_number (suc n) can in
     let low : is_ascii_text (45 ∷ decimal (suc n)) ≡ true = digits_ascii (decimal (suc n)) is.0 in
     lexed_last mode tag (45 ∷ decimal (suc n)) rest low
-    (lexed_as mode tag (45 ∷ (decimal (suc n) ++ rest)) (λ ts h. stands_as k.Number (λ x. x ≡ 45 ∷ decimal (suc n)) (λ x. integer_of x ≡ negsuc n) ts (λ x e. ap integer_of e ∙ integer_read (negsuc n) can) h)
+    (lexed_as mode tag (45 ∷ (decimal (suc n) ++ rest)) (λ ts h. stands_as k.Number (λ x. x ≡ 45 ∷ decimal (suc n)) (λ x. whole_of x ≡ Some (negsuc n)) ts (λ x e. ap whole_of e ∙ whole_read (negsuc n) can) h)
     (lexed_minus mode reads tag (suc n) (decimal (suc n)) rest is can b l))
 lexed_literal mode reads tag (v.text s) rest can b l = lexed_string mode reads tag s rest can l
 lexed_literal mode reads tag _ rest can b l = absurd can

@@ -101,8 +101,8 @@ lexed_between {P} depth after_text s b rest l = comment_case (after_text && is_t
     comment_case true =
         lexed_as m.Content false (bytes_of (codes "{{!}}" ++ (stmt_text s ++ body_text (is_text_stmt s) b)) ++ rest)
         (λ ts h.
-          let e : after_silent ts ≡ h.0 = (let p = h.1.1 in let q = h.1.2 in rw p (rw q h.2.1.0)) in
-          (h.2.2.0, (h.2.0, subst (λ (xs : List Token). IsStmt depth xs s h.2.0) (sym e) h.2.1.1, h.2.2.1), h.2.2.2))
+        let e : after_silent ts ≡ h.0 = (let p = h.1.1 in let q = h.1.2 in rw p (rw q h.2.1.0)) in
+        (h.2.2.0, (h.2.0, subst (λ (xs : List Token). IsStmt depth xs s h.2.0) (sym e) h.2.1.1, h.2.2.1), h.2.2.2))
         (lexed_low m.Content false (codes "{{!}}") (stmt_text s ++ body_text (is_text_stmt s) b) rest refl (lexed_silent (bytes_of (stmt_text s ++ body_text (is_text_stmt s) b) ++ rest) l))
 
 -- what a body stands before
@@ -148,12 +148,12 @@ if_name false = refl
 -- a body of a block, then its else
 bodies : {P : List Token → Type 0} (depth : ℕ) (b c : Body) (word : Text) (rest : List ℕ)
     → (Quiet (Then (λ ts us. IsElse (λ zs. AreStmts depth zs c) (λ zs. IsChained depth zs c) ts c us) (Then (λ ts us. IsClosing ts word us) P))
-       → text_ends (bytes_of (else_text c ++ closing_text word) ++ rest)
-       → Lexed m.Content false (bytes_of (else_text c ++ closing_text word) ++ rest) (Then (λ ts us. IsElse (λ zs. AreStmts depth zs c) (λ zs. IsChained depth zs c) ts c us) (Then (λ ts us. IsClosing ts word us) P))
-       → Lexed m.Content false (bytes_of (body_text false b) ++ (bytes_of (else_text c ++ closing_text word) ++ rest)) (Then (λ ts us. AreStmts depth ts b us) (Then (λ ts us. IsElse (λ zs. AreStmts depth zs c) (λ zs. IsChained depth zs c) ts c us) (Then (λ ts us. IsClosing ts word us) P))))
+    → text_ends (bytes_of (else_text c ++ closing_text word) ++ rest)
+    → Lexed m.Content false (bytes_of (else_text c ++ closing_text word) ++ rest) (Then (λ ts us. IsElse (λ zs. AreStmts depth zs c) (λ zs. IsChained depth zs c) ts c us) (Then (λ ts us. IsClosing ts word us) P))
+    → Lexed m.Content false (bytes_of (body_text false b) ++ (bytes_of (else_text c ++ closing_text word) ++ rest)) (Then (λ ts us. AreStmts depth ts b us) (Then (λ ts us. IsElse (λ zs. AreStmts depth zs c) (λ zs. IsChained depth zs c) ts c us) (Then (λ ts us. IsClosing ts word us) P))))
     → is_name word ≡ true → Lexed m.Content false rest P
     → (Quiet (Then (λ ts us. IsClosing ts word us) P) → text_ends (bytes_of (closing_text word) ++ rest) → Lexed m.Content false (bytes_of (closing_text word) ++ rest) (Then (λ ts us. IsClosing ts word us) P)
-       → Lexed m.Content false (bytes_of (body_text false c) ++ (bytes_of (closing_text word) ++ rest)) (Then (λ ts us. AreStmts depth ts c us) (Then (λ ts us. IsClosing ts word us) P)))
+    → Lexed m.Content false (bytes_of (body_text false c) ++ (bytes_of (closing_text word) ++ rest)) (Then (λ ts us. AreStmts depth ts c us) (Then (λ ts us. IsClosing ts word us) P)))
     → Lexed m.Content false (bytes_of (body_text false b ++ (else_text c ++ closing_text word)) ++ rest) (Then (λ ts us. AreStmts depth ts b us) (Then (λ ts us. IsElse (λ zs. AreStmts depth zs c) (λ zs. IsChained depth zs c) ts c us) (Then (λ ts us. IsClosing ts word us) P)))
 bodies {P} depth b c word rest body w l other =
     let closing = lexed_closing word rest w l in
@@ -172,12 +172,13 @@ bodies {P} depth b c word rest body w l other =
 -- an element, where its body is read
 lexed_element : {P : List Token → Type 0} (depth : ℕ) (tag : Text) (ps : List Part) (b : Body) (rest : List ℕ) → CanStmt (suc depth) (element tag ps b) → Lexed m.Content false rest P
     → (Quiet (Then (λ ts us. IsEndTag ts tag us) P) → text_ends (bytes_of (end_tag_text tag) ++ rest) → Lexed m.Content false (bytes_of (end_tag_text tag) ++ rest) (Then (λ ts us. IsEndTag ts tag us) P)
-       → Lexed m.Content false (bytes_of (body_text false b) ++ (bytes_of (end_tag_text tag) ++ rest)) (Then (λ ts us. AreStmts depth ts b us) (Then (λ ts us. IsEndTag ts tag us) P)))
+    → Lexed m.Content false (bytes_of (body_text false b) ++ (bytes_of (end_tag_text tag) ++ rest)) (Then (λ ts us. AreStmts depth ts b us) (Then (λ ts us. IsEndTag ts tag us) P)))
     → Lexed m.Content false (bytes_of (stmt_text (element tag ps b)) ++ rest) (Then (λ ts us. (after_silent ts ≡ ts) × IsStmt (suc depth) ts (element tag ps b) us) P)
 lexed_element {P} depth tag ps b rest can l body = void_case (is_void tag) refl
   where
     names : NamesElement tag
     names = tag_names tag can.0
+
     opening : {Q : List Token → Type 0} (xs : Text) → InTag (bytes_of xs ++ rest) Q → ((us : List Token) → Q us → after_comments us ≡ us) → Stops goes_on_name (bytes_of xs ++ rest)
         → Lexed m.Content false (bytes_of (60 ∷ (tag ++ (parts_text ps ++ xs))) ++ rest) (Then (Stands k.TagOpening (λ x. x ≡ 60 ∷ tag)) (Then (λ ts us. AreItems ts (map part_item ps) us) Q))
     opening {Q} xs more quiet s =
@@ -185,6 +186,7 @@ lexed_element {P} depth tag ps b rest can l body = void_case (is_void tag) refl
         lexed_low m.Content false (60 ∷ []) (tag ++ (parts_text ps ++ xs)) rest refl
         (subst (λ (x : List ℕ). Lexed m.Content false (60 ∷ x) (Then (Stands k.TagOpening (λ x. x ≡ 60 ∷ tag)) (Then (λ ts us. AreItems ts (map part_item ps) us) Q))) (sym (low2 tag (parts_text ps ++ xs) rest (word_low is_small in_tag small_low tag_low tag can.0)))
         (lexed_tag_opening tag (bytes_of (parts_text ps ++ xs) ++ rest) names (parts_stop ps xs rest s) items.0))
+
     void_case : (t : Bool) → is_void tag ≡ t
         → Lexed m.Content false (bytes_of (if t then 60 ∷ (tag ++ (parts_text ps ++ codes ">")) else 60 ∷ (tag ++ (parts_text ps ++ (62 ∷ (body_text false b ++ end_tag_text tag))))) ++ rest) (Then (λ ts us. (after_silent ts ≡ ts) × IsStmt (suc depth) ts (element tag ps b) us) P)
     void_case true v =
@@ -220,8 +222,14 @@ lexed_component {P} depth c ps given ss rest names can cans l =
     let items = tag_join (arguments_text given) (parts_text ps ++ slots_text c ss) rest (lexed_arguments given (map part_item ps) (bytes_of (parts_text ps ++ slots_text c ss) ++ rest) cans (tag_join (parts_text ps) (slots_text c ss) rest parts)) in
     let stop = arguments_stop given (parts_text ps ++ slots_text c ss) rest (parts_stop ps (slots_text c ss) rest (slots_stop c ss rest)) in
     lexed_as m.Content false (bytes_of (stmt_text (component_stmt c ps given ss)) ++ rest)
-    (λ ts h. (h.2.2.1.2.0, (stands_quiet k.TagOpening refl refl (λ x. x ≡ 60 ∷ c) ts h.0 h.1,
-      (argument_items given (map part_item ps), h.2.2.0, (h.0, h.2.0, h.2.2.1.0, (h.1.0, h.1.1, h.1.2, (h.1.3, class_leads c names)), h.2.1, items_parts given ps, items_arguments given ps, h.2.2.1.1, h.2.2.1.2.1))), h.2.2.1.2.2))
+    (λ ts h. (
+      h.2.2.1.2.0,
+      (
+        stands_quiet k.TagOpening refl refl (λ x. x ≡ 60 ∷ c) ts h.0 h.1,
+        (argument_items given (map part_item ps), h.2.2.0, (h.0, h.2.0, h.2.2.1.0, (h.1.0, h.1.1, h.1.2, (h.1.3, class_leads c names)), h.2.1, items_parts given ps, items_arguments given ps, h.2.2.1.1, h.2.2.1.2.1)),
+      ),
+      h.2.2.1.2.2,
+    ))
     (lexed_low m.Content false (60 ∷ []) (c ++ (arguments_text given ++ (parts_text ps ++ slots_text c ss))) rest refl
     (subst (λ (x : List ℕ). Lexed m.Content false (60 ∷ x) (Then (Stands k.TagOpening (λ x. x ≡ 60 ∷ c)) (Then (λ ts us. AreItems ts (argument_items given (map part_item ps)) us) (λ ts. (ns : List Text) × Then (λ xs us. AreParameters xs ns us) (Then (λ xs us. IsComponentRest depth xs c ns ss us) P) ts))))
     (sym (low2 c (arguments_text given ++ (parts_text ps ++ slots_text c ss)) rest (names_ascii c (class_names c names))))
@@ -238,7 +246,7 @@ lexed_if {P} depth x unless b c rest can l =
     let value = lexed_join (m.Mustache a.Content) false (expr_text x) (codes "}}" ++ tail) rest (lexed_expr (m.Mustache a.Content) reads false deepest_calls x (bytes_of (codes "}}" ++ tail) ++ rest) can (head_breaks tail rest) ends) in
     let blank = lexed_low (m.Mustache a.Content) false (32 ∷ []) (expr_text x ++ (codes "}}" ++ tail)) rest refl (expr_blank (m.Mustache a.Content) reads false (bytes_of (expr_text x ++ (codes "}}" ++ tail)) ++ rest) value) in
     let bw : Breaks (bytes_of (32 ∷ (expr_text x ++ (codes "}}" ++ tail))) ++ rest) = breaks_low (32 ∷ []) (expr_text x ++ (codes "}}" ++ tail)) rest refl (blank_breaks (bytes_of (expr_text x ++ (codes "}}" ++ tail)) ++ rest)
-      (subst (λ (y : List ℕ). Opens y) (sym (join2 (expr_text x) (codes "}}" ++ tail) rest)) (opens_expr deepest_calls x (bytes_of (codes "}}" ++ tail) ++ rest) can))) in
+    (subst (λ (y : List ℕ). Opens y) (sym (join2 (expr_text x) (codes "}}" ++ tail) rest)) (opens_expr deepest_calls x (bytes_of (codes "}}" ++ tail) ++ rest) can))) in
     let word = lexed_low (m.Mustache a.Content) false (if_word unless) (32 ∷ (expr_text x ++ (codes "}}" ++ tail))) rest (name_ascii (if_word unless) (if_name unless)) (lexed_word (m.Mustache a.Content) reads false (if_word unless) (bytes_of (32 ∷ (expr_text x ++ (codes "}}" ++ tail))) ++ rest) (if_name unless) bw blank) in
     lexed_as m.Content false (bytes_of (stmt_text (if_stmt x unless b c)) ++ rest)
     (λ ts h. (h.2.2.2.2.2.2.0, (mark_quiet k.OpenBlock refl refl ts h.0 h.1, (h.0, h.2.2.2.2.2.0, h.1, (h.2.0, h.2.2.0, h.2.2.2.0, h.2.2.2.2.0, h.2.1, h.2.2.1, h.2.2.2.1, h.2.2.2.2.1, h.2.2.2.2.2.1), h.2.2.2.2.2.2.1)), h.2.2.2.2.2.2.2))
@@ -257,10 +265,16 @@ lexed_each {P} depth x key ns b c rest can str free few l =
     let after_expr = codes " key=" ++ (string_text key ++ (parameters_text ns ++ (codes "}}" ++ tail))) in
     let value = lexed_join (m.Mustache a.Content) false (expr_text x) after_expr rest (lexed_expr (m.Mustache a.Content) reads false deepest_calls x (bytes_of after_expr ++ rest) can (key_breaks key (parameters_text ns ++ (codes "}}" ++ tail)) rest) keyed) in
     let bw : Breaks (32 ∷ (bytes_of (expr_text x ++ after_expr) ++ rest)) = blank_breaks (bytes_of (expr_text x ++ after_expr) ++ rest)
-      (subst (λ (y : List ℕ). Opens y) (sym (join2 (expr_text x) after_expr rest)) (opens_expr deepest_calls x (bytes_of after_expr ++ rest) can)) in
+    (subst (λ (y : List ℕ). Opens y) (sym (join2 (expr_text x) after_expr rest)) (opens_expr deepest_calls x (bytes_of after_expr ++ rest) can)) in
     lexed_as m.Content false (bytes_of (stmt_text (each x key ns b c)) ++ rest)
-    (λ ts h. (h.2.2.2.2.2.2.2.2.0, (mark_quiet k.OpenBlock refl refl ts h.0 h.1,
-      (h.0, h.2.2.2.2.2.2.2.0, h.1, (few, (h.2.0, h.2.2.0, h.2.2.2.0, h.2.2.2.2.0, h.2.2.2.2.2.0, h.2.2.2.2.2.2.0, h.2.1, h.2.2.1, h.2.2.2.1, h.2.2.2.2.1, h.2.2.2.2.2.1, h.2.2.2.2.2.2.1, h.2.2.2.2.2.2.2.1)), h.2.2.2.2.2.2.2.2.1)), h.2.2.2.2.2.2.2.2.2))
+    (λ ts h. (
+      h.2.2.2.2.2.2.2.2.0,
+      (
+        mark_quiet k.OpenBlock refl refl ts h.0 h.1,
+        (h.0, h.2.2.2.2.2.2.2.0, h.1, (few, (h.2.0, h.2.2.0, h.2.2.2.0, h.2.2.2.2.0, h.2.2.2.2.2.0, h.2.2.2.2.2.2.0, h.2.1, h.2.2.1, h.2.2.2.1, h.2.2.2.2.1, h.2.2.2.2.2.1, h.2.2.2.2.2.2.1, h.2.2.2.2.2.2.2.1)), h.2.2.2.2.2.2.2.2.1),
+      ),
+      h.2.2.2.2.2.2.2.2.2,
+    ))
     (lexed_low m.Content false (codes "{{#each ") (expr_text x ++ after_expr) rest refl
     (lexed_block (codes "each" ++ (32 ∷ (bytes_of (expr_text x ++ after_expr) ++ rest)))
     (lexed_word (m.Mustache a.Content) reads false (codes "each") (32 ∷ (bytes_of (expr_text x ++ after_expr) ++ rest)) refl bw

@@ -75,6 +75,7 @@ lexed_inner {P} mode reads tag (call n es ns) rest can b l = call_case (has_argu
   where
     lone_call : (xs : Exprs) (ys : NamedExprs) → xs ≡ no_exprs → ys ≡ no_named → CanExpr deepest_calls (call n xs ys)
     lone_call xs ys e f = rw (e, f) (can.0, tt, tt)
+
     call_case : (t : Bool) → has_argument es ns ≡ t → Lexed mode tag (bytes_of (if t then n ++ (exprs_text es ++ named_text ns) else expr_text (call n es ns)) ++ rest) (Then (λ ts us. IsInner ts (call n es ns) us) P)
     call_case true e =
         lexed_as mode tag (bytes_of (n ++ (exprs_text es ++ named_text ns)) ++ rest) (λ ts h. (h.0, inr (h.1, e), h.2)) (lexed_call mode reads tag n es ns rest can b l)
@@ -175,6 +176,7 @@ part_ends near (literal (v.text s)) l h n =
     never : (t : Bool) → (not t && false) ≡ false
     never true = refl
     never false = refl
+
     plain_case : (t : Bool) → t ≡ false → quote_ends (bytes_of (if t then value_text s else mustache_text (literal (v.text s))) ++ l)
     plain_case true e = cc
     plain_case false e = mustache_ends (literal (v.text s)) l

@@ -119,6 +119,7 @@ written_needs before (literal (v.text s)) f h n = needs_case (ends_backslash s) 
         never true true = refl
         never true false = refl
         never false y = refl
+
     needs_case : (t : Bool) → ends_backslash s ≡ t → (t || (not (is_empty_text s) && not (before || is_string f))) ≡ true → (t && needs_text f) ≡ false → needs_text f ≡ false
     needs_case true e g k = k
     needs_case false e g k = no_string f (off (is_string f) g)

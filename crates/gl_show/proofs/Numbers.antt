@@ -8,7 +8,7 @@ use Rattle.std.proofs.lemmas.Fmt.{decimal_by_steps}
 use Rattle.gl_base.specs.Answers.{◌>>=◌}
 use Rattle.gl_base.specs.Texts.{is_ascii_text}
 use Rattle.gl_ast.specs.Marks.{is_digit, in_name}
-use Rattle.gl_ast.specs.TokenText.{integer_of}
+use Rattle.gl_ast.specs.TokenText.{integer_of, magnitude_of, whole_of}
 use Rattle.gl_ast.specs.Words.{read_part, number_from, after_digits, goes_on, fits, greatest, if_number, after_natural, after_number}
 use Rattle.gl_ast.proofs.Forward.{both}
 use Rattle.gl_show.specs.Spellable.{is_word, is_within}
@@ -101,6 +101,18 @@ small n limit k h = grind (arith, nat_tests)
 pub within_number : (n : ℕ) → nat_le n greatest ≡ true → IsNumber n (decimal n)
 within_number n h = decimal_number n (small n greatest (lit< tt) h)
 
-pub integer_read : (z : ℤ) → is_within z ≡ true → integer_of (signed_decimal z) ≡ z
+integer_read : (z : ℤ) → is_within z ≡ true → integer_of (signed_decimal z) ≡ z
 integer_read (pos n) h = natural_of n (decimal n) (within_number n h)
 integer_read (negsuc n) h = ap (λ m. pos 0 -ℤ pos m) (within_number (suc n) h).1 ∙ less n
+
+-- and its bound is kept
+natural_size : (n : ℕ) (ds : List ℕ) → IsNumber n ds → magnitude_of ds ≡ n
+natural_size n [] is = let w = is.0 in cc
+natural_size n (c ∷ cs) is = let e = digit_no_sign c (both (is_digit c) (list_all is_digit cs) is.0).0 in rw e is.1
+
+size_read : (z : ℤ) → is_within z ≡ true → nat_le (magnitude_of (signed_decimal z)) greatest ≡ true
+size_read (pos n) h = ap (λ m. nat_le m greatest) (natural_size n (decimal n) (within_number n h)) ∙ h
+size_read (negsuc n) h = ap (λ m. nat_le m greatest) (within_number (suc n) h).1 ∙ h
+
+pub whole_read : (z : ℤ) → is_within z ≡ true → whole_of (signed_decimal z) ≡ Some z
+whole_read z h = ap (λ b. cond b (Some (integer_of (signed_decimal z))) None) (size_read z h) ∙ ap Some (integer_read z h)

@@ -270,7 +270,8 @@ reads_proper _ _ _ _ u (passes {mode} {at} {b} {bs} {list} white more) = reads_p
 reads_proper _ _ _ _ u (reads {mode} {at} {bs} {list} f tight l more) =
     let is = longest_token mode bs f l in
     let s = token_steps mode bs f is in
-    let part : IsUtf8 (read_part bs f.1) = IsUtf8-take bs (length bs - length f.1) u (token_border bs f.1 u s) in
-    (token_proper mode bs f is part,
-     λ t. (let h = text_then mode bs f is t in first_no_text f.2 (at + width bs f) f.1 list h.0 h.1 more),
-     reads_proper f.2 (at + width bs f) f.1 list (s.3 u) more)
+    let part : IsUtf8 (read_part bs f.1) = IsUtf8-take bs (length bs - length f.1) u (token_border bs f.1 u s) in (
+      token_proper mode bs f is part,
+      λ t. (let h = text_then mode bs f is t in first_no_text f.2 (at + width bs f) f.1 list h.0 h.1 more),
+      reads_proper f.2 (at + width bs f) f.1 list (s.3 u) more,
+    )

@@ -18,6 +18,7 @@ char_bytes P c low high = low_case (ltb c 128) refl
     some_case : (bs : List ℕ) → encode_utf8 c ≡ bs → 128 ≤ c → P bs
     some_case [] e h = let n = len_utf8_bounds c in absurd (omega (arith, n.0, length-encode c, ap length e))
     some_case (b ∷ bs) e h = high b bs h (ap all_high (sym e) ∙ high_bytes c h)
+
     low_case : (t : Bool) → ltb c 128 ≡ t → P (encode_utf8 c)
     low_case true e = let n : c < 128 = grind (arith, nat_tests) in subst P (sym (encode_ascii c n)) (low n)
     low_case false e = let n : 128 ≤ c = grind (arith, nat_tests) in some_case (encode_utf8 c) refl n
@@ -60,9 +61,9 @@ run_then plain ends ig c cs rest a e =
     char_bytes (λ bs. after_run ends ((bs ++ bytes_of cs) ++ rest) ≡ Some rest) c
     (λ low. let n = ig.0 c (bytes_of cs ++ rest) h.0 in rw n (ap Some more))
     (λ b bs g k.
-      let j = both (not (ltb b 128)) (all_high bs) k in
-      let n = ig.1 b ((bs ++ bytes_of cs) ++ rest) j.0 in
-      rw n (ap Some (ap (λ l. up_to_first ends l) (append_assoc bs (bytes_of cs) rest) ∙ high_run ends ig.1 bs (bytes_of cs ++ rest) j.1 ∙ more)))
+    let j = both (not (ltb b 128)) (all_high bs) k in
+    let n = ig.1 b ((bs ++ bytes_of cs) ++ rest) j.0 in
+    rw n (ap Some (ap (λ l. up_to_first ends l) (append_assoc bs (bytes_of cs) rest) ∙ high_run ends ig.1 bs (bytes_of cs ++ rest) j.1 ∙ more)))
 
 -- what a text of the content, and one of a value, is made of
 abbrev pub in_content : ℕ → Bool
@@ -74,27 +75,27 @@ in_value c = not (c == 34 || c == 123 || c == 92)
 pub content_ignores : Ignores in_content ends_text
 content_ignores = (
   (λ b bs p.
-    let x : eqb 60 b ≡ false = grind (arith, nat_tests) in
-    let y : eqb 123 b ≡ false = grind (arith, nat_tests) in
-    let z : eqb 92 b ≡ false = grind (arith, nat_tests) in
-    rw (x, y, z) refl),
+      let x : eqb 60 b ≡ false = grind (arith, nat_tests) in
+      let y : eqb 123 b ≡ false = grind (arith, nat_tests) in
+      let z : eqb 92 b ≡ false = grind (arith, nat_tests) in
+      rw (x, y, z) refl),
   (λ b bs p.
-    let x : eqb 60 b ≡ false = grind (arith, nat_tests) in
-    let y : eqb 123 b ≡ false = grind (arith, nat_tests) in
-    let z : eqb 92 b ≡ false = grind (arith, nat_tests) in
-    rw (x, y, z) refl),
+      let x : eqb 60 b ≡ false = grind (arith, nat_tests) in
+      let y : eqb 123 b ≡ false = grind (arith, nat_tests) in
+      let z : eqb 92 b ≡ false = grind (arith, nat_tests) in
+      rw (x, y, z) refl),
 )
 
 pub value_ignores : Ignores in_value (ends_quoted 34)
 value_ignores = (
   (λ b bs p.
-    let x : eqb 34 b ≡ false = grind (arith, nat_tests) in
-    let y : eqb 123 b ≡ false = grind (arith, nat_tests) in
-    let z : eqb 92 b ≡ false = grind (arith, nat_tests) in
-    rw (x, y, z) refl),
+      let x : eqb 34 b ≡ false = grind (arith, nat_tests) in
+      let y : eqb 123 b ≡ false = grind (arith, nat_tests) in
+      let z : eqb 92 b ≡ false = grind (arith, nat_tests) in
+      rw (x, y, z) refl),
   (λ b bs p.
-    let x : eqb 34 b ≡ false = grind (arith, nat_tests) in
-    let y : eqb 123 b ≡ false = grind (arith, nat_tests) in
-    let z : eqb 92 b ≡ false = grind (arith, nat_tests) in
-    rw (x, y, z) refl),
+      let x : eqb 34 b ≡ false = grind (arith, nat_tests) in
+      let y : eqb 123 b ≡ false = grind (arith, nat_tests) in
+      let z : eqb 92 b ≡ false = grind (arith, nat_tests) in
+      rw (x, y, z) refl),
 )

@@ -129,10 +129,12 @@ break_white b bs = ten_case (b == 10) refl
         same_case : (t : Bool) → eqb 10 c ≡ t → is_some (cond t (Some cs) None) ≡ true → list_all is_white (take 1 (c ∷ cs)) ≡ true
         same_case true h g = let w : is_white c ≡ true = grind (arith, nat_tests) in rw w refl
         same_case false h g = cc
+
     return_case : (t s : Bool) → (b == 13) ≡ t → begins (codes "\n") bs ≡ s → list_all is_white (take (cond (t && s) 2 0) (b ∷ bs)) ≡ true
     return_case true true e h = let w : is_white b ≡ true = grind (arith, nat_tests) in ap (λ x. x && list_all is_white (take 1 bs)) w ∙ line_first bs h
     return_case true false e h = refl
     return_case false s e h = refl
+
     ten_case : (t : Bool) → (b == 10) ≡ t → list_all is_white (take (cond t 1 (cond (b == 13 && begins (codes "\n") bs) 2 0)) (b ∷ bs)) ≡ true
     ten_case true e = let w = ten_white b e in rw w refl
     ten_case false e = return_case (b == 13) (begins (codes "\n") bs) refl refl
@@ -208,6 +210,7 @@ kept_text front back text before (c ∷ cs) place e p a =
     removed_case : (t : Bool) (n : ℕ) → scalar c ≡ true → c < 128 → IsKept front back text n (bytes_of cs) → (ds : Text) × (all_scalars ds ≡ true) × (cond t (kept_from front back text n (bytes_of cs)) (c ∷ kept_from front back text n (bytes_of cs)) ≡ bytes_of ds)
     removed_case true n s l more = more
     removed_case false n s l more = (c ∷ more.0, rw s more.1, ap (λ x. c ∷ x) more.2 ∙ ap (λ x. x ++ bytes_of more.0) (sym (encode_ascii c l)))
+
     low_case : (t : Bool) → ltb c 128 ≡ t → scalar c ≡ true → IsKept front back text (place + length (encode_utf8 c)) (bytes_of cs) → IsKept front back text place (encode_utf8 c ++ bytes_of cs)
     low_case true l s more =
         let n : c < 128 = grind (arith, nat_tests) in
@@ -254,10 +257,11 @@ token_proper bs tag front t ts p = text_case tag (is_text t.kind) refl
 
 pub settle_proper : (bs : List ℕ) (tag : Bool) (front : Edge) (ts : List Token) → AreProper ts → AreProper (settle_from bs tag front ts)
 settle_proper bs tag front [] p = tt
-settle_proper bs tag front (t ∷ ts) p =
-    (token_proper bs tag front t ts p.0,
-     λ e. settled_begins bs (within_tag tag t.kind) (edge_after bs tag front t ts) ts ∙ p.1 (ap is_text (sym (token_settled bs tag front t ts)) ∙ e),
-     settle_proper bs (within_tag tag t.kind) (edge_after bs tag front t ts) ts p.2)
+settle_proper bs tag front (t ∷ ts) p = (
+  token_proper bs tag front t ts p.0,
+  λ e. settled_begins bs (within_tag tag t.kind) (edge_after bs tag front t ts) ts ∙ p.1 (ap is_text (sym (token_settled bs tag front t ts)) ∙ e),
+  settle_proper bs (within_tag tag t.kind) (edge_after bs tag front t ts) ts p.2,
+)
 
 pub settled_proper : (bs : List ℕ) (ts : List Token) → AreProper ts → AreProper (settled bs ts)
 unfolding settled

@@ -86,10 +86,11 @@ pieces_within piece written Form moves shape (suc n) bs h = piece_case (piece bs
         let s = shape bs rest e in
         let st = moves bs rest e in
         let short : length rest ≤ n = omega (arith, ap length st.2, length-append st.1 rest) in
-        let more = again rest short in
-        (s.0 ∷ more.0,
-         s.1 ∙ ap (λ l. written s.0 ++ l) (more.1 ∙ ap (λ l. flat_map written more.0 ++ l) (sym (piece_step piece bs rest e st))) ∙ sym (append_assoc (written s.0) (flat_map written more.0) (after_pieces piece 0 bs)),
-         (s.2, more.2))
+        let more = again rest short in (
+          s.0 ∷ more.0,
+          s.1 ∙ ap (λ l. written s.0 ++ l) (more.1 ∙ ap (λ l. flat_map written more.0 ++ l) (sym (piece_step piece bs rest e st))) ∙ sym (append_assoc (written s.0) (flat_map written more.0) (after_pieces piece 0 bs)),
+          (s.2, more.2),
+        )
 
 pub pieces_shape : (piece : List ℕ → Option (List ℕ)) (written : List ℕ → List ℕ) (Form : List ℕ → Type 0) → Moves piece → PieceShape piece written Form → (bs : List ℕ)
     → (ss : List (List ℕ)) × (bs ≡ flat_map written ss ++ after_pieces piece 0 bs) × AllForm Form ss
@@ -127,10 +128,11 @@ path_shape bs rest e =
     let b = bind_some (after_head bs) after_segments rest e in
     let h = head_shape bs b.0 b.1 in
     let p = pieces_shape after_segment (λ s. 46 ∷ s) (λ s. is_segment s ≡ true) segment_moves segment_shape b.0 in
-    let same : after_pieces after_segment 0 b.0 ≡ rest = (let k = b.2 in cc) in
-    (h.0 ++ segments_text p.0,
-     h.1 ∙ ap (λ l. h.0 ++ l) (p.1 ∙ ap (λ l. segments_text p.0 ++ l) same) ∙ sym (append_assoc h.0 (segments_text p.0) rest),
-     (h.0, p.0, refl, h.2, all_tests is_segment p.0 p.2))
+    let same : after_pieces after_segment 0 b.0 ≡ rest = (let k = b.2 in cc) in (
+      h.0 ++ segments_text p.0,
+      h.1 ∙ ap (λ l. h.0 ++ l) (p.1 ∙ ap (λ l. segments_text p.0 ++ l) same) ∙ sym (append_assoc h.0 (segments_text p.0) rest),
+      (h.0, p.0, refl, h.2, all_tests is_segment p.0 p.2),
+    )
 
 -- a name that is not reserved
 start_no_at : (b : ℕ) → starts_name b ≡ true → eqb 64 b ≡ false
@@ -173,10 +175,11 @@ element_name_shape bs rest e = elim (either (after_tag bs) (after_class_part bs 
       let b = bind_some (after_class_part bs) after_parts rest h in
       let s = word_shape is_capital in_class bs b.0 b.1 in
       let p = pieces_shape after_more_class (λ q. 58 ∷ 58 ∷ q) (λ q. is_class_part q ≡ true) more_class_moves more_class_shape b.0 in
-      let same : after_pieces after_more_class 0 b.0 ≡ rest = (let k = b.2 in cc) in
-      (s.0 ++ class_rest p.0,
-       s.1 ∙ ap (λ l. s.0 ++ l) (p.1 ∙ ap (λ l. class_rest p.0 ++ l) same) ∙ sym (append_assoc s.0 (class_rest p.0) rest),
-       inr (s.0, p.0, s.2, all_tests is_class_part p.0 p.2, refl))
+      let same : after_pieces after_more_class 0 b.0 ≡ rest = (let k = b.2 in cc) in (
+        s.0 ++ class_rest p.0,
+        s.1 ∙ ap (λ l. s.0 ++ l) (p.1 ∙ ap (λ l. class_rest p.0 ++ l) same) ∙ sym (append_assoc s.0 (class_rest p.0) rest),
+        inr (s.0, p.0, s.2, all_tests is_class_part p.0 p.2, refl),
+      )
 ]
 
 pub tag_opening_shape : (bs rest : List ℕ) → after_tag_opening bs ≡ Some rest → Shaped (λ w. (n : List ℕ) × (w ≡ 60 ∷ n) × IsElementName n) bs rest
@@ -313,12 +316,13 @@ names_shape bs rest e =
     joined_names : (bs c b a rest : List ℕ) → Shaped (λ w. list_all is_white w ≡ true) bs (after_all is_white bs) → after_all is_white bs ≡ c → Shaped IsFreeName c b
         → ((ss : List (List ℕ)) × (b ≡ flat_map (λ s. s) ss ++ after_pieces after_spaced_name 0 b) × AllForm IsSpacedName ss) → after_pieces after_spaced_name 0 b ≡ a
         → Shaped (λ w. list_all is_white w ≡ true) a (after_all is_white a) → after_all is_white a ≡ rest → Shaped IsNamesText bs rest
-    joined_names bs c b a rest w w_is n p p_is v v_is =
-        (w.0 ++ (n.0 ++ (flat_map (λ s. s) p.0 ++ v.0)),
-         shape_more bs w.0 c (n.0 ++ (flat_map (λ s. s) p.0 ++ v.0)) rest (shape_is bs w.0 (after_all is_white bs) c w.1 w_is)
-         (shape_more c n.0 b (flat_map (λ s. s) p.0 ++ v.0) rest n.1
-         (shape_more b (flat_map (λ s. s) p.0) a v.0 rest (shape_is b (flat_map (λ s. s) p.0) (after_pieces after_spaced_name 0 b) a p.1 p_is) (shape_is a v.0 (after_all is_white a) rest v.1 v_is))),
-         (w.0, n.0, p.0, v.0, refl, w.2, n.2, p.2, v.2))
+    joined_names bs c b a rest w w_is n p p_is v v_is = (
+      w.0 ++ (n.0 ++ (flat_map (λ s. s) p.0 ++ v.0)),
+      shape_more bs w.0 c (n.0 ++ (flat_map (λ s. s) p.0 ++ v.0)) rest (shape_is bs w.0 (after_all is_white bs) c w.1 w_is)
+          (shape_more c n.0 b (flat_map (λ s. s) p.0 ++ v.0) rest n.1
+          (shape_more b (flat_map (λ s. s) p.0) a v.0 rest (shape_is b (flat_map (λ s. s) p.0) (after_pieces after_spaced_name 0 b) a p.1 p_is) (shape_is a v.0 (after_all is_white a) rest v.1 v_is))),
+      (w.0, n.0, p.0, v.0, refl, w.2, n.2, p.2, v.2),
+    )
 
 parameters_is : (sp x : List ℕ) → is_word is_white is_white sp ≡ true → IsNamesText x
     → (s y : List ℕ) × (codes "as" ++ (sp ++ (124 ∷ (x ++ 124 ∷ []))) ≡ codes "as" ++ (s ++ (124 ∷ (y ++ 124 ∷ [])))) × (is_word is_white is_white s ≡ true) × IsNamesText y
@@ -332,10 +336,11 @@ parameters_shape bs rest e =
     let c = bind_some (after (codes "as") bs >>= after_space) (after (codes "|")) b.0 b.1 in
     let d = bind_some (after (codes "as") bs) after_space c.0 c.1 in
     let s = word_shape is_white is_white d.0 c.0 d.2 in
-    let n = names_shape b.0 a.0 b.2 in
-    (codes "as" ++ (s.0 ++ (124 ∷ (n.0 ++ 124 ∷ []))),
-     shape_more bs (codes "as") d.0 (s.0 ++ (124 ∷ (n.0 ++ 124 ∷ []))) rest (after_is_front (codes "as") bs d.0 d.1)
-     (shape_more d.0 s.0 c.0 (124 ∷ (n.0 ++ 124 ∷ [])) rest s.1
-     (shape_more c.0 (124 ∷ []) b.0 (n.0 ++ 124 ∷ []) rest (after_is_front (codes "|") c.0 b.0 c.2)
-     (shape_more b.0 n.0 a.0 (124 ∷ []) rest n.1 (after_is_front (codes "|") a.0 rest a.2)))),
-     parameters_is s.0 n.0 s.2 n.2)
+    let n = names_shape b.0 a.0 b.2 in (
+      codes "as" ++ (s.0 ++ (124 ∷ (n.0 ++ 124 ∷ []))),
+      shape_more bs (codes "as") d.0 (s.0 ++ (124 ∷ (n.0 ++ 124 ∷ []))) rest (after_is_front (codes "as") bs d.0 d.1)
+          (shape_more d.0 s.0 c.0 (124 ∷ (n.0 ++ 124 ∷ [])) rest s.1
+          (shape_more c.0 (124 ∷ []) b.0 (n.0 ++ 124 ∷ []) rest (after_is_front (codes "|") c.0 b.0 c.2)
+          (shape_more b.0 n.0 a.0 (124 ∷ []) rest n.1 (after_is_front (codes "|") a.0 rest a.2)))),
+      parameters_is s.0 n.0 s.2 n.2,
+    )

@@ -18,16 +18,18 @@ use Rattle.gl_show.proofs.LexedExpr.{lexed_expr}
 use Rattle.gl_show.proofs.LexedStmt.{lexed_body}
 use Rattle.gl_show.proofs.Settled.{settled_same}
 
-
 pub spelled_canonical : (b : Body) → CanBody deepest_nesting b → Spells (bytes_of (canonical b)) b
 unfolding canonical
 spelled_canonical b can =
     let l : Lexed m.Content false (bytes_of (body_text false b)) (Then (λ ts us. AreStmts deepest_nesting ts b us) (λ us. us ≡ [])) =
     lexed_bytes m.Content false (bytes_of (body_text false b)) (bytes_of (body_text false b) ++ []) (sym (append-nil (bytes_of (body_text false b))))
     (lexed_body deepest_nesting false b [] can (λ us e. ap after_silent e ∙ sym e) tt (lexed_end m.Content false refl)) in
-    let r = l 0 in
-    (r.0, is_utf8-from_IsUtf8 (bytes_of (body_text false b)) r.3, read_reading m.Content 0 (bytes_of (body_text false b)) r.0 r.1,
-     subst (λ (ts : List Token). AreStmts deepest_nesting ts b []) (sym (settled_same (bytes_of (body_text false b)) r.0 r.2)) (subst (λ (us : List Token). AreStmts deepest_nesting r.0 b us) r.4.2 r.4.1))
+    let r = l 0 in (
+      r.0,
+      is_utf8-from_IsUtf8 (bytes_of (body_text false b)) r.3,
+      read_reading m.Content 0 (bytes_of (body_text false b)) r.0 r.1,
+      subst (λ (ts : List Token). AreStmts deepest_nesting ts b []) (sym (settled_same (bytes_of (body_text false b)) r.0 r.2)) (subst (λ (us : List Token). AreStmts deepest_nesting r.0 b us) r.4.2 r.4.1),
+    )
 
 pub spelled_expression : (e : Expr) → CanExpr deepest_calls e → SpellsExpr (bytes_of (expr_text e)) e
 spelled_expression e can =

@@ -61,6 +61,7 @@ close_char prev c l other = low_case (ltb c 128) refl
     some_case (b ∷ bs) e high =
         let s : eqb c 92 ≡ false = grind (arith, nat_tests) in
         rw s (close_high prev b bs l (ap all_high (sym e) ∙ high_bytes c high))
+
     low_case : (t : Bool) → ltb c 128 ≡ t → after_closing 34 prev (encode_utf8 c ++ l) ≡ after_closing 34 (c == 92) l
     low_case true low = let n : c < 128 = grind (arith, nat_tests) in ap (λ bs. after_closing 34 prev (bs ++ l)) (encode_ascii c n) ∙ rw other refl
     low_case false low = let n : 128 ≤ c = grind (arith, nat_tests) in some_case (encode_utf8 c) refl n
@@ -94,6 +95,7 @@ unescaped_text (c ∷ cs) = kept_case (c == 34) refl (unescaped_text cs)
     never : (b : Bool) → (b && false) ≡ false
     never true = refl
     never false = refl
+
     kept_case : (t : Bool) → (c == 34) ≡ t → unescaped 34 (flat_map string_char cs) ≡ cs → unescaped 34 ((if t then codes "\\\"" else c ∷ []) ++ flat_map string_char cs) ≡ c ∷ cs
     kept_case true e more = let same : 34 ≡ c = grind (arith, nat_tests) in ap (λ l. 34 ∷ l) more ∙ ap (λ n. n ∷ cs) same
     kept_case false e more = rw (no_quote cs, never (c == 92)) (ap (λ l. c ∷ l) more)

@@ -145,6 +145,7 @@ begins_bytes (c ∷ cs) (d ∷ ds) b a =
     same_case : (t : Bool) → is_some (cond t (after cs ds) None) ≡ true → (begins cs ds ≡ true → begins cs (bytes_of ds) ≡ true) → is_some (cond t (after cs (bytes_of ds)) None) ≡ true
     same_case true e more = more e
     same_case false e more = cc
+
     none : (t : Bool) → t ≡ false → is_some (cond t (after cs ds) None) ≡ true → ⊥
     none true n e = cc
     none false n e = cc
@@ -166,18 +167,22 @@ ends_bytes (c ∷ cs) h =
         or_case : (s t : Bool) → (s || t) ≡ false → s ≡ true → ⊥
         or_case true t e b = cc
         or_case false t e b = cc
+
     split_off : (t : Bool) → (t ≡ true → begins (codes "-->") (bytes_of (c ∷ cs)) ≡ true) → t ≡ false
     split_off true f = absurd (first_of (bytes_of (c ∷ cs)) h (f refl))
     split_off false f = refl
+
     tail_of : (x : ℕ) (xs : List ℕ) → ends_comment (x ∷ xs) ≡ false → ends_comment xs ≡ false
     tail_of x xs e = or_tail (begins (codes "-->") (x ∷ xs)) (ends_comment xs) e
       where
         or_tail : (s t : Bool) → (s || t) ≡ false → t ≡ false
         or_tail true t e = cc
         or_tail false t e = e
+
     past : (bs l : List ℕ) → ends_comment (bs ++ l) ≡ false → ends_comment l ≡ false
     past [] l e = e
     past (b ∷ bs) l e = past bs l (tail_of b (bs ++ l) e)
+
     rest_of : (c : ℕ) (cs : Text) → ends_comment (bytes_of (c ∷ cs)) ≡ false → ends_comment (bytes_of cs) ≡ false
     rest_of c cs e = past (encode_utf8 c) (bytes_of cs) e
 

@@ -5,11 +5,11 @@ mod expression;
 pub mod laws;
 mod part;
 mod scan;
-mod show;
+mod spelling;
 mod stmt;
 #[cfg(test)]
 mod tests;
 mod text;
 mod value;
 
-pub use show::show_body;
+pub use spelling::{show, show_body};

@@ -4,7 +4,7 @@ ghost use Rattle.gl_ast.specs.Canon.{canonical};
 ghost use Rattle.gl_ast.specs.Template.{body_of};
 
 use crate::stmt::write_body;
-use gl_ast::Body;
+use gl_ast::{Body, Template};
 use gl_value::Text;
 use std::alloc::{AllocError, Global};
 
@@ -17,4 +17,11 @@ pub fn show_body(alloc: Global, body: &Body) -> Result<Text, AllocError>
     let mut out = Text::new(alloc);
     write_body(body, &mut out)?;
     Ok(out)
+}
+
+/// The canonical spelling of a template.
+pub fn show(alloc: Global, template: &Template) -> Result<Text, AllocError>
+    ensures { IfOk result (λ t. t ≡ canonical (body_of template.now.body)) }
+{
+    show_body(alloc, template.body())
 }
