@@ -2,11 +2,12 @@
 use Rattle.std.proofs.Common.{◌≡◌, List, [], ◌++◌, true, false, refl, sym, ap, subst, ◌∙◌, append-nil}
 use Rattle.std.specs.Str.{is_utf8}
 use Rattle.std.proofs.lemmas.Str.{is_utf8-from_IsUtf8}
+use Rattle.std.proofs.lemmas.Grind.{merely}
 use Rattle.gl_base.specs.Texts.{bytes_of}
 use Rattle.gl_ast.specs.Canon.{expr_text, body_text, canonical}
-use Rattle.gl_ast.specs.Grammar.{deepest_calls, deepest_nesting, IsExpr, AreStmts, Spells, SpellsExpr, after_silent}
+use Rattle.gl_ast.specs.Grammar.{deepest_calls, deepest_nesting, IsExpr, AreStmts, Spells, SpellsExpr, IsTemplate, after_silent}
 use Rattle.gl_ast.specs.Settling.{settled}
-use Rattle.gl_ast.specs.Template.{Expr, Body}
+use Rattle.gl_ast.specs.Template.{Expr, Body, end}
 use Rattle.gl_ast.specs.Tokens.{IsTokens, IsLoneTokens}
 use Rattle.gl_ast.specs.declared.mode.Mode.TheVariants as m
 use Rattle.gl_ast.specs.declared.token.Token.{Token}
@@ -38,3 +39,7 @@ spelled_expression e can =
     (lexed_expr m.Expression alone false deepest_calls e [] can (tt, refl) (lexed_end m.Expression false refl)) in
     let r = l 0 in
     (r.0, is_utf8-from_IsUtf8 (bytes_of (expr_text e)) r.3, read_reading m.Expression 0 (bytes_of (expr_text e)) r.0 r.1, subst (λ (us : List Token). IsExpr deepest_calls r.0 e us) r.4.2 r.4.1)
+
+-- the empty template
+pub empty_template : IsTemplate end
+empty_template = merely (bytes_of (canonical end), spelled_canonical end tt)

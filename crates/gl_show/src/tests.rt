@@ -2,7 +2,7 @@
 use super::*;
 use gl_ast::{
     Args, Argument, AttrValue, Block, Body, Expr, Exprs, Lit, NamedExpr, Names, Pairs, Part, Parts,
-    Slot, Slots, Stmt,
+    Slot, Slots, Stmt, Template,
 };
 use gl_value::Text;
 use std::alloc::Global;
@@ -389,5 +389,14 @@ fn spellings(rt: HostRuntime) -> Result<(), Fail> {
     for row in &ROWS {
         check_row(&rt, rt.alloc(), row)?;
     }
+    Ok(())
+}
+
+#[test]
+fn empty_template(rt: HostRuntime) -> Result<(), Fail> {
+    let body = Body::new(rt.alloc());
+    let template = Template::new(body);
+    let shown = show(rt.alloc(), &template)?;
+    assert_eq!(rt; shown.as_str(), "");
     Ok(())
 }
