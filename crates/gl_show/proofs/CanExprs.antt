@@ -1,25 +1,19 @@
 -- What tokens with texts of their kinds spell can be spelled: expressions, values and parts of tags.
-use Rattle.std.proofs.Common.{◌≡◌, ◌⊎◌, inl, inr, ℕ, zero, suc, List, [], ◌∷◌, ◌++◌, Bool, true, false, refl, sym, ap, subst, ◌∙◌}
-use Rattle.std.specs.Prelude.{◌&&◌, ◌==◌, not, cond, codes, map, nat_le, ℤ, Some}
+use Rattle.std.proofs.Common.{◌≡◌, inl, inr, ℕ, zero, suc, List, [], ◌∷◌, Bool, true, false, refl, sym, ap, subst, ◌∙◌}
+use Rattle.std.specs.Prelude.{◌&&◌, ◌==◌, cond, codes, map, nat_le, ℤ, Some}
 use Rattle.std.specs.List.{list_all}
-use Rattle.std.specs.Str.{all_scalars, NonePass}
-use Rattle.std.proofs.lemmas.Bool.Decides.{nat_tests}
-use Rattle.std.proofs.Common.{arith, eqb}
-use Rattle.gl_base.specs.Names.{has_text}
+use Rattle.std.specs.Str.{NonePass}
 use Rattle.gl_base.specs.Texts.{Text}
 use Rattle.gl_value.specs.Value as v
-use Rattle.gl_ast.specs.Canon.{segments_text, ends_backslash}
-use Rattle.gl_ast.specs.Grammar.{deepest_calls, Mark, Stands, IsName, IsLiteral, IsExpr, AreExprs, AreNamed, IsCall, has_argument, IsInner, IsMustache, IsQuotedText, AreQuoted, IsPlainValue, IsValue, IsGiven, IsPart, Item, part_item, argument_item, IsItem, after_comments, AreItems, parts_among, arguments_among, AreParameters}
-use Rattle.gl_ast.specs.Marks.{starts_name, in_name}
-use Rattle.gl_ast.specs.Scans.{begins}
+use Rattle.gl_ast.specs.Grammar.{deepest_calls, Mark, Stands, IsName, IsLiteral, IsExpr, AreExprs, AreNamed, IsCall, IsInner, IsMustache, IsQuotedText, AreQuoted, IsPlainValue, IsValue, IsGiven, IsPart, Item, part_item, argument_item, IsItem, after_comments, AreItems, parts_among, arguments_among, AreParameters}
 use Rattle.gl_ast.specs.Settling.{is_text, is_comment}
 use Rattle.gl_ast.specs.Template.{Plain, Expr, literal, this, argument, bare, call, cat, Exprs, no_exprs, expr, NamedExprs, no_named, named_expr, AttrValue, fixed, live, Part, attribute, modifier, spread}
 use Rattle.gl_ast.specs.TokenText.{names_of, is_free, integer_of, magnitude_of, whole_of, string_of, decoded, parameters_of}
-use Rattle.gl_ast.specs.Words.{reserved, greatest}
+use Rattle.gl_ast.specs.Words.{greatest}
 use Rattle.gl_ast.specs.declared.token.Token.{Token}
 use Rattle.gl_ast.specs.declared.token.TokenKind.{TokenKind}
 use Rattle.gl_ast.specs.declared.token.TokenKind.TheVariants as k
-use Rattle.gl_ast.proofs.Forward.{both, if_some}
+use Rattle.gl_ast.proofs.Forward.{if_some}
 use Rattle.gl_show.specs.Spellable.{is_name, is_segment, is_within, IsTextual, IsString, IsFreeName, AreFreeNames, CanLiteral, CanExpr, CanExprs, CanNamed, CanCall, CanInner, CanQuotedPart, needs_text, CanQuoted, CanCat, CanValue, CanPart, CanParts, CanArguments}
 use Rattle.gl_show.proofs.LexedExpr.{path_names, name_no_dots}
 use Rattle.gl_show.proofs.ProperTokens.{AreProper, begins_text}

@@ -1,13 +1,12 @@
 -- What tokens with texts of their kinds spell can be spelled: statements and templates.
-use Rattle.std.proofs.Common.{◌≡◌, ◌⊎◌, inl, inr, ℕ, zero, suc, List, [], ◌∷◌, ◌++◌, Bool, true, false, cond, refl, sym, ap, subst, ◌∙◌, arith}
+use Rattle.std.proofs.Common.{◌≡◌, inl, inr, ℕ, zero, suc, List, [], ◌∷◌, ◌++◌, Bool, true, false, cond, refl, sym, ap, subst, ◌∙◌, arith}
 use Rattle.std.specs.Prelude.{◌&&◌, ◌||◌, codes, map}
 use Rattle.std.specs.List.{list_all}
-use Rattle.std.specs.Str.{is_utf8, all_scalars}
 use Rattle.std.proofs.lemmas.Bool.Decides.{nat_tests}
 use Rattle.std.proofs.lemmas.Str.{IsUtf8-from_is_utf8}
 use Rattle.gl_base.specs.Texts.{Text, bytes_of}
 use Rattle.gl_ast.specs.Canon.{canonical, expr_text}
-use Rattle.gl_ast.specs.Grammar.{deepest_calls, deepest_nesting, Mark, Stands, Word, IsOpening, IsEndTag, IsClosing, IsKey, IsExpr, AreExprs, Item, part_item, AreItems, parts_among, arguments_among, AreParameters, IsElementRest, IsComponentRest, IsIf, IsEach, IsLet, IsElse, IsChained, AreStmts, IsStmt, Reach, if_word, is_void, is_empty_text, is_some_expr, is_silent, after_silent, Spells, SpellsExpr}
+use Rattle.gl_ast.specs.Grammar.{deepest_calls, deepest_nesting, IsOpening, IsClosing, IsKey, part_item, AreItems, IsElementRest, IsComponentRest, IsIf, IsEach, IsLet, IsElse, IsChained, AreStmts, IsStmt, Reach, if_word, is_void, is_empty_text, is_silent, after_silent, Spells, SpellsExpr}
 use Rattle.gl_ast.specs.Marks.{is_capital, is_small, in_class, in_tag}
 use Rattle.gl_ast.specs.Settling.{is_text, is_comment, settled}
 use Rattle.gl_ast.specs.Template.{Expr, Exprs, Stmt, text_stmt, comment_stmt, put, element, component_stmt, if_stmt, each, let_stmt, yield, Body, end, stmt, Slots, no_slots, block, Part, AttrValue}
@@ -17,14 +16,13 @@ use Rattle.gl_ast.specs.declared.token.Token.{Token}
 use Rattle.gl_ast.specs.declared.token.TokenKind.{TokenKind}
 use Rattle.gl_ast.specs.declared.token.TokenKind.TheVariants as k
 use Rattle.gl_ast.proofs.Forward.{both}
-use Rattle.gl_show.specs.Spellable.{is_word, is_class_part, IsClassName, IsTextual, IsString, AreFreeNames, CanExpr, CanExprs, CanParts, CanArguments, CanBody, CanStmt, CanSlots, ends_comment}
-use Rattle.gl_show.proofs.CanExprs.{after_first, mark_proper, stands_proper, expr_can, exprs_can, mustache_can, items_can, items_parts_can, parts_can, parameters_can}
+use Rattle.gl_show.specs.Spellable.{is_word, is_class_part, IsClassName, IsTextual, IsString, AreFreeNames, CanExpr, CanParts, CanArguments, CanBody, CanStmt, CanSlots, ends_comment}
+use Rattle.gl_show.proofs.CanExprs.{mark_proper, stands_proper, expr_can, exprs_can, mustache_can, items_can, items_parts_can, parts_can, parameters_can}
 use Rattle.gl_show.proofs.ContentTokens.{class_rest}
-use Rattle.gl_show.proofs.ProperTokens.{AreProper, begins_text, reads_proper}
+use Rattle.gl_show.proofs.ProperTokens.{AreProper, reads_proper}
 use Rattle.gl_show.proofs.SettledProper.{decoded_scalars, decoded_some, settled_proper}
 use Rattle.gl_show.proofs.Shapes.{IsElementName}
 use Rattle.gl_show.proofs.SpelledCanon.{spelled_canonical, spelled_expression}
-use Rattle.gl_show.proofs.TokenForms.{IsProper}
 
 -- what is passed over
 pub silent_proper : (ts : List Token) → AreProper ts → AreProper (after_silent ts)

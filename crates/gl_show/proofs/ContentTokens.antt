@@ -1,26 +1,26 @@
 -- The tokens of the content, each before what may follow it.
-use Rattle.std.proofs.Common.{◌≡◌, ◌<◌, ◌≤◌, ◌+◌, ◌⊎◌, inl, inr, ℕ, suc, List, [], ◌∷◌, ◌++◌, Bool, true, false, Option, Some, None, cond, eqb, ltb, length, take, drop, refl, sym, ap, subst, ◌∙◌, append_assoc, arith}
-use Rattle.std.specs.Prelude.{◌==◌, ◌&&◌, ◌||◌, not, codes, is_some}
+use Rattle.std.proofs.Common.{◌≡◌, ◌<◌, ◌+◌, ℕ, suc, List, [], ◌∷◌, ◌++◌, Bool, true, false, Some, None, cond, eqb, ltb, length, take, refl, sym, ap, subst, ◌∙◌, append_assoc, arith}
+use Rattle.std.specs.Prelude.{◌==◌, ◌||◌, not, codes, is_some}
 use Rattle.std.specs.List.{list_all, flat_map, prefix_len}
 use Rattle.std.proofs.lemmas.Bool.Decides.{nat_tests}
 use Rattle.gl_base.specs.Answers.{◌>>=◌}
 use Rattle.gl_base.specs.Names.{or_else}
 use Rattle.gl_base.specs.Texts.{Text, bytes_of, is_ascii_text}
-use Rattle.gl_ast.specs.Marks.{is_white, is_capital, is_small, is_letter, in_class, in_tag}
-use Rattle.gl_ast.specs.Modes.{Found, found, first_found, content_token, content_opening, token}
-use Rattle.gl_ast.specs.Scans.{after, begins, after_all, after_any, from_first, after_run, after_pieces}
+use Rattle.gl_ast.specs.Marks.{is_capital, is_small, is_letter, in_class, in_tag}
+use Rattle.gl_ast.specs.Modes.{content_token, content_opening, token}
+use Rattle.gl_ast.specs.Scans.{after, begins, from_first, after_pieces}
 use Rattle.gl_ast.specs.TokenText.{ends_tag_name, end_name_of}
-use Rattle.gl_ast.specs.Words.{after_tag, after_class, after_class_part, after_more_class, after_parts, after_element_name, after_white, after_end_tag, after_tag_opening, after_html_comment, after_long_comment, after_short_comment, after_long_end, shows_long_end, after_comment, after_tilde, after_opening, ends_text}
+use Rattle.gl_ast.specs.Words.{after_tag, after_class, after_class_part, after_more_class, after_parts, after_element_name, after_end_tag, after_tag_opening, after_html_comment, after_long_comment, after_short_comment, after_comment, after_opening, ends_text}
 use Rattle.gl_ast.specs.declared.mode.Around.TheVariants as a
 use Rattle.gl_ast.specs.declared.mode.Mode.TheVariants as m
 use Rattle.gl_ast.specs.declared.token.TokenKind.TheVariants as k
-use Rattle.gl_ast.proofs.Forward.{both, low_byte, piece_step, piece_end}
+use Rattle.gl_ast.proofs.Forward.{both, piece_step, piece_end}
 use Rattle.gl_ast.proofs.Progress.{more_class_moves}
 use Rattle.gl_show.specs.Spellable.{is_word, is_class_part, IsClassName, ends_comment}
 use Rattle.gl_show.proofs.LexedExpr.{Opens, is_opener, ascii_append}
 use Rattle.gl_show.proofs.Numbers.{take_front}
 use Rattle.gl_show.proofs.Runs.{char_bytes, in_content, content_ignores, run_then, RunEnds}
-use Rattle.gl_show.proofs.Scanning.{Stops, word_then, all_low, word_low}
+use Rattle.gl_show.proofs.Scanning.{Stops, word_then, word_low}
 use Rattle.gl_show.proofs.Strings.{all_high}
 
 -- a text

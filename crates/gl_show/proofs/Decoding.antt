@@ -1,8 +1,8 @@
 -- Texts are decoded as they were, and where they are written no white space stands at their ends.
-use Rattle.std.proofs.Common.{◌≡◌, ◌<◌, ◌≤◌, ◌⊎◌, inl, inr, ℕ, List, [], ◌∷◌, ◌++◌, Bool, true, false, cond, eqb, ltb, refl, sym, ap, subst, ◌∙◌, append_assoc, arith}
-use Rattle.std.specs.Prelude.{◌==◌, ◌&&◌, ◌||◌, not, codes, if◌then◌else◌}
+use Rattle.std.proofs.Common.{◌≡◌, inl, inr, ℕ, List, [], ◌∷◌, ◌++◌, Bool, true, false, refl, ap, subst, ◌∙◌, arith}
+use Rattle.std.specs.Prelude.{◌==◌, ◌&&◌, ◌||◌, codes, if◌then◌else◌}
 use Rattle.std.specs.Fmt.{digits}
-use Rattle.std.specs.List.{list_all, flat_map}
+use Rattle.std.specs.List.{list_all}
 use Rattle.std.specs.Str.{all_scalars}
 use lib.Utf8.{scalar}
 use Rattle.std.proofs.lemmas.Bool.Decides.{nat_tests}
@@ -11,7 +11,7 @@ use Rattle.gl_ast.specs.Canon.{numbered, text_char, value_char, text_from, value
 use Rattle.gl_ast.specs.Grammar.{is_empty_text}
 use Rattle.gl_ast.specs.Marks.{is_white}
 use Rattle.gl_ast.specs.References.{references}
-use Rattle.gl_ast.specs.TokenText.{decoded, decoded_from}
+use Rattle.gl_ast.specs.TokenText.{decoded}
 use Rattle.gl_ast.proofs.Forward.{both}
 use Rattle.gl_show.proofs.Lexed.{EndsTight, IsTight}
 use Rattle.gl_show.proofs.LexedExpr.{scalars_append}

@@ -1,11 +1,11 @@
 -- The white space at the ends of a text, as one reading finds it, is that which is written as references.
-use Rattle.std.proofs.Common.{◌≡◌, ◌≤◌, ◌<◌, ℕ, suc, List, [], ◌∷◌, ◌++◌, Bool, true, false, length, refl, sym, ap, ◌∙◌, arith}
+use Rattle.std.proofs.Common.{◌≡◌, ◌≤◌, ◌<◌, ℕ, suc, List, [], ◌∷◌, ◌++◌, Bool, true, false, length, refl, ap, ◌∙◌, arith}
 use Rattle.std.specs.Prelude.{if◌then◌else◌, nat_le, ◌&&◌, ◌||◌}
 use Rattle.std.specs.List.{list_all}
 use Rattle.std.proofs.lemmas.Bool.Decides.{nat_tests}
 use Rattle.gl_ast.specs.Marks.{is_white}
 use Rattle.gl_ast.specs.Canon.{numbered, text_char, text_from, ends_backslash}
-use Rattle.gl_show.specs.Marking.{run_from, marked_char, marked, last_is}
+use Rattle.gl_show.specs.Marking.{run_from, marked, last_is}
 
 -- characters that are all white space
 run_all : (run : ℕ) (cs : List ℕ) → list_all is_white cs ≡ true → run_from run cs ≡ run

@@ -1,23 +1,21 @@
 -- The tokens of an expression, each before what may follow it.
-use Rattle.std.proofs.Common.{◌≡◌, ◌<◌, ℕ, List, [], ◌∷◌, ◌++◌, Bool, true, false, Option, Some, None, cond, eqb, refl, sym, ap, ◌∙◌, arith, append_assoc}
-use Rattle.std.specs.Prelude.{◌==◌, ◌&&◌, ◌||◌, codes, nat_le}
+use Rattle.std.proofs.Common.{◌≡◌, ℕ, List, [], ◌∷◌, ◌++◌, true, false, Some, None, eqb, refl, ap, arith}
+use Rattle.std.specs.Prelude.{nat_le}
 use Rattle.std.specs.List.{list_all, flat_map}
 use Rattle.std.proofs.lemmas.Bool.Decides.{nat_tests}
-use Rattle.gl_base.specs.Answers.{◌>>=◌}
 use Rattle.gl_base.specs.Names.{or_else}
 use Rattle.gl_base.specs.Texts.{bytes_of}
 use Rattle.gl_ast.specs.Canon.{segments_text, string_char}
-use Rattle.gl_ast.specs.Marks.{is_white, is_digit, starts_name, in_name}
-use Rattle.gl_ast.specs.Modes.{Found, found, first_found, expression_token, expression_mark, mustache_token, token, skips_white, spaced, after_around}
-use Rattle.gl_ast.specs.Scans.{after, after_all, after_any, after_pieces, after_closing}
-use Rattle.gl_ast.specs.Words.{after_argument, after_head, after_name, after_path, after_segments, after_parameters, after_number, after_natural, after_string, after_mustache, after_space, greatest}
+use Rattle.gl_ast.specs.Marks.{is_digit, starts_name}
+use Rattle.gl_ast.specs.Modes.{Found, found, expression_token, expression_mark, mustache_token, token, skips_white, spaced, after_around}
+use Rattle.gl_ast.specs.Words.{after_argument, after_head, after_path, after_parameters, after_number, after_natural, after_string, after_mustache, greatest}
 use Rattle.gl_ast.specs.declared.mode.Around.{Around}
 use Rattle.gl_ast.specs.declared.mode.Mode.{Mode}
 use Rattle.gl_ast.specs.declared.mode.Mode.TheVariants as m
 use Rattle.gl_ast.specs.declared.token.TokenKind.TheVariants as k
 use Rattle.gl_ast.proofs.Forward.{both}
 use Rattle.gl_show.specs.Marking.{last_is}
-use Rattle.gl_show.specs.Spellable.{is_word, is_name, is_segment}
+use Rattle.gl_show.specs.Spellable.{is_name, is_segment}
 use Rattle.gl_show.proofs.Scanning.{Stops, NoBar, in_path, path_then, argument_then, no_parameters, stops_name, segments_stop}
 use Rattle.gl_show.proofs.Numbers.{IsNumber, number_then, minus_then}
 use Rattle.gl_show.proofs.Strings.{string_then}

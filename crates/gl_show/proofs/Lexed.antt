@@ -1,12 +1,12 @@
 -- A text is read token by token, and what is known of the tokens is said of the list that is left.
-use Rattle.std.proofs.Common.{◌≡◌, ◌<◌, ◌+◌, ◌-◌, ℕ, List, [], ◌∷◌, ◌++◌, Bool, true, false, Option, Some, None, length, take, refl, sym, ap, subst, ◌∙◌, arith, length-append}
+use Rattle.std.proofs.Common.{◌≡◌, ◌<◌, ◌+◌, ℕ, List, [], ◌∷◌, ◌++◌, Bool, true, false, Some, length, take, refl, sym, ap, subst, ◌∙◌, arith, length-append}
 use Rattle.std.specs.Str.{chars, IsUtf8, all_scalars}
 use Rattle.std.proofs.lemmas.Str.{IsUtf8-append, IsUtf8-from_ascii}
 use Rattle.gl_base.specs.Answers.{◌>>=◌}
-use Rattle.gl_base.specs.Texts.{Text, bytes_of, is_ascii_text}
-use Rattle.gl_base.proofs.Chars.{ascii, chars_of_ascii}
+use Rattle.gl_base.specs.Texts.{Text}
+use Rattle.gl_base.proofs.Chars.{ascii}
 use Rattle.gl_ast.specs.Marks.{is_white}
-use Rattle.gl_ast.specs.Modes.{Found, token, skips_white, spaced}
+use Rattle.gl_ast.specs.Modes.{token, skips_white, spaced}
 use Rattle.gl_ast.specs.Grammar.{Mark, Stands}
 use Rattle.gl_ast.specs.Settling.{is_text, opens_tag, closes_tag, within_tag}
 use Rattle.gl_ast.specs.TokenReading.{width, token_at, read_from, stands_white}

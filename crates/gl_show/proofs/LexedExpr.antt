@@ -1,20 +1,20 @@
 -- The spelling of an expression is read as tokens that spell it.
-use Rattle.std.proofs.Common.{◌≡◌, ◌<◌, ◌⊎◌, inl, inr, ℕ, zero, suc, List, [], ◌∷◌, ◌++◌, Bool, true, false, Option, Some, None, cond, eqb, ltb, refl, sym, ap, subst, ◌∙◌, arith, append_assoc, append-nil}
-use Rattle.std.specs.Prelude.{◌==◌, ◌&&◌, ◌||◌, codes, pos, negsuc, nat_le, not, if◌then◌else◌}
+use Rattle.std.proofs.Common.{◌≡◌, inl, inr, ℕ, zero, suc, List, [], ◌∷◌, ◌++◌, Bool, true, false, Some, eqb, ltb, refl, sym, ap, subst, ◌∙◌, arith, append_assoc, append-nil}
+use Rattle.std.specs.Prelude.{◌==◌, ◌||◌, codes, pos, negsuc, nat_le, if◌then◌else◌}
 use lib.Utf8.{scalar}
-use Rattle.std.specs.Fmt.{decimal, signed_decimal}
+use Rattle.std.specs.Fmt.{decimal}
 use Rattle.std.specs.List.{list_all, flat_map}
 use Rattle.std.specs.Str.{chars, IsUtf8, NonePass, all_scalars}
 use Rattle.std.proofs.lemmas.Bool.Decides.{nat_tests}
-use Rattle.std.proofs.lemmas.Str.{encode_ascii, encodes-append, chars-encodes, IsUtf8-append, IsUtf8-from_ascii, encodes-IsAscii}
+use Rattle.std.proofs.lemmas.Str.{encode_ascii, encodes-append, chars-encodes, IsUtf8-from_ascii, encodes-IsAscii}
 use Rattle.gl_base.specs.Texts.{Text, bytes_of, is_ascii_text}
 use Rattle.gl_base.proofs.Chars.{ascii, chars_of_ascii}
 use Rattle.gl_value.specs.Value as v
 use Rattle.gl_value.proofs.Paths.{split-none, split-first}
-use Rattle.gl_ast.specs.Canon.{segments_text, string_char, string_text, ends_backslash, literal_text, expr_text, exprs_text, named_text}
+use Rattle.gl_ast.specs.Canon.{segments_text, string_char, string_text, literal_text, expr_text, exprs_text, named_text}
 use Rattle.gl_ast.specs.Grammar.{Mark, Stands, Word, IsName, IsLiteral, IsExpr, AreExprs, AreNamed}
 use Rattle.gl_ast.specs.Marks.{is_white, is_digit, starts_name, in_name}
-use Rattle.gl_ast.specs.Modes.{Found, expression_token, token, skips_white}
+use Rattle.gl_ast.specs.Modes.{expression_token}
 use Rattle.gl_ast.specs.Settling.{is_text, opens_tag, closes_tag}
 use Rattle.gl_ast.specs.Template.{Plain, Expr, literal, this, argument, bare, call, cat, Exprs, no_exprs, expr, NamedExprs, no_named, named_expr}
 use Rattle.gl_ast.specs.TokenReading.{stands_white}
@@ -25,13 +25,12 @@ use Rattle.gl_ast.specs.declared.token.Token.{Token}
 use Rattle.gl_ast.specs.declared.token.TokenKind.{TokenKind}
 use Rattle.gl_ast.specs.declared.token.TokenKind.TheVariants as k
 use Rattle.gl_ast.proofs.Forward.{both, low_byte}
-use Rattle.gl_show.specs.Marking.{last_is}
 use Rattle.gl_show.specs.Spellable.{is_word, is_name, is_segment, IsFreeName, IsString, CanLiteral, CanExpr, CanExprs, CanNamed}
 use Rattle.gl_show.proofs.Edges.{last_backslash}
 use Rattle.gl_show.proofs.ExprTokens.{ReadsExprs, Breaks, path_token, argument_token, number_token, minus_token, string_token, open_token, close_token, equals_token}
 use Rattle.gl_show.proofs.Lexed.{Lexed, Then, lexed_as, lexed_bytes, lexed_plain, lexed_blank, marked}
 use Rattle.gl_show.proofs.Numbers.{IsNumber, within_number, digits_ascii, whole_read}
-use Rattle.gl_show.proofs.Scanning.{one_of, bytes_then, all_low, name_ascii}
+use Rattle.gl_show.proofs.Scanning.{one_of, bytes_then, name_ascii}
 use Rattle.gl_show.proofs.Strings.{string_is, string_spelled}
 
 -- ASCII

@@ -1,32 +1,31 @@
 -- The spelling of texts, comments, mustaches and of the pieces of blocks is read as tokens that spell them.
-use Rattle.std.proofs.Common.{◌≡◌, ◌<◌, ◌-◌, ◌⊎◌, inl, inr, ℕ, zero, suc, List, [], ◌∷◌, ◌++◌, Bool, true, false, Some, refl, sym, ap, subst, ◌∙◌, append_assoc, length, take, drop, length-append, arith}
+use Rattle.std.proofs.Common.{◌≡◌, ◌<◌, ◌-◌, inl, inr, ℕ, List, [], ◌∷◌, ◌++◌, Bool, true, false, Some, refl, sym, ap, subst, ◌∙◌, append_assoc, length, take, length-append, arith}
 use Rattle.std.specs.Prelude.{codes, if◌then◌else◌}
 use Rattle.std.specs.List.{list_all}
 use Rattle.std.specs.Str.{chars, all_scalars}
 use Rattle.std.proofs.lemmas.Str.{chars-encodes, length-le-encodes, encodes-append}
 use Rattle.gl_base.specs.Texts.{Text, bytes_of, is_ascii_text}
 use Rattle.gl_base.proofs.Chars.{chars_of_ascii}
-use Rattle.gl_ast.specs.Canon.{inner_text, mustache_text, text_from, exprs_text, end_tag_text, closing_text, is_text_stmt, between, body_text, stmt_text, slots_text, else_text, parts_text, arguments_text, parameters_text, expr_text, string_text}
-use Rattle.gl_ast.specs.Grammar.{deepest_calls, Mark, Stands, Word, AreExprs, IsMustache, IsEndTag, IsOpening, IsClosing, IsElse, if_word, is_void, is_empty_text, is_silent, after_silent, Reach}
+use Rattle.gl_ast.specs.Canon.{inner_text, text_from, exprs_text, end_tag_text, closing_text, is_text_stmt, body_text, stmt_text, slots_text, else_text, parts_text, arguments_text, parameters_text, expr_text, string_text}
+use Rattle.gl_ast.specs.Grammar.{deepest_calls, Mark, Stands, Word, AreExprs, IsEndTag, IsClosing, IsElse, if_word, is_void, is_empty_text, after_silent, Reach}
 use Rattle.gl_ast.specs.Modes.{token}
-use Rattle.gl_ast.specs.Settling.{is_text, is_comment, opens_tag, closes_tag}
+use Rattle.gl_ast.specs.Settling.{is_text, is_comment}
 use Rattle.gl_ast.specs.Template.{Stmt, text_stmt, comment_stmt, put, element, component_stmt, if_stmt, each, let_stmt, yield, Body, end, stmt, Exprs}
 use Rattle.gl_ast.specs.TokenReading.{stands_white}
-use Rattle.gl_ast.specs.TokenText.{decoded, comment_of, end_name_of, leads}
+use Rattle.gl_ast.specs.TokenText.{decoded, comment_of, end_name_of}
 use Rattle.gl_ast.specs.Words.{ends_text}
 use Rattle.gl_ast.specs.declared.mode.Around.TheVariants as a
-use Rattle.gl_ast.specs.declared.mode.Mode.{Mode}
 use Rattle.gl_ast.specs.declared.mode.Mode.TheVariants as m
 use Rattle.gl_ast.specs.declared.token.Token.{Token}
 use Rattle.gl_ast.specs.declared.token.TokenKind.{TokenKind}
 use Rattle.gl_ast.specs.declared.token.TokenKind.TheVariants as k
-use Rattle.gl_show.specs.Spellable.{is_name, IsTextual, CanExprs, CanInner, ends_comment}
+use Rattle.gl_show.specs.Spellable.{is_name, IsTextual, CanExprs, ends_comment}
 use Rattle.gl_show.proofs.ContentTokens.{text_token, put_token, block_token, closing_token, silent_token, comment_token, goes_on_name, NamesElement, opening_token, end_token, end_name}
 use Rattle.gl_show.proofs.Decoding.{text_from_writes, text_tight}
 use Rattle.gl_show.proofs.ExprTokens.{Breaks, in_mustache}
-use Rattle.gl_show.proofs.Lexed.{Lexed, Then, IsCleanText, IsTight, lexed_as, lexed_bytes, lexed_token, lexed_plain, lexed_piece, marked}
-use Rattle.gl_show.proofs.LexedExpr.{ascii_utf8, ascii_append, scalars_append, join2, low2, low1, lexed_join, lexed_low, lexed_last, lexed_word, lexed_exprs, stands_as, breaks_exprs, breaks_low, breaks_last, Opens}
-use Rattle.gl_show.proofs.LexedTag.{OpensMustache, lexed_opening, lexed_close, lexed_mustache, breaks_close}
+use Rattle.gl_show.proofs.Lexed.{Lexed, Then, IsTight, lexed_as, lexed_bytes, lexed_token, lexed_plain, lexed_piece, marked}
+use Rattle.gl_show.proofs.LexedExpr.{ascii_utf8, ascii_append, scalars_append, join2, low2, lexed_join, lexed_low, lexed_last, lexed_word, lexed_exprs, stands_as, breaks_exprs, breaks_last}
+use Rattle.gl_show.proofs.LexedTag.{OpensMustache, lexed_opening, lexed_close, breaks_close}
 use Rattle.gl_show.proofs.Numbers.{take_front}
 use Rattle.gl_show.proofs.Runs.{in_content, RunEnds}
 use Rattle.gl_show.proofs.Scanning.{Stops, name_ascii, bytes_then}

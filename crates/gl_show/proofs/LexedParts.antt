@@ -1,5 +1,5 @@
 -- The spelling of what stands in a tag is read as tokens that spell it.
-use Rattle.std.proofs.Common.{◌≡◌, ◌<◌, ◌⊎◌, inl, inr, ℕ, List, [], ◌∷◌, ◌++◌, Bool, true, false, Some, refl, sym, ap, subst, ◌∙◌, append_assoc, length, arith}
+use Rattle.std.proofs.Common.{◌≡◌, ◌<◌, inl, inr, ℕ, List, [], ◌∷◌, ◌++◌, Bool, true, false, Some, refl, sym, ap, subst, ◌∙◌, append_assoc, arith}
 use Rattle.std.specs.Prelude.{codes, map}
 use Rattle.std.specs.List.{list_all}
 use Rattle.std.specs.Str.{chars}
@@ -7,12 +7,11 @@ use Rattle.std.proofs.lemmas.Bool.Decides.{nat_tests}
 use Rattle.gl_base.specs.Texts.{Text, bytes_of, is_ascii_text}
 use Rattle.gl_base.proofs.Chars.{chars_of_ascii}
 use Rattle.gl_ast.specs.Canon.{exprs_text, named_text, mustache_text, cat_text, value_text, given_text, part_text, parts_text, argument_text, arguments_text, parameters_text}
-use Rattle.gl_ast.specs.Grammar.{Mark, Stands, IsCall, IsGiven, IsPart, Item, part_item, argument_item, IsItem, after_comments, AreItems, parts_among, arguments_among, AreParameters}
-use Rattle.gl_ast.specs.Marks.{is_white, starts_name, in_name, starts_attribute, in_attribute}
+use Rattle.gl_ast.specs.Grammar.{Mark, Stands, IsGiven, IsPart, Item, part_item, argument_item, after_comments, AreItems, parts_among, arguments_among, AreParameters}
+use Rattle.gl_ast.specs.Marks.{is_white, starts_attribute, in_attribute}
 use Rattle.gl_ast.specs.Modes.{token, expression_token}
 use Rattle.gl_ast.specs.Settling.{is_comment}
 use Rattle.gl_ast.specs.Template.{literal, this, argument, bare, call, cat, AttrValue, fixed, live, Part, attribute, modifier, spread}
-use Rattle.gl_ast.specs.TokenReading.{stands_white}
 use Rattle.gl_ast.specs.TokenText.{parameters_of}
 use Rattle.gl_ast.specs.declared.mode.Around.TheVariants as a
 use Rattle.gl_ast.specs.declared.mode.Mode.{Mode}
@@ -21,10 +20,10 @@ use Rattle.gl_ast.specs.declared.token.Token.{Token}
 use Rattle.gl_ast.specs.declared.token.TokenKind.{TokenKind}
 use Rattle.gl_ast.specs.declared.token.TokenKind.TheVariants as k
 use Rattle.gl_ast.proofs.Forward.{both}
-use Rattle.gl_show.specs.Spellable.{is_word, is_name, AreFreeNames, CanValue, CanPart, CanParts, CanArguments}
+use Rattle.gl_show.specs.Spellable.{is_word, is_name, AreFreeNames, CanPart, CanParts, CanArguments}
 use Rattle.gl_show.proofs.ExprTokens.{ReadsExprs, Breaks, in_mustache}
-use Rattle.gl_show.proofs.Lexed.{Lexed, Then, lexed_as, lexed_bytes, lexed_token, lexed_plain, lexed_piece, lexed_blank, marked}
-use Rattle.gl_show.proofs.LexedExpr.{ascii_utf8, join2, low2, lexed_join, lexed_low, lexed_last, stands_as, expr_token, expr_blank, blank_breaks, breaks_last, Opens, opens_name}
+use Rattle.gl_show.proofs.Lexed.{Lexed, Then, lexed_as, lexed_bytes, lexed_token, lexed_plain, lexed_blank, marked}
+use Rattle.gl_show.proofs.LexedExpr.{ascii_utf8, low2, lexed_join, lexed_low, lexed_last, stands_as, expr_token, expr_blank, blank_breaks, breaks_last, Opens, opens_name}
 use Rattle.gl_show.proofs.LexedTag.{tag_opens, lexed_opening, lexed_close, lexed_call, breaks_close}
 use Rattle.gl_show.proofs.LexedValue.{lexed_given}
 use Rattle.gl_show.proofs.Parameters.{spaced_names, parameters_token_text, parameters_are, parameters_ascii, parameters_spelled}

@@ -1,15 +1,14 @@
 -- The spelling of statements is read as tokens that spell them.
-use Rattle.std.proofs.Common.{◌≡◌, ◌⊎◌, inl, inr, ℕ, zero, suc, List, [], ◌∷◌, ◌++◌, Bool, true, false, refl, sym, ap, subst, ◌∙◌, append_assoc, length, ◌≤◌, ◌<◌, arith}
+use Rattle.std.proofs.Common.{◌≡◌, inl, inr, ℕ, zero, suc, List, [], ◌∷◌, ◌++◌, Bool, true, false, refl, sym, ap, subst, ◌∙◌, append_assoc, length, ◌≤◌}
 use Rattle.std.specs.Prelude.{codes, map, if◌then◌else◌, ◌&&◌}
 use Rattle.std.specs.List.{list_all}
-use Rattle.std.proofs.lemmas.Bool.Decides.{nat_tests}
 use Rattle.gl_base.specs.Texts.{Text, bytes_of, is_ascii_text}
 use Rattle.gl_ast.specs.Canon.{mustache_text, names_text, part_text, argument_text, expr_text, exprs_text, string_text, parts_text, arguments_text, parameters_text, end_tag_text, closing_text, is_text_stmt, body_text, stmt_text, slots_text, else_text}
-use Rattle.gl_ast.specs.Grammar.{deepest_calls, Mark, Stands, Word, Item, part_item, AreItems, parts_among, arguments_among, AreParameters, after_comments, IsOpening, IsEndTag, IsClosing, IsKey, IsExpr, AreExprs, IsElementRest, IsComponentRest, IsIf, IsEach, IsLet, IsElse, IsChained, AreStmts, IsStmt, Reach, if_word, is_void, is_empty_text, is_some_expr, after_silent}
+use Rattle.gl_ast.specs.Grammar.{deepest_calls, Mark, Stands, part_item, AreItems, AreParameters, after_comments, IsEndTag, IsClosing, IsKey, IsComponentRest, IsElse, IsChained, AreStmts, IsStmt, Reach, if_word, is_void, is_some_expr, after_silent}
 use Rattle.gl_ast.specs.Marks.{is_capital, is_small, in_class, in_tag}
 use Rattle.gl_ast.specs.Settling.{is_comment}
 use Rattle.gl_ast.specs.Template.{Expr, Exprs, Stmt, text_stmt, comment_stmt, put, element, component_stmt, if_stmt, each, let_stmt, yield, Body, end, stmt, Slots, no_slots, block, Part, AttrValue}
-use Rattle.gl_ast.specs.TokenText.{leads, string_of, comment_of, end_name_of, parameters_of}
+use Rattle.gl_ast.specs.TokenText.{leads, comment_of, end_name_of, parameters_of}
 use Rattle.gl_ast.specs.declared.mode.Around.TheVariants as a
 use Rattle.gl_ast.specs.declared.mode.Mode.TheVariants as m
 use Rattle.gl_ast.specs.declared.token.Token.{Token}
@@ -19,8 +18,8 @@ use Rattle.gl_ast.proofs.Forward.{both}
 use Rattle.gl_show.specs.Spellable.{is_word, is_name, is_class_part, IsClassName, IsString, AreFreeNames, CanExpr, CanExprs, CanParts, CanArguments, CanBody, CanStmt, CanSlots}
 use Rattle.gl_show.proofs.ContentTokens.{small_low, tag_low, goes_on_name, NamesElement, tag_names, class_names, class_rest}
 use Rattle.gl_show.proofs.ExprTokens.{Breaks, in_mustache, equals_token}
-use Rattle.gl_show.proofs.Lexed.{Lexed, Then, lexed_as, lexed_bytes}
-use Rattle.gl_show.proofs.LexedExpr.{join2, low2, low1, lexed_join, lexed_low, lexed_last, lexed_word, lexed_expr, lexed_exprs, lexed_string, expr_blank, mark_token, stands_as, blank_breaks, opens_expr, breaks_exprs, breaks_join, breaks_low, breaks_last, Opens}
+use Rattle.gl_show.proofs.Lexed.{Lexed, Then, lexed_as}
+use Rattle.gl_show.proofs.LexedExpr.{join2, low2, low1, lexed_join, lexed_low, lexed_word, lexed_expr, lexed_exprs, lexed_string, expr_blank, mark_token, blank_breaks, opens_expr, breaks_exprs, breaks_join, breaks_low, Opens}
 use Rattle.gl_show.proofs.LexedFlat.{content_opens, text_ends, mark_quiet, stands_quiet, lexed_text, lexed_comment, lexed_silent, lexed_block, lexed_ends, lexed_closing, closing_ends, lexed_yield, lexed_tag_opening, lexed_end_tag, end_tag_ends, lexed_else, else_ends, body_ends}
 use Rattle.gl_show.proofs.LexedParts.{InTag, tag_as, lexed_parts, argument_items, lexed_arguments, items_parts, items_arguments, tag_parameters, lexed_parameters, breaks_parameters, lexed_tag_end, lexed_self_end}
 use Rattle.gl_show.proofs.LexedTag.{lexed_mustache, breaks_close}

@@ -1,21 +1,18 @@
 -- The spelling of mustaches, values and parts of a tag is read as tokens that spell them.
-use Rattle.std.proofs.Common.{◌≡◌, ◌<◌, ◌≤◌, ◌⊎◌, inl, inr, ℕ, suc, List, [], ◌∷◌, ◌++◌, Bool, true, false, Option, Some, None, cond, eqb, ltb, length, refl, sym, ap, subst, ◌∙◌, arith, append_assoc, append-nil}
-use Rattle.std.specs.Prelude.{◌==◌, ◌&&◌, ◌||◌, codes, not, map, if◌then◌else◌}
-use Rattle.std.specs.List.{list_all, flat_map}
-use Rattle.std.specs.Str.{chars, IsUtf8, all_scalars}
-use Rattle.std.proofs.lemmas.Bool.Decides.{nat_tests}
+use Rattle.std.proofs.Common.{◌≡◌, ◌<◌, inl, inr, ℕ, List, [], ◌∷◌, ◌++◌, Bool, true, false, Some, length, refl, sym, ap, subst, ◌∙◌, arith}
+use Rattle.std.specs.Prelude.{◌&&◌, not, if◌then◌else◌}
+use Rattle.std.specs.List.{list_all}
+use Rattle.std.specs.Str.{chars}
 use Rattle.std.proofs.lemmas.Str.{chars-encodes, length-le-encodes}
 use Rattle.gl_base.specs.Texts.{Text, bytes_of, is_ascii_text}
-use Rattle.gl_base.proofs.Chars.{chars_of_ascii}
 use Rattle.gl_value.specs.Value as v
-use Rattle.gl_ast.specs.Canon.{value_text, expr_text, exprs_text, named_text, inner_text, mustache_text, is_string, begins_string, ends_backslash, is_plain_part, part_of_value, parts_of_value, cat_text, given_text, part_text, parts_text, argument_text, arguments_text, parameters_text}
-use Rattle.gl_ast.specs.Grammar.{deepest_calls, Mark, Stands, IsName, IsExpr, AreExprs, AreNamed, IsCall, has_argument, IsInner, IsMustache, IsQuotedText, AreQuoted, IsPlainValue, IsValue, IsGiven, IsPart, Item, part_item, argument_item, IsItem, after_comments, AreItems, parts_among, arguments_among, AreParameters, is_empty_text}
-use Rattle.gl_ast.specs.Marks.{is_white, starts_attribute, in_attribute}
-use Rattle.gl_ast.specs.Modes.{after_around, skips_white, token}
-use Rattle.gl_ast.specs.Settling.{is_text, is_comment, opens_tag, closes_tag}
-use Rattle.gl_ast.specs.Template.{Expr, literal, this, argument, bare, call, cat, Exprs, no_exprs, expr, NamedExprs, no_named, named_expr, AttrValue, fixed, live, Part, attribute, modifier, spread}
+use Rattle.gl_ast.specs.Canon.{value_text, expr_text, exprs_text, named_text, inner_text, mustache_text, is_string, is_plain_part, part_of_value}
+use Rattle.gl_ast.specs.Grammar.{deepest_calls, Mark, Stands, IsCall, has_argument, IsInner, IsMustache, is_empty_text}
+use Rattle.gl_ast.specs.Modes.{after_around, token}
+use Rattle.gl_ast.specs.Settling.{is_text, opens_tag, closes_tag}
+use Rattle.gl_ast.specs.Template.{Expr, literal, this, argument, bare, call, cat, Exprs, no_exprs, expr, NamedExprs, no_named, named_expr}
 use Rattle.gl_ast.specs.TokenReading.{stands_white}
-use Rattle.gl_ast.specs.TokenText.{decoded, parameters_of}
+use Rattle.gl_ast.specs.TokenText.{decoded}
 use Rattle.gl_ast.specs.Words.{ends_quoted}
 use Rattle.gl_ast.specs.declared.mode.Quote.TheVariants.{Double}
 use Rattle.gl_ast.specs.declared.mode.Around.{Around}
@@ -25,17 +22,14 @@ use Rattle.gl_ast.specs.declared.mode.Mode.TheVariants as m
 use Rattle.gl_ast.specs.declared.token.Token.{Token}
 use Rattle.gl_ast.specs.declared.token.TokenKind.{TokenKind}
 use Rattle.gl_ast.specs.declared.token.TokenKind.TheVariants as k
-use Rattle.gl_ast.proofs.Forward.{both}
-use Rattle.gl_show.specs.Spellable.{is_word, is_name, IsTextual, IsString, IsFreeName, AreFreeNames, CanExpr, CanExprs, CanNamed, CanCall, CanInner, CanQuotedPart, needs_text, CanQuoted, CanCat, CanValue, CanPart, CanParts, CanArguments}
+use Rattle.gl_show.specs.Spellable.{IsTextual, CanExpr, CanCall, CanInner, needs_text}
 use Rattle.gl_show.proofs.Decoding.{value_text_writes}
 use Rattle.gl_show.proofs.ExprTokens.{ReadsExprs, Breaks, in_mustache, mustache_end}
-use Rattle.gl_show.proofs.Lexed.{Lexed, Then, lexed_as, lexed_bytes, lexed_token, lexed_plain, lexed_piece, lexed_blank, marked}
-use Rattle.gl_show.proofs.LexedExpr.{ascii_utf8, ascii_bytes, ascii_append, join2, low2, low1, lexed_join, lexed_low, lexed_last, lexed_name, lexed_expr, lexed_exprs, lexed_named, stands_as, Opens, opens_first, opens_name, opens_expr, breaks_exprs, breaks_named, breaks_join, breaks_low, breaks_last, expr_token}
-use Rattle.gl_show.proofs.Parameters.{spaced_names, parameters_token_text, parameters_are, parameters_ascii, parameters_spelled}
-use Rattle.gl_show.proofs.Runs.{char_bytes, in_value, value_ignores, run_then, RunEnds}
-use Rattle.gl_show.proofs.Scanning.{name_ascii, word_low}
-use Rattle.gl_show.proofs.Strings.{all_high}
-use Rattle.gl_show.proofs.TagTokens.{attribute_token, argument_name_token, spread_token, equals_tag_token, tag_end_token, value_tag_end, self_end_token, tag_mustache_token, tag_parameters_token, parameters_token, quote_token, live_token, close_quote_token, value_mustache_token, value_text_token}
+use Rattle.gl_show.proofs.Lexed.{Lexed, Then, lexed_as, lexed_plain, lexed_piece, marked}
+use Rattle.gl_show.proofs.LexedExpr.{ascii_utf8, join2, low2, lexed_join, lexed_low, lexed_last, lexed_name, lexed_expr, lexed_exprs, lexed_named, stands_as, Opens, opens_first, opens_name, opens_expr, breaks_exprs, breaks_named, breaks_join, breaks_last}
+use Rattle.gl_show.proofs.Runs.{in_value, RunEnds}
+use Rattle.gl_show.proofs.Scanning.{name_ascii}
+use Rattle.gl_show.proofs.TagTokens.{equals_tag_token, tag_mustache_token, quote_token, live_token, close_quote_token, value_mustache_token, value_text_token}
 
 -- what stands in a mustache begins as an expression does
 pub opens_inner : (e : Expr) (l : List ℕ) → CanInner e → Opens (bytes_of (inner_text e) ++ l)

@@ -1,11 +1,10 @@
 -- The spelling of values and of parts of a tag is read as tokens that spell them.
-use Rattle.std.proofs.Common.{◌≡◌, ◌<◌, ◌⊎◌, inl, inr, ℕ, List, [], ◌∷◌, ◌++◌, Bool, true, false, cond, refl, sym, ap, subst, ◌∙◌, append_assoc}
-use Rattle.std.specs.Prelude.{◌&&◌, ◌||◌, codes, not, map, if◌then◌else◌}
-use Rattle.std.specs.Str.{chars}
+use Rattle.std.proofs.Common.{◌≡◌, inl, inr, ℕ, List, [], ◌∷◌, ◌++◌, Bool, true, false, refl, sym, ap, subst}
+use Rattle.std.specs.Prelude.{◌&&◌, ◌||◌, codes, not, if◌then◌else◌}
 use Rattle.gl_base.specs.Texts.{Text, bytes_of}
 use Rattle.gl_value.specs.Value as v
-use Rattle.gl_ast.specs.Canon.{value_text, inner_text, mustache_text, is_string, begins_string, ends_backslash, is_plain_part, part_of_value, parts_of_value, cat_text, given_text}
-use Rattle.gl_ast.specs.Grammar.{Mark, Stands, IsMustache, IsQuotedText, AreQuoted, IsPlainValue, IsValue, IsGiven, is_empty_text}
+use Rattle.gl_ast.specs.Canon.{value_text, mustache_text, is_string, begins_string, ends_backslash, is_plain_part, part_of_value, parts_of_value, cat_text, given_text}
+use Rattle.gl_ast.specs.Grammar.{Mark, Stands, IsMustache, IsQuotedText, AreQuoted, IsGiven, is_empty_text}
 use Rattle.gl_ast.specs.Template.{Expr, literal, this, argument, bare, call, cat, Exprs, no_exprs, expr, AttrValue, fixed, live}
 use Rattle.gl_ast.specs.TokenText.{decoded}
 use Rattle.gl_ast.specs.declared.mode.Quote.TheVariants.{Double}
@@ -13,9 +12,9 @@ use Rattle.gl_ast.specs.declared.mode.Around.TheVariants as a
 use Rattle.gl_ast.specs.declared.mode.Mode.TheVariants as m
 use Rattle.gl_ast.specs.declared.token.Token.{Token}
 use Rattle.gl_ast.specs.declared.token.TokenKind.TheVariants as k
-use Rattle.gl_show.specs.Spellable.{IsTextual, IsString, CanInner, CanQuotedPart, needs_text, CanQuoted, CanCat, CanValue}
+use Rattle.gl_show.specs.Spellable.{CanInner, CanQuotedPart, needs_text, CanQuoted, CanCat, CanValue}
 use Rattle.gl_show.proofs.Lexed.{Lexed, Then, lexed_as, lexed_bytes}
-use Rattle.gl_show.proofs.LexedExpr.{join2, low1, lexed_join, lexed_low, lexed_last}
+use Rattle.gl_show.proofs.LexedExpr.{join2, low1, lexed_join, lexed_low}
 use Rattle.gl_show.proofs.LexedTag.{lexed_mustache, equals_opens, value_opens, lexed_value_text, lexed_equals, lexed_quote, lexed_end_quote, quote_ends, part_ends}
 
 -- whether a part is written as a text

@@ -1,6 +1,6 @@
 -- Numbers in decimal are read as they were.
-use Rattle.std.proofs.Common.{◌≡◌, ◌<◌, ◌≤◌, ◌+◌, ◌*◌, ◌-◌, ◌/◌, ◌%◌, ◌^◌, ℕ, suc, List, [], ◌∷◌, ◌++◌, Bool, true, false, Option, Some, None, cond, length, take, refl, sym, ap, ◌∙◌, append_assoc, arith, eqb, leb, length-append, lit<}
-use Rattle.std.specs.Prelude.{not, ◌&&◌, ◌||◌, nat_le, ℤ, pos, negsuc, ◌-ℤ◌}
+use Rattle.std.proofs.Common.{◌≡◌, ◌<◌, ◌≤◌, ◌+◌, ◌*◌, ◌-◌, ◌/◌, ◌%◌, ◌^◌, ℕ, suc, List, [], ◌∷◌, ◌++◌, Bool, true, false, Some, None, cond, length, take, refl, ap, ◌∙◌, arith, eqb, leb, length-append, lit<}
+use Rattle.std.specs.Prelude.{not, ◌||◌, nat_le, ℤ, pos, negsuc, ◌-ℤ◌}
 use Rattle.std.specs.Fmt.{decimal, signed_decimal}
 use Rattle.std.specs.List.{list_all}
 use Rattle.std.proofs.lemmas.Bool.Decides.{nat_tests}
@@ -9,7 +9,7 @@ use Rattle.gl_base.specs.Answers.{◌>>=◌}
 use Rattle.gl_base.specs.Texts.{is_ascii_text}
 use Rattle.gl_ast.specs.Marks.{is_digit, in_name}
 use Rattle.gl_ast.specs.TokenText.{integer_of, magnitude_of, whole_of}
-use Rattle.gl_ast.specs.Words.{read_part, number_from, after_digits, goes_on, fits, greatest, if_number, after_natural, after_number}
+use Rattle.gl_ast.specs.Words.{read_part, number_from, goes_on, fits, greatest, if_number, after_natural, after_number}
 use Rattle.gl_ast.proofs.Forward.{both}
 use Rattle.gl_show.specs.Spellable.{is_word, is_within}
 use Rattle.gl_show.proofs.Scanning.{Stops, word_then, stops_digit, word_low}

@@ -1,6 +1,6 @@
 -- Parameters are read as they were.
-use Rattle.std.proofs.Common.{◌≡◌, ◌<◌, ◌≤◌, ◌⊎◌, inl, inr, ℕ, suc, List, [], ◌∷◌, ◌++◌, Bool, true, false, Option, Some, None, cond, eqb, ltb, length, refl, sym, ap, subst, ◌∙◌, append_assoc, append-nil, arith}
-use Rattle.std.specs.Prelude.{◌==◌, ◌&&◌, ◌||◌, not, codes, nat_lt, filter}
+use Rattle.std.proofs.Common.{◌≡◌, ℕ, List, [], ◌∷◌, ◌++◌, Bool, true, false, Some, None, cond, length, refl, sym, ap, ◌∙◌, append_assoc, append-nil, arith}
+use Rattle.std.specs.Prelude.{◌==◌, not, codes, nat_lt, filter}
 use Rattle.std.specs.List.{list_all, flat_map}
 use Rattle.std.proofs.lemmas.Bool.Decides.{nat_tests}
 use Rattle.gl_base.specs.Answers.{◌>>=◌}
@@ -9,8 +9,8 @@ use Rattle.gl_base.specs.Texts.{Text, is_ascii_text}
 use Rattle.gl_ast.specs.Canon.{names_text, parameters_text}
 use Rattle.gl_ast.specs.Marks.{is_white, starts_name, in_name}
 use Rattle.gl_ast.specs.Scans.{after, begins, after_all, after_pieces}
-use Rattle.gl_ast.specs.TokenText.{is_free, pieces, add_first, words, up_to, beyond, parameters_of}
-use Rattle.gl_ast.specs.Words.{read_part, reserved, if_free, after_white, after_space, after_name, after_free_name, after_spaced_name, after_more_names, after_names, after_parameters}
+use Rattle.gl_ast.specs.TokenText.{is_free, pieces, add_first, words, up_to, parameters_of}
+use Rattle.gl_ast.specs.Words.{reserved, if_free, after_white, after_free_name, after_spaced_name, after_more_names, after_names, after_parameters}
 use Rattle.gl_ast.proofs.Forward.{both, piece_step, piece_end}
 use Rattle.gl_ast.proofs.Progress.{spaced_name_moves}
 use Rattle.gl_show.specs.Spellable.{is_name, IsFreeName, AreFreeNames}

@@ -1,16 +1,15 @@
 -- Each token that is read has a text of its kind, and no text stands directly after another.
-use Rattle.std.proofs.Common.{◌≡◌, ◌<◌, ◌+◌, ◌-◌, ◌⊎◌, inl, inr, ℕ, List, [], ◌∷◌, ◌++◌, Bool, true, false, Option, Some, None, cond, length, take, refl, sym, ap, subst, ◌∙◌, arith}
+use Rattle.std.proofs.Common.{◌≡◌, ◌+◌, ◌-◌, ℕ, List, [], ◌∷◌, Bool, true, false, Option, Some, None, cond, length, refl, sym, ap, subst, ◌∙◌, arith}
 use Rattle.std.specs.Prelude.{codes, ◌&&◌}
 use Rattle.std.specs.Str.{chars, IsUtf8}
 use Rattle.std.proofs.lemmas.Str.{IsUtf8-take}
 use Rattle.gl_base.specs.Answers.{◌>>=◌}
 use Rattle.gl_base.specs.Names.{or_else}
-use Rattle.gl_base.specs.Texts.{Text}
-use Rattle.gl_ast.specs.Marks.{is_white, in_unquoted, starts_attribute, in_attribute}
+use Rattle.gl_ast.specs.Marks.{is_white, starts_attribute, in_attribute}
 use Rattle.gl_ast.specs.Modes.{Found, found, first_found, quote_byte, content_token, content_opening, tag_token, tag_mark, equals_token, value_end_token, value_token, expression_token, expression_mark, mustache_token, token, after_around, skips_white, spaced}
 use Rattle.gl_ast.specs.Scans.{after, after_run, up_to_first}
 use Rattle.gl_ast.specs.Settling.{is_text}
-use Rattle.gl_ast.specs.TokenReading.{width, token_at, stands_white}
+use Rattle.gl_ast.specs.TokenReading.{width, stands_white}
 use Rattle.gl_ast.specs.Tokens.{Reads, ends, passes, reads}
 use Rattle.gl_ast.specs.Words.{read_part, after_html_comment, after_end_tag, after_tag_opening, after_comment, after_opening, after_mustache, after_attribute, after_argument, after_unquoted, after_parameters, after_path, after_number, after_string, ends_text, ends_quoted}
 use Rattle.gl_ast.specs.declared.mode.Quote.{Quote}
@@ -22,8 +21,7 @@ use Rattle.gl_ast.specs.declared.mode.Mode.TheVariants as m
 use Rattle.gl_ast.specs.declared.token.Token.{Token}
 use Rattle.gl_ast.specs.declared.token.TokenKind.{TokenKind}
 use Rattle.gl_ast.specs.declared.token.TokenKind.TheVariants as k
-use Rattle.gl_ast.proofs.Forward.{Steps, tail_text}
-use Rattle.gl_ast.proofs.Progress.{token_steps, white_low}
+use Rattle.gl_ast.proofs.Progress.{token_steps}
 use Rattle.gl_ast.proofs.Reading.{token_border, white_steps}
 use Rattle.gl_ast.proofs.Readings.{longest_token}
 use Rattle.gl_show.proofs.Numbers.{part_read}

@@ -1,12 +1,11 @@
 -- Runs of text: characters that begin nothing else, whatever bytes they have.
-use Rattle.std.proofs.Common.{◌≡◌, ◌<◌, ◌≤◌, ℕ, List, [], ◌∷◌, ◌++◌, Bool, true, false, Option, Some, None, cond, eqb, ltb, length, refl, sym, ap, subst, ◌∙◌, append_assoc, arith}
-use Rattle.std.specs.Prelude.{◌==◌, ◌&&◌, ◌||◌, not, codes, encode_utf8, is_some}
-use Rattle.std.specs.List.{list_all, flat_map}
-use Rattle.std.specs.Str.{all_scalars}
+use Rattle.std.proofs.Common.{◌≡◌, ◌<◌, ◌≤◌, ℕ, List, [], ◌∷◌, ◌++◌, Bool, true, false, Some, eqb, ltb, length, refl, sym, ap, subst, ◌∙◌, append_assoc, arith}
+use Rattle.std.specs.Prelude.{◌==◌, ◌||◌, not, encode_utf8}
+use Rattle.std.specs.List.{list_all}
 use Rattle.std.proofs.lemmas.Bool.Decides.{nat_tests}
 use Rattle.std.proofs.lemmas.Str.{encode_ascii, length-encode, len_utf8_bounds}
 use Rattle.gl_base.specs.Texts.{bytes_of}
-use Rattle.gl_ast.specs.Scans.{after, begins, up_to_first, after_run, from_first}
+use Rattle.gl_ast.specs.Scans.{up_to_first, after_run}
 use Rattle.gl_ast.specs.Words.{ends_text, ends_quoted}
 use Rattle.gl_ast.proofs.Forward.{both}
 use Rattle.gl_show.proofs.Strings.{all_high, high_bytes}

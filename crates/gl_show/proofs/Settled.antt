@@ -1,7 +1,7 @@
 -- White-space control and lone tags remove nothing from texts without white space at their ends.
-use Rattle.std.proofs.Common.{◌≡◌, ◌<◌, ◌≤◌, ◌+◌, ℕ, zero, suc, List, [], ◌∷◌, ◌++◌, Bool, true, false, cond, eqb, ltb, length, drop, refl, sym, ap, subst, ◌∙◌, append_assoc, append-nil, length-append, arith}
+use Rattle.std.proofs.Common.{◌≡◌, ◌+◌, ℕ, List, [], ◌∷◌, ◌++◌, Bool, true, false, cond, ltb, length, drop, refl, sym, ap, subst, ◌∙◌, append_assoc, append-nil, length-append, arith}
 use Rattle.std.specs.Prelude.{◌&&◌, ◌||◌, ◌==◌, not, nat_lt, encode_utf8}
-use Rattle.std.specs.List.{list_all, prefix_len}
+use Rattle.std.specs.List.{list_all}
 use Rattle.std.specs.Str.{chars, all_scalars}
 use Rattle.std.proofs.Math.Seq.{drop-append_seam}
 use Rattle.std.proofs.lemmas.Bool.Decides.{nat_tests}
@@ -9,7 +9,7 @@ use Rattle.std.proofs.lemmas.Str.{chars-encodes}
 use Rattle.gl_base.specs.Texts.{Text, bytes_of}
 use Rattle.gl_ast.specs.Grammar.{is_empty_text}
 use Rattle.gl_ast.specs.Marks.{is_white, is_blank}
-use Rattle.gl_ast.specs.Settling.{strips, break_width, front_width, in_back, removed, kept_from, kept, is_text, within_tag, next_edge, edge_after, settled_token, settle_from, settled}
+use Rattle.gl_ast.specs.Settling.{strips, front_width, removed, kept_from, kept, is_text, within_tag, next_edge, edge_after, settled_token, settle_from, settled}
 use Rattle.gl_ast.specs.declared.edge.Edge.{Edge}
 use Rattle.gl_ast.specs.declared.edge.Edge.TheVariants.{Keep, Line, White}
 use Rattle.gl_ast.specs.declared.token.Token.{Token}

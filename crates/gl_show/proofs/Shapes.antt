@@ -1,20 +1,19 @@
 -- What a scan has read: the form of the bytes before those that are left.
-use Rattle.std.proofs.Common.{◌≡◌, ◌<◌, ◌≤◌, ◌-◌, ◌⊎◌, inl, inr, ℕ, zero, suc, List, [], ◌∷◌, ◌++◌, Bool, true, false, Option, Some, None, cond, eqb, ltb, length, refl, sym, ap, subst, ◌∙◌, append_assoc, append-nil, length-append, arith}
-use Rattle.std.specs.Prelude.{◌==◌, ◌&&◌, ◌||◌, not, codes, nat_le, option_map, unwrap_or, is_some}
+use Rattle.std.proofs.Common.{◌≡◌, ◌≤◌, ◌⊎◌, inl, inr, ℕ, zero, suc, List, [], ◌∷◌, ◌++◌, Bool, true, false, Option, Some, None, cond, eqb, length, refl, sym, ap, ◌∙◌, append_assoc, length-append, arith}
+use Rattle.std.specs.Prelude.{◌==◌, ◌&&◌, ◌||◌, not, codes, nat_le, unwrap_or, is_some}
 use Rattle.std.specs.List.{list_all, flat_map}
 use Rattle.std.proofs.lemmas.Bool.Decides.{nat_tests}
 use Rattle.gl_base.specs.Answers.{◌>>=◌}
 use Rattle.gl_base.specs.Names.{or_else, has_text}
-use Rattle.gl_base.specs.Texts.{Text}
 use Rattle.gl_ast.specs.Canon.{segments_text}
-use Rattle.gl_ast.specs.Marks.{is_white, is_capital, is_small, is_digit, starts_name, in_name, in_class, in_tag, starts_attribute, in_attribute}
-use Rattle.gl_ast.specs.Scans.{after, begins, after_any, after_all, after_word, from_first, after_pieces, after_closing}
+use Rattle.gl_ast.specs.Marks.{is_white, is_capital, is_small, is_digit, starts_name, in_name, in_class, in_tag}
+use Rattle.gl_ast.specs.Scans.{after, begins, after_all, after_word, from_first, after_pieces, after_closing}
 use Rattle.gl_ast.specs.TokenText.{is_free}
 use Rattle.gl_ast.specs.Words.{read_part, reserved, if_free, after_white, after_space, after_name, after_free_name, after_class_part, after_more_class, after_parts, after_class, after_tag, after_element_name, after_tag_opening, after_html_comment, after_argument, after_spaced_name, after_more_names, after_names, after_parameters, after_digits, after_head, after_member, after_segment, after_segments, after_path, number_from, greatest, fits, goes_on, if_number, after_natural, after_number, after_string}
-use Rattle.gl_ast.proofs.Forward.{Moves, Steps, both, bind_some, if_some, same_byte, piece_step, piece_end}
+use Rattle.gl_ast.proofs.Forward.{Moves, both, bind_some, if_some, same_byte, piece_step, piece_end}
 use Rattle.gl_ast.proofs.Longest.{after_is_front}
 use Rattle.gl_ast.proofs.Progress.{segment_moves, more_class_moves, spaced_name_moves}
-use Rattle.gl_show.specs.Spellable.{is_word, is_name, is_segment, is_class_part, IsClassName, IsFreeName, AreFreeNames, ends_comment}
+use Rattle.gl_show.specs.Spellable.{is_word, is_name, is_segment, is_class_part, IsClassName, IsFreeName, ends_comment}
 use Rattle.gl_show.specs.Marking.{last_is}
 use Rattle.gl_show.proofs.ContentTokens.{class_rest}
 use Rattle.gl_show.proofs.Numbers.{IsNumber, part_read}

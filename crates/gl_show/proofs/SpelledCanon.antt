@@ -1,14 +1,11 @@
 -- The canonical spelling of a tree that can be spelled spells it.
-use Rattle.std.proofs.Common.{◌≡◌, List, [], ◌++◌, true, false, refl, sym, ap, subst, ◌∙◌, append-nil}
-use Rattle.std.specs.Str.{is_utf8}
+use Rattle.std.proofs.Common.{◌≡◌, List, [], ◌++◌, false, refl, sym, ap, subst, ◌∙◌, append-nil}
 use Rattle.std.proofs.lemmas.Str.{is_utf8-from_IsUtf8}
 use Rattle.std.proofs.lemmas.Grind.{merely}
 use Rattle.gl_base.specs.Texts.{bytes_of}
 use Rattle.gl_ast.specs.Canon.{expr_text, body_text, canonical}
 use Rattle.gl_ast.specs.Grammar.{deepest_calls, deepest_nesting, IsExpr, AreStmts, Spells, SpellsExpr, IsTemplate, after_silent}
-use Rattle.gl_ast.specs.Settling.{settled}
 use Rattle.gl_ast.specs.Template.{Expr, Body, end}
-use Rattle.gl_ast.specs.Tokens.{IsTokens, IsLoneTokens}
 use Rattle.gl_ast.specs.declared.mode.Mode.TheVariants as m
 use Rattle.gl_ast.specs.declared.token.Token.{Token}
 use Rattle.gl_ast.proofs.Readings.{read_reading}

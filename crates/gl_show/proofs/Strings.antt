@@ -1,11 +1,11 @@
 -- Strings are read as they were.
-use Rattle.std.proofs.Common.{◌≡◌, ◌<◌, ◌≤◌, ◌+◌, ◌-◌, ℕ, suc, List, [], ◌∷◌, ◌++◌, Bool, true, false, Option, Some, None, ◌⊎◌, inl, inr, cond, length, take, get_or, refl, sym, ap, ◌∙◌, append_assoc, arith, eqb, ltb, length-append, append-nil}
-use Rattle.std.specs.Prelude.{not, ◌&&◌, ◌||◌, ◌==◌, codes, encode_utf8, if◌then◌else◌}
+use Rattle.std.proofs.Common.{◌≡◌, ◌<◌, ◌≤◌, ◌-◌, ℕ, suc, List, [], ◌∷◌, ◌++◌, Bool, true, false, Some, length, take, get_or, refl, sym, ap, ◌∙◌, append_assoc, arith, eqb, ltb, length-append, append-nil}
+use Rattle.std.specs.Prelude.{not, ◌&&◌, ◌==◌, codes, encode_utf8, if◌then◌else◌}
 use Rattle.std.specs.List.{list_all, flat_map}
 use Rattle.std.proofs.lemmas.Bool.Decides.{nat_tests}
 use Rattle.std.proofs.lemmas.Str.{encode_ascii, inside_one, length-encode, len_utf8_bounds, encodes-append}
 use Rattle.gl_base.specs.Texts.{bytes_of}
-use Rattle.gl_ast.specs.Canon.{string_char, string_text, ends_backslash}
+use Rattle.gl_ast.specs.Canon.{string_char, string_text}
 use Rattle.gl_ast.specs.Scans.{begins, after_closing}
 use Rattle.gl_ast.specs.TokenText.{unescaped, string_of}
 use Rattle.gl_ast.specs.Words.{after_string}

@@ -1,14 +1,13 @@
 -- The tokens of tags and of values, each before what may follow it.
-use Rattle.std.proofs.Common.{◌≡◌, ◌<◌, ◌≤◌, ℕ, List, [], ◌∷◌, ◌++◌, Bool, true, false, Option, Some, None, cond, eqb, ltb, refl, sym, ap, ◌∙◌, append_assoc, arith}
-use Rattle.std.specs.Prelude.{◌==◌, ◌&&◌, ◌||◌, codes, not}
+use Rattle.std.proofs.Common.{◌≡◌, ℕ, List, [], ◌∷◌, ◌++◌, true, false, Some, None, eqb, ltb, refl, arith}
+use Rattle.std.specs.Prelude.{codes, not}
 use Rattle.std.specs.List.{list_all}
 use Rattle.std.proofs.lemmas.Bool.Decides.{nat_tests}
-use Rattle.gl_base.specs.Answers.{◌>>=◌}
 use Rattle.gl_base.specs.Texts.{Text, bytes_of}
 use Rattle.gl_ast.specs.Marks.{is_white, starts_name, in_name, starts_attribute, in_attribute}
 use Rattle.gl_ast.specs.Modes.{tag_mark, tag_token, value_end_token, equals_token, value_token, expression_token, token}
 use Rattle.gl_ast.specs.Scans.{after}
-use Rattle.gl_ast.specs.Words.{after_parameters, after_attribute, after_argument, after_name, after_opening, after_comment, after_long_comment, after_short_comment, ends_quoted}
+use Rattle.gl_ast.specs.Words.{after_parameters, after_argument, after_opening, after_comment, after_long_comment, after_short_comment, ends_quoted}
 use Rattle.gl_ast.specs.declared.mode.Quote.TheVariants.{Double}
 use Rattle.gl_ast.specs.declared.mode.Around.TheVariants as a
 use Rattle.gl_ast.specs.declared.mode.Mode.{Mode}
@@ -20,7 +19,7 @@ use Rattle.gl_show.proofs.LexedExpr.{Opens, is_opener}
 use Rattle.gl_show.proofs.Parameters.{spaced_names, parameters_then}
 use Rattle.gl_show.proofs.Runs.{char_bytes, in_value, value_ignores, run_then, RunEnds}
 use Rattle.gl_show.proofs.Strings.{all_high}
-use Rattle.gl_show.proofs.Scanning.{Stops, word_then, word_no_parameters}
+use Rattle.gl_show.proofs.Scanning.{word_then, word_no_parameters}
 
 attribute_no_white : (b : ℕ) → in_attribute b ≡ true → is_white b ≡ false
 attribute_no_white b e = grind (arith, nat_tests)

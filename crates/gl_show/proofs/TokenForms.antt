@@ -1,27 +1,24 @@
 -- What the text of a token of its kind can be.
-use Rattle.std.proofs.Common.{◌≡◌, ◌<◌, ◌≤◌, ◌-◌, ◌⊎◌, inl, inr, ℕ, zero, suc, List, [], ◌∷◌, ◌++◌, Bool, true, false, Option, Some, None, cond, eqb, ltb, length, take, drop, get_or, refl, sym, ap, subst, ◌∙◌, append_assoc, append-nil, length-append, arith}
+use Rattle.std.proofs.Common.{◌≡◌, ◌<◌, ◌-◌, ◌⊎◌, inl, inr, ℕ, zero, suc, List, [], ◌∷◌, ◌++◌, Bool, true, false, None, cond, eqb, ltb, length, take, get_or, refl, sym, ap, subst, ◌∙◌, append_assoc, append-nil, length-append, arith}
 use Rattle.std.specs.Prelude.{◌==◌, ◌&&◌, ◌||◌, not, codes, nat_le, nat_lt, filter, is_some, pos, ◌-ℤ◌, encode_utf8}
 use Rattle.std.specs.List.{list_all, flat_map}
-use Rattle.std.specs.Str.{chars, IsUtf8, IsCharBoundary, all_scalars}
+use Rattle.std.specs.Str.{chars, IsUtf8, all_scalars}
 use lib.Utf8.{scalar}
 use Rattle.std.proofs.Math.Seq.{get_or-append_seam}
 use Rattle.std.proofs.lemmas.Bool.Decides.{nat_tests}
-use Rattle.std.proofs.lemmas.Str.{IsUtf8-take, IsCharBoundary-before_ascii, scalars-chars, encodes-chars, chars-append, IsUtf8-append}
-use Rattle.gl_base.specs.Answers.{◌>>=◌}
-use Rattle.gl_base.specs.Names.{or_else}
+use Rattle.std.proofs.lemmas.Str.{IsUtf8-take, IsCharBoundary-before_ascii, scalars-chars, encodes-chars, chars-append}
 use Rattle.gl_base.specs.Texts.{Text, bytes_of, is_ascii_text}
 use Rattle.gl_base.proofs.Chars.{chars_of_ascii, chars-append_literal}
-use Rattle.gl_ast.specs.Canon.{segments_text, ends_backslash}
-use Rattle.gl_ast.specs.Marks.{is_white, is_capital, is_small, is_digit, starts_name, in_name, starts_attribute, in_attribute}
+use Rattle.gl_ast.specs.Canon.{segments_text}
+use Rattle.gl_ast.specs.Marks.{is_white, is_digit, in_name, starts_attribute, in_attribute}
 use Rattle.gl_ast.specs.Scans.{after, begins}
-use Rattle.gl_ast.specs.TokenText.{integer_of, string_of, unescaped, comment_of, pieces, add_first, words, up_to, beyond, parameters_of}
-use Rattle.gl_ast.specs.Words.{read_part, number_from, greatest}
+use Rattle.gl_ast.specs.TokenText.{integer_of, string_of, unescaped, comment_of, pieces, words, up_to, beyond, parameters_of}
+use Rattle.gl_ast.specs.Words.{greatest}
 use Rattle.gl_ast.specs.declared.token.TokenKind.{TokenKind}
 use Rattle.gl_ast.specs.declared.token.TokenKind.TheVariants as k
-use Rattle.gl_ast.proofs.Forward.{Steps, both, tail_text}
-use Rattle.gl_ast.proofs.Reading.{token_border}
+use Rattle.gl_ast.proofs.Forward.{both, tail_text}
 use Rattle.gl_show.specs.Marking.{last_is}
-use Rattle.gl_show.specs.Spellable.{is_word, is_name, is_segment, is_within, IsTextual, IsString, IsFreeName, AreFreeNames, IsClassName, ends_comment}
+use Rattle.gl_show.specs.Spellable.{is_word, is_name, is_within, IsTextual, IsString, AreFreeNames, ends_comment}
 use Rattle.gl_show.proofs.ContentTokens.{NamesElement, tag_names, class_names}
 use Rattle.gl_show.proofs.Edges.{last_backslash}
 use Rattle.gl_show.proofs.LexedExpr.{ascii_append, segments_ascii, ascii_utf8}
@@ -30,7 +27,7 @@ use Rattle.gl_show.proofs.Numbers.{IsNumber, digits_ascii, take_front, natural_o
 use Rattle.gl_show.proofs.Parameters.{pieces_front, all_in}
 use Rattle.gl_show.proofs.Runs.{char_bytes}
 use Rattle.gl_show.proofs.Scanning.{name_ascii, word_low, all_low}
-use Rattle.gl_show.proofs.Shapes.{Shaped, AllForm, IsHead, IsPathText, IsElementName, IsNumberText, IsSpacedName, IsNamesText}
+use Rattle.gl_show.proofs.Shapes.{AllForm, IsHead, IsPathText, IsElementName, IsNumberText, IsSpacedName, IsNamesText}
 use Rattle.gl_show.proofs.Strings.{all_high}
 
 -- what the text of a token of this kind is

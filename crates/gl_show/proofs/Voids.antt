@@ -1,5 +1,5 @@
 -- The elements without an end tag are the names of the table.
-use Rattle.std.proofs.Common.{◌≡◌, ℕ, List, Bool, true, false, Option, Some, None, refl, sym, ap, ◌∙◌}
+use Rattle.std.proofs.Common.{◌≡◌, ℕ, List, Bool, true, false, Option, Some, None, refl, ap, ◌∙◌}
 use Rattle.std.specs.Prelude.{map, not, is_some, is_none}
 use Rattle.gl_base.specs.Names.{has_text}
 use Rattle.gl_ast.specs.Grammar.{is_void}

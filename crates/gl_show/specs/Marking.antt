@@ -1,5 +1,5 @@
 -- White space at the ends of a text, found in two readings.
-use Rattle.std.specs.Prelude.{ℕ, List, [], ◌∷◌, ◌++◌, ◌+◌, ◌-◌, Bool, ◌&&◌, ◌||◌, nat_le, length, ◌==◌, if◌then◌else◌}
+use Rattle.std.specs.Prelude.{ℕ, [], ◌∷◌, ◌++◌, Bool, ◌&&◌, ◌||◌, nat_le, length, ◌==◌, if◌then◌else◌}
 use Rattle.gl_base.specs.Texts.{Text}
 use Rattle.gl_ast.specs.Marks.{is_white}
 use Rattle.gl_ast.specs.Canon.{numbered, text_char}

@@ -1,4 +1,4 @@
-use Rattle.std.proofs.Common.{◌<◌, length, arith}
+use Rattle.std.proofs.Common.{arith}
 use Rattle.gl_ast.specs.Template.{named_of}
 use Rattle.gl_show.proofs.Arguments.{has_named, has_some}
 use Rattle.gl_show.proofs.expression.has_argument.Goals as goal

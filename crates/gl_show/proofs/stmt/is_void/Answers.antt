@@ -1,5 +1,4 @@
 use Rattle.std.proofs.Common.{◌∙◌}
-use Rattle.std.specs.Prelude.{is_none}
 use Rattle.gl_show.proofs.Voids.{void_found}
 use Rattle.gl_show.proofs.stmt.is_void.Goals as goal
 

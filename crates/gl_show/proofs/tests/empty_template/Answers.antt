@@ -1,5 +1,3 @@
-use Rattle.gl_ast.specs.Grammar.{IsTemplate}
-use Rattle.gl_ast.specs.Template.{body_of}
 use Rattle.gl_show.proofs.SpelledCanon.{empty_template}
 use Rattle.gl_show.proofs.tests.empty_template.Goals as goal
 
