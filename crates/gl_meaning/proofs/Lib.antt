@@ -8,6 +8,7 @@ mod CasesManifest
 mod CasesNames
 mod CasesPaths
 mod CasesScopes
+mod CasesScript
 mod CasesTexts
 mod CasesTurns
 pub mod Drawn

@@ -17,6 +17,7 @@ pub mod Pointer
 pub mod Print
 pub mod Render
 pub mod Scope
+pub mod ScriptOf
 pub mod Session
 pub mod View
 pub mod Walk
