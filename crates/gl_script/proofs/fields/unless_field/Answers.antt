@@ -1,8 +1,4 @@
-use Rattle.std.proofs.Common.{◌≡◌, ◌∙◌, sym, ap, refl, Some, None, Option}
-use Rattle.std.specs.Prelude.{is_some, option_map}
-use Rattle.std.proofs.lemmas.Grind.{common_steps}
-use Rattle.gl_base.specs.Texts.{Text}
-use Rattle.gl_base.specs.Names.{named}
+use Rattle.std.proofs.Common.{refl}
 use Rattle.gl_script.proofs.Named.{named-plain}
 use Rattle.gl_script.proofs.fields.unless_field.Goals as goal
 
