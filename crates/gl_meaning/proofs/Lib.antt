@@ -18,8 +18,10 @@ mod CasesTurns
 mod Computed
 pub mod Drawn
 pub mod Equal
+pub mod Forms
 pub mod Frame
 pub mod Getters
+pub mod Limits
 pub mod Modifiers
 pub mod Numbers
 pub mod Once

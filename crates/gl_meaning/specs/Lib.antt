@@ -11,6 +11,7 @@ pub mod Laws
 pub mod Manifest
 pub mod ManifestLimits
 pub mod ManifestOf
+pub mod ManifestRules
 pub mod ManifestShape
 pub mod NameTests
 pub mod Parts
