@@ -1,19 +1,15 @@
 -- The first getter of a manifest that reaches itself.
-use Rattle.std.specs.Prelude.{◌≡◌, ℕ, ◌≤◌, List, [], ◌∷◌, map, flat_map, length, Option, Some, None}
+use Rattle.std.specs.Prelude.{◌≡◌, ℕ, List, map, Option, Some, None}
 use Rattle.gl_base.specs.Texts.{Text}
 use Rattle.gl_ast.specs.Template.{Body}
 use Rattle.gl_meaning.specs.App.{Class}
-use Rattle.gl_meaning.specs.Known.{Getter, getters_of, Reaches, IsFirstCycle, IsCyclic, HasNoCycle}
-use Rattle.gl_meaning.specs.Manifest.{ClassEntry, Manifest, app_of}
+use Rattle.gl_meaning.specs.Known.{Getter, Reaches, IsFirstCycle, IsCyclic, HasNoCycle}
+use Rattle.gl_meaning.specs.Manifest.{Manifest, app_of}
+use Rattle.gl_meaning.specs.ManifestLimits as most
 
 -- how many getters a class has at most
 abbrev pub most_getters : ℕ
-most_getters = 32
-
--- no class has more getters
-abbrev pub HaveFewGetters : List ClassEntry → Type 0
-HaveFewGetters [] = Unit {0}
-HaveFewGetters (c ∷ cs) = (length c.getters ≤ most_getters) × HaveFewGetters cs
+most_getters = most.getters
 
 abbrev pub getter : Class → Text → Getter
 getter c n = record { of_class = c; name = n }

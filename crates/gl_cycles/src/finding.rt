@@ -1,8 +1,9 @@
 // The first getter that reaches itself.
 ghost use Rattle.std.specs.Prelude.{◌≡◌, ◌≤◌, length, option_map};
 ghost use Rattle.gl_meaning.specs.App as a;
+ghost use Rattle.gl_meaning.specs.ManifestRules.{KeepsLimits};
 ghost use Rattle.gl_meaning.specs.View.{manifest_view};
-ghost use Rattle.gl_cycles.specs.Cycles.{most_getters, HaveFewGetters, IsFirstIn, IsCycleOf};
+ghost use Rattle.gl_cycles.specs.Cycles.{most_getters, IsFirstIn, IsCycleOf};
 
 use crate::marks::{close, has_mark};
 use crate::mentions::rows_of;
@@ -28,7 +29,7 @@ fn first_in(getters: &Getters) -> Option<&Text>
 /// The class and the getter of the first getter that reaches itself, by the manifest's order of classes and then
 /// of getters; None just where no getter reaches itself. It takes no memory.
 pub fn cycle(manifest: &Manifest) -> Option<(&Text, &Text)>
-    requires { HaveFewGetters manifest.now.classes }
+    requires { KeepsLimits (manifest_view manifest.now) }
     ensures { IsCycleOf (manifest_view manifest.now) (option_map (λ p. (p.0.now, p.1.now)) result) }
 {
     for class in manifest.classes.as_slice() {

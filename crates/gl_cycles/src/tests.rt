@@ -1,10 +1,9 @@
 // Manifests, each with the getter that reaches itself first.
-ghost use Rattle.std.specs.Prelude.{◌≡◌, IsTrue, IfOk};
-ghost use Rattle.gl_meaning.specs.View.{seen_classes};
-ghost use Rattle.gl_cycles.specs.Cycles.{HaveFewGetters};
+ghost use Rattle.std.specs.Prelude.{IsTrue};
+ghost use Rattle.gl_meaning.specs.ManifestRules.{Each, ClassKeeps, KeepsLimits};
+ghost use Rattle.gl_meaning.specs.View.{manifest_view, seen_classes};
 
 use super::*;
-use crate::marks::PLACES;
 use gl_ast::{Expr, Exprs, Lit, NamedExpr, Pairs};
 use gl_meaning::{Actions, Class, Classes, Fields, Getters, Manifest};
 use gl_value::{Text, Texts};
@@ -94,21 +93,29 @@ fn class(alloc: Global, name: Text, getters: Getters) -> Result<Class, Fail> {
     })
 }
 
-// Whether no class has too many getters.
-fn have_few(classes: &[Class]) -> bool
-    ensures { IsTrue result → HaveFewGetters (seen_classes classes.now) }
+// Whether the classes keep the limits; none of them has actions here.
+fn classes_keep(classes: &[Class]) -> bool
+    ensures { IsTrue result → Each ClassKeeps (seen_classes classes.now) }
 {
     for class in classes {
-        if class.getters.len() > PLACES {
+        if class.fields.len() > 256 || class.getters.len() > 32 || !class.actions.is_empty() {
             return false;
         }
     }
     true
 }
 
-fn manifest(alloc: Global, classes: Vec<Class>) -> Result<Manifest, Fail>
-    ensures { IfOk result (λ m. m.classes ≡ seen_classes classes.items) }
+fn keeps_limits(manifest: &Manifest) -> bool
+    ensures { IsTrue result → KeepsLimits (manifest_view manifest.now) }
 {
+    0 < manifest.limit
+        && manifest.limit <= 64
+        && manifest.modifiers.len() <= 1024
+        && manifest.classes.len() <= 1024
+        && classes_keep(manifest.classes.as_slice())
+}
+
+fn manifest(alloc: Global, classes: Vec<Class>) -> Result<Manifest, Fail> {
     Ok(Manifest {
         root: Text::from_str(alloc, "App")?,
         limit: 16,
@@ -123,11 +130,11 @@ fn check(
     classes: Vec<Class>,
     found: (&str, &str),
 ) -> Result<(), Fail> {
-    if !have_few(classes.as_slice()) {
+    let manifest = manifest(alloc, classes)?;
+    if !keeps_limits(&manifest) {
         assert!(rt; false);
         return Ok(());
     }
-    let manifest = manifest(alloc, classes)?;
     match cycle(&manifest) {
         Some((class, getter)) => {
             assert_eq!(rt; class.as_str(), found.0);

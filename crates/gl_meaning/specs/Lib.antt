@@ -9,6 +9,10 @@ pub mod JsonText
 pub mod Known
 pub mod Laws
 pub mod Manifest
+pub mod ManifestLimits
+pub mod ManifestOf
+pub mod ManifestRules
+pub mod ManifestShape
 pub mod NameTests
 pub mod Parts
 pub mod Path

@@ -5,8 +5,9 @@ use Rattle.gl_base.proofs.Lists.{drop_item}
 use Rattle.gl_ast.specs.Template.{Body}
 use Rattle.gl_meaning.specs.App as a
 use Rattle.gl_meaning.specs.Manifest.{ClassEntry}
+use Rattle.gl_meaning.specs.ManifestRules.{Each, ClassKeeps}
 use Rattle.gl_meaning.specs.View.{class_view, seen_classes}
-use Rattle.gl_cycles.specs.Cycles.{IsFirstIn, HaveFewGetters}
+use Rattle.gl_cycles.specs.Cycles.{IsFirstIn}
 use Rattle.gl_cycles.proofs.Firsts.{IsLeft, passed, found}
 use Rattle.gl_cycles.proofs.finding.cycle.Goals as goal
 
@@ -31,10 +32,10 @@ loop-class-preserved c =
     let i = c.loop-class.class-index in
     let k = c.class-item.result in
     let here = drop_item items i k c.loop-class-test.true c.class-item.is in
-    let few : HaveFewGetters (seen_classes (drop i items)) = c.loop-class.invariant.few in
+    let keep : Each ClassKeeps (seen_classes (drop i items)) = c.loop-class.invariant.keep in
     let none : (d : a.Class) → d.getters ≡ k.getters → IsFirstIn d None = rw c.in_default.is at c.first_in.ensures in
     record {
-      few = (rw here at few).1;
+      keep = (rw here at keep).1;
       decides = λ o rest. c.loop-class.invariant.decides o (rw here (passed (class_view k) (seen_classes (drop (i + 1) items)) o none rest));
     }
 
