@@ -4,7 +4,7 @@ use Rattle.std.specs.Prelude.{IsTrue, bit_or}
 use Rattle.std.proofs.lemmas.Bool.{false≢true}
 use Rattle.std.proofs.lemmas.List.{get_or_past}
 use Rattle.gl_cycles.specs.Marks.{has_mark}
-use Rattle.gl_cycles.specs.Chains.{IsMarked, Chain, link, joined, IsLedThrough, through, IsClosureOf}
+use Rattle.gl_cycles.specs.Chains.{IsMarked, Chain, link, joined, IsLedThrough, through}
 use Rattle.gl_cycles.proofs.Bits.{marked_left, marked_right, marked_cases, less_or, none_marked}
 
 through_cases : (b : Bool) (row from j : ℕ) → IsTrue (has_mark (cond b (bit_or row from) row) j) → IsTrue (has_mark row j) ⊎ (IsTrue b × IsTrue (has_mark from j))

@@ -1,5 +1,5 @@
 -- The first getter that reaches itself, in a class and in classes.
-use Rattle.std.proofs.Common.{◌≡◌, ℕ, zero, suc, ◌≤◌, ◌<◌, List, [], ◌∷◌, ◌++◌, length, map, flat_map, refl, ap, sym, ◌∙◌, subst, arith, Option, Some, None, option_map, slice_get, ◌⊎◌, inl, inr}
+use Rattle.std.proofs.Common.{◌≡◌, ℕ, zero, suc, ◌<◌, List, [], ◌∷◌, ◌++◌, map, flat_map, refl, ap, sym, ◌∙◌, subst, arith, Option, Some, None, option_map, slice_get, inl, inr}
 use Rattle.std.proofs.lemmas.Option.{slice_get-map}
 use Rattle.gl_base.specs.Texts.{Text}
 use Rattle.gl_ast.specs.Template.{Expr, Body, end}

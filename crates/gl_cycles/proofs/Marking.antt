@@ -1,9 +1,7 @@
 -- The marks of names one after another, and rows of marks.
-use Rattle.std.proofs.Common.{◌≡◌, ℕ, ◌≤◌, List, [], ◌∷◌, ◌++◌, get_or, length, replicate, refl}
-use Rattle.std.proofs.lemmas.List.{get_or-replicate, get_or_past, length-replicate}
+use Rattle.std.proofs.Common.{◌≡◌, ℕ, List, [], ◌∷◌, ◌++◌, refl}
 use Rattle.gl_base.specs.Texts.{Text}
 use Rattle.gl_cycles.specs.Marks.{Getters, with_names, with_place, place}
-use Rattle.gl_cycles.proofs.Bits.{less_or}
 
 pub names_after : (gs : Getters) (m : ℕ) (xs ys : List Text) → with_names gs m (xs ++ ys) ≡ with_names gs (with_names gs m xs) ys
 names_after gs m [] ys = refl

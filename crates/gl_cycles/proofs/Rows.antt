@@ -1,13 +1,11 @@
 -- Rows that are filled one after another.
-use Rattle.std.proofs.Common.{◌≡◌, ℕ, ◌+◌, ◌<◌, ◌≤◌, List, [], ◌∷◌, get_or, set, length, map, replicate, refl, ap, sym, ◌∙◌, arith, Option, Some, None, option_map, slice_get, ◌⊎◌, inl, inr}
-use Rattle.std.proofs.lemmas.List.{get_or-replicate, get_or_past, length-replicate, get_or-set_same, get_or-set_other, length-set}
+use Rattle.std.proofs.Common.{◌≡◌, ℕ, ◌+◌, ◌<◌, ◌≤◌, List, get_or, set, length, replicate, refl, ap, sym, ◌∙◌, arith, Some, option_map, slice_get, inl, inr}
+use Rattle.std.proofs.lemmas.List.{get_or-replicate, get_or_past, length-replicate, get_or-set_same, get_or-set_other}
 use Rattle.std.proofs.lemmas.Option.{slice_get-map, slice_get_past, slice_get_read}
-use Rattle.gl_base.specs.Texts.{Text}
-use Rattle.gl_ast.specs.Template as t
 use Rattle.gl_ast.specs.View.{seen_pairs, named_view, expr_view}
 use Rattle.gl_ast.specs.declared.expr.NamedExpr.{NamedExpr}
 use Rattle.gl_meaning.specs.Known.{mentions}
-use Rattle.gl_cycles.specs.Marks.{Getters, with_names, mentioned}
+use Rattle.gl_cycles.specs.Marks.{with_names, mentioned}
 use Rattle.gl_cycles.proofs.Bits.{less_or}
 
 pub zeros : (n k : ℕ) → ◌≡◌ {A = ℕ} (get_or (replicate n 0) k 0) 0

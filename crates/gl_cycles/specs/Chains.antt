@@ -1,5 +1,5 @@
 -- Chains through rows of marks.
-use Rattle.std.specs.Prelude.{◌≡◌, ℕ, ◌<◌, List, IsTrue, slice_index, ◌↔◌, bit_or, if◌then◌else◌}
+use Rattle.std.specs.Prelude.{◌≡◌, ℕ, List, IsTrue, slice_index, ◌↔◌, bit_or, if◌then◌else◌}
 use Rattle.gl_cycles.specs.Marks.{has_mark}
 
 -- row i has the mark j

@@ -1,4 +1,4 @@
-use Rattle.std.proofs.Common.{◌≡◌, ◌+◌, subst, ap, sym, arith, rules, List, drop, Option, Some, None}
+use Rattle.std.proofs.Common.{◌≡◌, ◌+◌, subst, List, drop, Option, Some, None}
 use Rattle.std.proofs.lemmas.List.{drop_all}
 use Rattle.gl_base.specs.Texts.{Text}
 use Rattle.gl_base.proofs.Lists.{drop_item}

@@ -1,4 +1,4 @@
-use Rattle.std.proofs.Common.{ℕ, ◌<◌, arith, rules}
+use Rattle.std.proofs.Common.{arith}
 use Rattle.gl_cycles.specs.Chains.{link}
 use Rattle.gl_cycles.proofs.Bits.{marked_within}
 use Rattle.gl_cycles.proofs.Closing.{led_closed, led_keeps, led_sound, closed_chain}

@@ -1,4 +1,4 @@
-use Rattle.std.proofs.Common.{◌≡◌, ℕ, ◌≤◌, ◌∙◌, get_or, arith, inl, inr}
+use Rattle.std.proofs.Common.{◌∙◌, get_or, arith, inl, inr}
 use Rattle.gl_cycles.proofs.Bits.{less_or}
 use Rattle.gl_cycles.proofs.Closing.{through_past}
 use Rattle.gl_cycles.proofs.marks.lead_through.Goals as goal

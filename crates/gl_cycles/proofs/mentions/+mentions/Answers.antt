@@ -1,4 +1,4 @@
-use Rattle.std.proofs.Common.{◌≡◌, ◌+◌, ◌≤◌, ◌∙◌, sym, arith, drop}
+use Rattle.std.proofs.Common.{◌+◌, ◌∙◌, sym, arith, drop}
 use Rattle.gl_base.proofs.Lists.{drop_item}
 use Rattle.gl_ast.specs.Template.{exprs_of, named_of}
 use Rattle.gl_ast.specs.View.{expr_view, seen_exprs, seen_pairs}

@@ -1,4 +1,4 @@
-use Rattle.std.proofs.Common.{◌≡◌, ℕ, ◌<◌, ◌≤◌, ◌∙◌, sym, arith, rules, refl, length}
+use Rattle.std.proofs.Common.{◌<◌, ◌∙◌, arith, refl, length}
 use Rattle.std.proofs.lemmas.List.{length-set}
 use Rattle.gl_cycles.proofs.Rows.{zeros, set_done, set_empty, rows_all}
 use Rattle.gl_cycles.proofs.mentions.rows_of.Goals as goal
