@@ -11,6 +11,7 @@ mod CasesNames
 mod CasesPaths
 mod CasesRead
 mod CasesScopes
+mod CasesScript
 mod CasesSpelled
 mod CasesSteps
 mod CasesTexts
@@ -22,6 +23,7 @@ pub mod Forms
 pub mod Frame
 pub mod Getters
 pub mod Limits
+pub mod Manifests
 pub mod Modifiers
 pub mod Numbers
 pub mod Once
