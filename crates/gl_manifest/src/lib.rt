@@ -6,6 +6,7 @@
 
 mod classes;
 mod fault;
+pub mod laws;
 mod members;
 mod reading;
 mod shape;

@@ -23,6 +23,7 @@ pub mod Forms
 pub mod Frame
 pub mod Getters
 pub mod Limits
+pub mod Manifests
 pub mod Modifiers
 pub mod Numbers
 pub mod Once

@@ -99,7 +99,7 @@ form_keeps parse d m sound e =
     let o = object_passed _ manifest_member d sound in
     members_keep parse o.0 m o.3 (rw o.1 at (limit_sound d sound)) (rw o.1 at e)
 
-after_said : (shape : Found ⊤) (found : Found Manifest) (m : Manifest) → after_shape shape found ≡ said m → (shape ≡ Ok tt) × (found ≡ Ok m)
+pub after_said : (shape : Found ⊤) (found : Found Manifest) (m : Manifest) → after_shape shape found ≡ said m → (shape ≡ Ok tt) × (found ≡ Ok m)
 after_said (Ok u) (Ok x) m e = (refl, cc)
 after_said (Ok u) (Err p) m e = let r : ⊥ = cc in absurd r
 after_said (Err p) found m e = let r : ⊥ = cc in absurd r

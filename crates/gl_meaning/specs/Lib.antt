@@ -9,6 +9,7 @@ pub mod JsonText
 pub mod Known
 pub mod Laws
 pub mod Manifest
+pub mod ManifestIs
 pub mod ManifestLimits
 pub mod ManifestOf
 pub mod ManifestRules

@@ -7,6 +7,7 @@
 mod event;
 mod fault;
 mod fields;
+pub mod laws;
 mod reading;
 #[cfg(test)]
 mod tests;
