@@ -1,5 +1,5 @@
 -- An object has the keys of one form alone.
-use Rattle.std.proofs.Common.{◌≡◌, ℕ, ◌+◌, List, [], ◌∷◌, Bool, true, false, cond, get_or, refl, sym, ap, ◌∙◌, subst, arith, Option, Some, None, ◌⊎◌, inl, inr}
+use Rattle.std.proofs.Common.{◌≡◌, ℕ, List, Bool, true, false, cond, get_or, refl, sym, ap, ◌∙◌, arith, Option, Some, None, ◌⊎◌, inl, inr}
 use Rattle.std.specs.Prelude.{codes, ◌&&◌, ◌==◌, is_some}
 use Rattle.std.specs.Ordering.{nat_cmp, match_ordering}
 use Rattle.std.specs.Cmp.Lexicographic.{slice_cmp}
@@ -9,7 +9,7 @@ use Rattle.std.proofs.lemmas.Bool.{false≢true}
 use Rattle.std.proofs.lemmas.Bool.Decides.{Decides-eqb}
 use Rattle.std.proofs.lemmas.Map.Lookups.{exact_bytes}
 use Rattle.serde_json.specs.Data as json
-use Rattle.serde_json.specs.Find.{get, get_member}
+use Rattle.serde_json.specs.Find.{get_member}
 use Rattle.gl_meaning.specs.JsonText.{count_members, has_key, member_count}
 use Rattle.gl_meaning.specs.ScriptOf.{is_set, has_data, is_fire, is_batch}
 
@@ -27,7 +27,7 @@ no_one n b c h = rw (count_is n 2 b h) refl
 pub set_is_no_batch : (d : json.Data) → is_set d ≡ true → is_batch d ≡ false
 set_is_no_batch d h = no_one (member_count d) _ _ h
 
-fire_no_one : (data : Bool) (n : ℕ) (b c : Bool) → ((n == cond data 3 2) && b) ≡ true → ((n == 1) && c) ≡ false
+fire_no_one : (third : Bool) (n : ℕ) (b c : Bool) → ((n == cond third 3 2) && b) ≡ true → ((n == 1) && c) ≡ false
 fire_no_one true n b c h = rw (count_is n 3 b h) refl
 fire_no_one false n b c h = no_one n b c h
 
@@ -42,8 +42,9 @@ key_step k l e rest Greater is h = inr h
 
 one_of_two : (k l m : List ℕ) (d e : json.Data) → is_some (get_member k (json.member l d (json.member m e json.no_members))) ≡ true → (k ≡ l) ⊎ (k ≡ m)
 one_of_two k l m d e h = elim (key_step k l d _ (slice_cmp nat_cmp k l) refl h) [
-    inl x ↦ inl x
-  | inr y ↦ elim (key_step k m e None (slice_cmp nat_cmp k m) refl y) [ inl x ↦ inr x | inr z ↦ absurd (false≢true z) ] ]
+  | inl x ↦ inl x
+  | inr y ↦ elim (key_step k m e None (slice_cmp nat_cmp k m) refl y) [ inl x ↦ inr x | inr z ↦ absurd (false≢true z) ]
+]
 
 -- `set`, `to` and `event` are three keys
 set_or_to : codes "set" ≡ codes "to" → ⊥
@@ -77,14 +78,14 @@ not_three (json.number x) n s t e = omega (arith, n)
 not_three (json.string x) n s t e = omega (arith, n)
 not_three (json.array ds) n s t e = omega (arith, n)
 
-fire_cases : (data set : Bool) (d : json.Data) → has_data d ≡ data → is_set d ≡ set → is_fire d ≡ true → set ≡ false
-fire_cases data false d is_data is_s h = refl
-fire_cases data true d is_data is_s h =
-    let two = count_is (member_count d) 2 _ is_s in
+fire_cases : (two : Bool) (d : json.Data) → is_set d ≡ two → is_fire d ≡ true → two ≡ false
+fire_cases false d is_s h = refl
+fire_cases true d is_s h =
+    let pair = count_is (member_count d) 2 _ is_s in
     let keys = both (has_key (codes "set") d) (has_key (codes "to") d) (both (member_count d == 2) _ is_s).1 in
     let rest = both (member_count d == cond (has_data d) 3 2) _ h in
     let fired = both (has_key (codes "event") d) (has_key (codes "fire") d) rest.1 in
-    absurd (not_three d two keys.0 keys.1 fired.0)
+    absurd (not_three d pair keys.0 keys.1 fired.0)
 
 pub fire_is_no_set : (d : json.Data) → is_fire d ≡ true → is_set d ≡ false
-fire_is_no_set d h = fire_cases (has_data d) (is_set d) d refl refl h
+fire_is_no_set d h = fire_cases (is_set d) d refl h

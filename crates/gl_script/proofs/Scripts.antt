@@ -1,18 +1,17 @@
 -- What is read is what is held.
-use Rattle.std.proofs.Common.{◌≡◌, ◌∙◌, ℕ, suc, ◌+◌, ◌≤◌, ◌<◌, List, [], ◌∷◌, Bool, true, false, cond, refl, sym, ap, subst, arith, Option, Some, None, Ok, Err, ◌⊎◌, inl, inr}
-use Rattle.std.specs.Prelude.{codes, nat_lt, nat_le, ◌&&◌, ◌==◌, is_some}
+use Rattle.std.proofs.Common.{◌≡◌, ◌∙◌, ℕ, ◌+◌, ◌≤◌, List, [], ◌∷◌, Bool, true, false, cond, refl, sym, ap, subst, arith, Option, Some, None, Ok, Err, inl, inr}
+use Rattle.std.specs.Prelude.{codes, nat_lt, nat_le, ◌&&◌}
 use Rattle.std.specs.Str.{chars}
-use Rattle.std.proofs.lemmas.Bool.{false≢true}
 use Rattle.std.proofs.lemmas.Bool.Decides.{nat_tests}
 use Rattle.serde_json.specs.Data as json
-use Rattle.serde_json.specs.Find.{get, get_member}
+use Rattle.serde_json.specs.Find.{get}
 use Rattle.gl_base.specs.Texts.{Text}
 use Rattle.gl_value.specs.Value.{Value, undefined, plain}
 use Rattle.gl_ast.specs.Template.{Plain}
 use Rattle.gl_meaning.specs.App.{Event, set_event, fire, batch, Events, events_of}
-use Rattle.gl_meaning.specs.JsonText.{read_json, has_key, member_count}
+use Rattle.gl_meaning.specs.JsonText.{read_json}
 use Rattle.gl_meaning.specs.ManifestIs.{ItemsAre, IsText}
-use Rattle.gl_meaning.specs.ScriptOf.{Fields, is_set, has_data, is_fire, is_batch, at_key, text_found, greatest_node, node_found, set_found, payload_found, fire_found, simple_found, batch_found, event_found, script_found, first_unknown, ScriptReading, script, with_names, of_found, of_json, script_reading}
+use Rattle.gl_meaning.specs.ScriptOf.{Fields, is_set, has_data, is_fire, is_batch, at_key, text_found, greatest_node, node_found, set_found, payload_found, fire_found, simple_found, batch_found, event_found, script_found, first_unknown, script, with_names, of_found, of_json, script_reading}
 use Rattle.gl_meaning.specs.Walk.{Found, faulty, given, under, ◌then◌, value_at, read_items}
 use Rattle.gl_meaning.proofs.Forms.{then_gave, under_gave, ok_is}
 use Rattle.gl_script.specs.ScriptIs.{At, IsPlain, IsNode, IsPayload, IsSimple, IsBatch, IsEvent, IsScript, Holds}
@@ -98,7 +97,7 @@ fire_gave d e is h =
     let n = then_gave (at_key (codes "fire") node_found d) _ e x.2 in
     let at = at_gave (codes "fire") node_found d n.0 n.1 in
     subst (IsSimple d) (sym (ok_is (fire n.0 x.0 v.0) e n.2))
-      (is, (at.0, at.1, node_gave at.0 n.0 at.2), text_at (codes "event") d x.0 x.1, payload_gave (has_data d) d v.0 refl v.1)
+    (is, (at.0, at.1, node_gave at.0 n.0 at.2), text_at (codes "event") d x.0 x.1, payload_gave (has_data d) d v.0 refl v.1)
 
 simple_cases : (s f : Bool) (d : json.Data) (e : Event) → is_set d ≡ s → is_fire d ≡ f → cond s (set_found d) (cond f (fire_found d) faulty) ≡ Ok e → IsSimple d e
 simple_cases true f d e is_s is_f h = set_gave d e is_s h
@@ -217,5 +216,3 @@ reads_held fields bytes es h = json_gave fields bytes es (read_json bytes) refl 
 
 pub held_reads : (fields : Fields) (bytes : List ℕ) (es : List Event) → Holds fields bytes es → script_reading fields bytes ≡ script es
 held_reads fields bytes es h = rw (h.1, script_back h.0 es h.2, h.3) refl
-
-pub ruleset held = (reads_held, held_reads)

@@ -2,7 +2,6 @@
 use Rattle.std.specs.Prelude.{◌≡◌, ℕ, ◌≤◌, ◌⊎◌, List, true, false, codes, Ok, Some, None}
 use Rattle.serde_json.specs.Data as json
 use Rattle.serde_json.specs.Find.{get}
-use Rattle.gl_base.specs.Texts.{Text}
 use Rattle.gl_value.specs.Value.{Value, undefined, plain}
 use Rattle.gl_ast.specs.Template.{Plain}
 use Rattle.gl_meaning.specs.App.{Event, set_event, fire, batch, Events, events_of}
