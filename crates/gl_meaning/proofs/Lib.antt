@@ -3,17 +3,27 @@ pub mod Alike
 pub mod Calls
 mod CaseTodo
 mod CasesActions
+mod CasesClasses
+mod CasesForms
 mod CasesLists
 mod CasesManifest
 mod CasesNames
 mod CasesPaths
+mod CasesRead
 mod CasesScopes
+mod CasesScript
+mod CasesSpelled
+mod CasesSteps
 mod CasesTexts
 mod CasesTurns
+mod Computed
 pub mod Drawn
 pub mod Equal
+pub mod Forms
 pub mod Frame
 pub mod Getters
+pub mod Limits
+pub mod Manifests
 pub mod Modifiers
 pub mod Numbers
 pub mod Once

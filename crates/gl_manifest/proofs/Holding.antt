@@ -1,0 +1,29 @@
+-- What bytes say is what they hold.
+use Rattle.std.proofs.Common.{◌≡◌, ℕ, List, Option, Some, None, Ok, Err, refl}
+use Rattle.std.specs.Prelude.{Result, IfOk, ⊤}
+use Rattle.serde_json.specs.Data as json
+use Rattle.gl_meaning.specs.JsonText.{read_json}
+use Rattle.gl_meaning.specs.Manifest as m
+use Rattle.gl_meaning.specs.ManifestIs.{IsManifest}
+use Rattle.gl_meaning.specs.ManifestOf.{manifest_of, said, after_shape, in_json, read_manifest}
+use Rattle.gl_meaning.specs.ManifestShape.{manifest_check}
+use Rattle.gl_meaning.proofs.Limits.{after_said}
+use Rattle.gl_meaning.proofs.Manifests.{manifest_is, is_manifest}
+use Rattle.gl_parse.specs.ReadStmt.{expression_of}
+use Rattle.gl_manifest.specs.Holds.{Spells, Holds}
+
+said_json : (bytes : List ℕ) (x : m.Manifest) (o : Option json.Data) → read_json bytes ≡ o → in_json expression_of o ≡ said x → Holds bytes x
+said_json bytes x None is e = let r : ⊥ = cc in absurd r
+said_json bytes x (Some d) is e =
+    let a = after_said (manifest_check d) (manifest_of expression_of d) x e in
+    (d, is, a.0, manifest_is expression_of d x a.1)
+
+pub said_holds : (bytes : List ℕ) (x : m.Manifest) → read_manifest expression_of bytes ≡ said x → Holds bytes x
+unfolding read_manifest
+said_holds bytes x e = said_json bytes x (read_json bytes) refl e
+
+pub holds_said : (bytes : List ℕ) (x : m.Manifest) → Holds bytes x → read_manifest expression_of bytes ≡ said x
+unfolding read_manifest
+holds_said bytes x h = rw (h.1, h.2, is_manifest expression_of h.0 x h.3) refl
+
+pub ruleset held = (said_holds, holds_said)

@@ -1,0 +1,3 @@
+pub mod Counts
+pub mod Utf8
+pub mod Walks
