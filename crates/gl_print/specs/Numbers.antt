@@ -1,5 +1,5 @@
 -- The numbers of nodes.
-use Rattle.std.specs.Prelude.{ℕ, suc, ◌==◌, List, [], ◌∷◌, ◌++◌, Option, Some, None, if◌then◌else◌, refl}
+use Rattle.std.specs.Prelude.{◌≡◌, ℕ, suc, ◌==◌, List, [], ◌∷◌, ◌++◌, Option, Some, None, if◌then◌else◌, refl}
 use Rattle.std.specs.Coded.{Coded, code_by, coded×, coded_ℕ, coded_list}
 use Rattle.gl_arena.specs.Id.{Id, same_id}
 use Rattle.gl_nodes.specs.Forest.{Forest, end, tree}
@@ -55,3 +55,10 @@ given_on m p i = if same_id i p.1 then first_of (m p.0) (m i) else m i
 abbrev pub carried : (Id → Option ℕ) → List (Id × Id) → Id → Option ℕ
 carried m [] = m
 carried m (p ∷ ps) = carried (given_on m p) ps
+
+-- the numbers once some of the pairs were carried, from the first on
+pub record CarriesFront (m m' : Id → Option ℕ) (ps : List (Id × Id)) : Type 0 where
+  pub done : List (Id × Id)
+  pub rest : List (Id × Id)
+  pub pairs : ps ≡ done ++ rest
+  pub numbers : m' ≡ carried m done

@@ -69,10 +69,12 @@ impl Numbers {
         None
     }
 
-    /// Gives each new node the number of its old one, where that has a number, and leaves all other numbers.
+    /// Gives each new node the number of its old one, where that has a number, and leaves all other numbers. Where
+    /// memory is wanting, some of the first pairs were carried.
     pub fn carry(&mut self, pairs: &NodePairs) -> Result<(), AllocError>
         ensures of { OnOk result ((λ i. n.at i self.new.of) ≡ n.carried (λ i. n.at i self.old.of) pairs.now) }
         ensures next { self.new.next ≡ self.old.next }
+        ensures err { OnErr result (n.CarriesFront (λ i. n.at i self.old.of) (λ i. n.at i self.new.of) pairs.now) }
     {
         for pair in pairs.as_slice() {
             self.carry_one(pair)?;
@@ -83,6 +85,7 @@ impl Numbers {
     fn carry_one(&mut self, pair: &(NodeId, NodeId)) -> Result<(), AllocError>
         ensures of { OnOk result ((λ i. n.at i self.new.of) ≡ n.given_on (λ i. n.at i self.old.of) pair.now) }
         ensures next { self.new.next ≡ self.old.next }
+        ensures err { OnErr result (self.new ≡ self.old) }
     {
         match self.number(pair.0) {
             Some(number) => self.put(pair.1, number),
