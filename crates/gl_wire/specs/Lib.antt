@@ -4,6 +4,7 @@ pub mod ExprFalls
 pub mod IsWire
 pub mod Json
 pub mod PartCode
+pub mod Rows
 pub mod Size
 pub mod StmtCode
 pub mod StmtFalls

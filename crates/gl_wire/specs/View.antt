@@ -11,6 +11,8 @@ use Rattle.gl_wire.specs.declared.part.WirePart.TheVariants as part
 use Rattle.gl_wire.specs.declared.stmt.WireStmt.{WireStmt}
 use Rattle.gl_wire.specs.declared.stmt.WireStmt.TheVariants as stmt
 use Rattle.gl_wire.specs.declared.stmt.WireSlot.{WireSlot}
+use Rattle.gl_wire.specs.declared.wire.Wire.{Wire}
+use Rattle.gl_wire.specs.declared.wire.ExprWire.{ExprWire}
 
 abbrev pub expr_view : WireExpr → w.Expr
 expr_view (expr.Lit l) = w.literal (lit_view l)
@@ -58,3 +60,9 @@ slot_view s = (s.name, (s.params, w.body_of s.body))
 
 abbrev pub seen_slots : List WireSlot → List (Text × (List ℕ × w.Body))
 seen_slots ss = map slot_view ss
+
+abbrev pub wire_view : Wire → w.Wire
+wire_view x = record { symbols = x.symbols; body = w.body_of x.body }
+
+abbrev pub expr_wire_view : ExprWire → w.ExprWire
+expr_wire_view x = record { symbols = x.symbols; value = expr_view x.value }
