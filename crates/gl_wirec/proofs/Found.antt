@@ -1,5 +1,5 @@
 -- Names among the keys of a set, as texts and as the strings that hold them.
-use Rattle.std.proofs.Common.{◌≡◌, ℕ, suc, ◌+◌, ◌≤◌, List, [], ◌∷◌, ◌++◌, Bool, true, false, ◌||◌, cond, map, length, refl, sym, ap, ◌∙◌, arith, String, Global, string_bytes, Option, Some, None}
+use Rattle.std.proofs.Common.{◌≡◌, ℕ, ◌≤◌, List, [], ◌∷◌, ◌++◌, Bool, true, false, cond, map, length, refl, sym, ap, ◌∙◌, arith, String, Global, string_bytes, Some, None}
 use Rattle.std.specs.Prelude.{nat_lt, if◌then◌else◌, unwrap_or, position}
 use Rattle.std.specs.List.{list_any, position_or_len}
 use Rattle.std.specs.Str.{bytes_eq, chars, IsUtf8}

@@ -1,3 +1,5 @@
 pub mod Found
 pub mod Listed
+pub mod Made
 pub mod Once
+pub mod Scopes

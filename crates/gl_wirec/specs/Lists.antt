@@ -1,5 +1,5 @@
 -- The lists that the definitions' own lists of expressions, pairs, statements and slots have.
-use Rattle.std.specs.Prelude.{◌≡◌, ℕ, List, [], ◌∷◌, refl}
+use Rattle.std.specs.Prelude.{ℕ, List, [], ◌∷◌}
 use Rattle.gl_base.specs.Texts.{Text}
 use Rattle.gl_wire.specs.Wire.{Expr, Exprs, no_exprs, expr, NamedExprs, no_named, named_expr, Stmt, Body, end, stmt, Slots, no_slots, block}
 

@@ -6,7 +6,7 @@ ghost use Rattle.gl_wire.specs.Symbols.{with_names, expr_mentions, exprs_mention
 
 use crate::mentions::{note_call, note_expr, note_exprs};
 use crate::names::Names;
-use gl_ast::{Args, AttrValue, Body, Parts, Part, Slots, Stmt};
+use gl_ast::{Args, AttrValue, Body, Part, Parts, Slots, Stmt};
 use std::alloc::{AllocError, Global};
 
 fn note_value(alloc: Global, value: &AttrValue, symbols: &mut Names) -> Result<(), AllocError>
@@ -49,7 +49,12 @@ fn note_args(alloc: Global, args: &Args, symbols: &mut Names) -> Result<(), Allo
 // Adds the names of two bodies.
 #[cycle(statement)]
 #[tactic(auto, using(crate::proofs::Once::once_laws))]
-fn note_bodies(alloc: Global, body: &Body, otherwise: &Body, symbols: &mut Names) -> Result<(), AllocError>
+fn note_bodies(
+    alloc: Global,
+    body: &Body,
+    otherwise: &Body,
+    symbols: &mut Names,
+) -> Result<(), AllocError>
     ensures { OnOk result (symbols.new ≡ with_names symbols.old (body_mentions (body_of body.now) ++ body_mentions (body_of otherwise.now))) }
 {
     note_body(alloc, body, symbols)?;
@@ -68,21 +73,41 @@ fn note_stmt(alloc: Global, stmt: &Stmt, symbols: &mut Names) -> Result<(), Allo
             note_parts(alloc, parts, symbols)?;
             note_body(alloc, body, symbols)
         }
-        Stmt::Component { parts, args, slots, .. } => {
+        Stmt::Component {
+            parts,
+            args,
+            slots,
+            ..
+        } => {
             note_args(alloc, args, symbols)?;
             note_parts(alloc, parts, symbols)?;
             note_slots(alloc, slots, symbols)
         }
-        Stmt::If { test, body, otherwise, .. } => {
+        Stmt::If {
+            test,
+            body,
+            otherwise,
+            ..
+        } => {
             note_expr(alloc, &Names::new(alloc), test, symbols)?;
             note_bodies(alloc, body, otherwise, symbols)
         }
-        Stmt::Each { list, params, body, otherwise, .. } => {
+        Stmt::Each {
+            list,
+            params,
+            body,
+            otherwise,
+            ..
+        } => {
             note_expr(alloc, &Names::new(alloc), list, symbols)?;
             symbols.add_all(alloc, params)?;
             note_bodies(alloc, body, otherwise, symbols)
         }
-        Stmt::Let { values, params, body } => {
+        Stmt::Let {
+            values,
+            params,
+            body,
+        } => {
             note_exprs(alloc, &Names::new(alloc), values, symbols)?;
             symbols.add_all(alloc, params)?;
             note_body(alloc, body, symbols)

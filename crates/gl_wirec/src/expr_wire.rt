@@ -83,7 +83,14 @@ fn free_path(alloc: Global, whole: bool, name: &Text, rest: &Texts) -> Result<Wi
 }
 
 // A path that begins with a name.
-fn path_of(alloc: Global, symbols: &Names, scope: &Names, whole: bool, name: &Text, rest: &Texts) -> Result<WireExpr, AllocError>
+fn path_of(
+    alloc: Global,
+    symbols: &Names,
+    scope: &Names,
+    whole: bool,
+    name: &Text,
+    rest: &Texts,
+) -> Result<WireExpr, AllocError>
     ensures { IfOk result (λ e. wire.expr_view e ≡ path_of (has_text name.now scope.now) whole (place_of symbols.now name.now) name.now rest.now) }
 {
     if scope.has(name) {
@@ -93,7 +100,12 @@ fn path_of(alloc: Global, symbols: &Names, scope: &Names, whole: bool, name: &Te
     }
 }
 
-fn argument_path(alloc: Global, symbols: &Names, name: &Text, rest: &Texts) -> Result<WireExpr, AllocError>
+fn argument_path(
+    alloc: Global,
+    symbols: &Names,
+    name: &Text,
+    rest: &Texts,
+) -> Result<WireExpr, AllocError>
     ensures { IfOk result (λ e. wire.expr_view e ≡ followed (w.symbol (place_of symbols.now (64 ∷ name.now))) rest.now) }
 {
     let name = marked(alloc, name)?;
@@ -101,7 +113,14 @@ fn argument_path(alloc: Global, symbols: &Names, name: &Text, rest: &Texts) -> R
 }
 
 #[cycle(expression)]
-fn call_wire(alloc: Global, symbols: &Names, scope: &Names, name: &Text, args: &Exprs, named: &Pairs) -> Result<WireExpr, AllocError>
+fn call_wire(
+    alloc: Global,
+    symbols: &Names,
+    scope: &Names,
+    name: &Text,
+    args: &Exprs,
+    named: &Pairs,
+) -> Result<WireExpr, AllocError>
     ensures { IfOk result (λ e. wire.expr_view e ≡ w.call name.now (exprs_wire symbols.now scope.now false (exprs_of args.now)) (named_wire symbols.now scope.now (named_of named.now))) }
 {
     Ok(WireExpr::Call {
@@ -113,7 +132,13 @@ fn call_wire(alloc: Global, symbols: &Names, scope: &Names, name: &Text, args: &
 
 /// The wire's form of an expression, by the symbols and the parameters in scope, and whether it is a whole mustache.
 #[cycle(expression)]
-pub fn expr_wire(alloc: Global, symbols: &Names, scope: &Names, whole: bool, expr: &Expr) -> Result<WireExpr, AllocError>
+pub fn expr_wire(
+    alloc: Global,
+    symbols: &Names,
+    scope: &Names,
+    whole: bool,
+    expr: &Expr,
+) -> Result<WireExpr, AllocError>
     ensures { IfOk result (λ e. wire.expr_view e ≡ expr_wire symbols.now scope.now whole (expr_view expr.now)) }
 {
     match expr {
@@ -128,8 +153,13 @@ pub fn expr_wire(alloc: Global, symbols: &Names, scope: &Names, whole: bool, exp
 
 /// The wire's form of expressions.
 #[cycle(expression)]
-#[tactic(auto, using(crate::proofs::Listed::list_laws))]
-pub fn exprs_wire(alloc: Global, symbols: &Names, scope: &Names, whole: bool, exprs: &Exprs) -> Result<WireExprs, AllocError>
+pub fn exprs_wire(
+    alloc: Global,
+    symbols: &Names,
+    scope: &Names,
+    whole: bool,
+    exprs: &Exprs,
+) -> Result<WireExprs, AllocError>
     ensures { IfOk result (λ l. w.exprs_of l ≡ exprs_wire symbols.now scope.now whole (exprs_of exprs.now)) }
 {
     let mut list = WireExprs::new(alloc);
@@ -141,8 +171,12 @@ pub fn exprs_wire(alloc: Global, symbols: &Names, scope: &Names, whole: bool, ex
 
 /// The wire's form of named expressions.
 #[cycle(expression)]
-#[tactic(auto, using(crate::proofs::Listed::list_laws))]
-pub fn named_wire(alloc: Global, symbols: &Names, scope: &Names, pairs: &Pairs) -> Result<WirePairs, AllocError>
+pub fn named_wire(
+    alloc: Global,
+    symbols: &Names,
+    scope: &Names,
+    pairs: &Pairs,
+) -> Result<WirePairs, AllocError>
     ensures { IfOk result (λ l. w.named_of l ≡ named_wire symbols.now scope.now (named_of pairs.now)) }
 {
     let mut list = WirePairs::new(alloc);

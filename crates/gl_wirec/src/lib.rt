@@ -2,6 +2,11 @@
 #![tactic(auto)]
 
 mod body_mentions;
+mod compiling;
 mod expr_wire;
 mod mentions;
 mod names;
+mod part_wire;
+mod stmt_wire;
+
+pub use compiling::{compile, expression};

@@ -28,7 +28,12 @@ fn note_argument(alloc: Global, name: &Text, symbols: &mut Names) -> Result<(), 
 }
 
 // Adds a name that is known.
-fn note_name(alloc: Global, known: &Names, name: &Text, symbols: &mut Names) -> Result<(), AllocError>
+fn note_name(
+    alloc: Global,
+    known: &Names,
+    name: &Text,
+    symbols: &mut Names,
+) -> Result<(), AllocError>
     ensures { OnOk result (symbols.new ≡ with_names symbols.old (if has_text name.now known.now then name.now ∷ [] else [])) }
 {
     if known.has(name) {
@@ -41,7 +46,13 @@ fn note_name(alloc: Global, known: &Names, name: &Text, symbols: &mut Names) -> 
 /// Adds the names that the arguments of a call mention.
 #[cycle(expression)]
 #[tactic(auto, using(crate::proofs::Once::once_laws))]
-pub fn note_call(alloc: Global, known: &Names, args: &Exprs, named: &Pairs, symbols: &mut Names) -> Result<(), AllocError>
+pub fn note_call(
+    alloc: Global,
+    known: &Names,
+    args: &Exprs,
+    named: &Pairs,
+    symbols: &mut Names,
+) -> Result<(), AllocError>
     ensures { OnOk result (symbols.new ≡ with_names symbols.old (exprs_mentions known.now (exprs_of args.now) ++ named_mentions known.now (named_of named.now))) }
 {
     note_exprs(alloc, known, args, symbols)?;
@@ -50,7 +61,12 @@ pub fn note_call(alloc: Global, known: &Names, args: &Exprs, named: &Pairs, symb
 
 /// Adds the names that an expression mentions: its arguments, and those that are known.
 #[cycle(expression)]
-pub fn note_expr(alloc: Global, known: &Names, expr: &Expr, symbols: &mut Names) -> Result<(), AllocError>
+pub fn note_expr(
+    alloc: Global,
+    known: &Names,
+    expr: &Expr,
+    symbols: &mut Names,
+) -> Result<(), AllocError>
     ensures { OnOk result (symbols.new ≡ with_names symbols.old (expr_mentions known.now (expr_view expr.now))) }
 {
     match expr {
@@ -64,7 +80,12 @@ pub fn note_expr(alloc: Global, known: &Names, expr: &Expr, symbols: &mut Names)
 
 /// Adds the names that expressions mention.
 #[cycle(expression)]
-pub fn note_exprs(alloc: Global, known: &Names, exprs: &Exprs, symbols: &mut Names) -> Result<(), AllocError>
+pub fn note_exprs(
+    alloc: Global,
+    known: &Names,
+    exprs: &Exprs,
+    symbols: &mut Names,
+) -> Result<(), AllocError>
     ensures { OnOk result (symbols.new ≡ with_names symbols.old (exprs_mentions known.now (exprs_of exprs.now))) }
 {
     for item in exprs.as_slice() {
@@ -74,7 +95,12 @@ pub fn note_exprs(alloc: Global, known: &Names, exprs: &Exprs, symbols: &mut Nam
 }
 
 #[cycle(expression)]
-fn note_named(alloc: Global, known: &Names, pairs: &Pairs, symbols: &mut Names) -> Result<(), AllocError>
+fn note_named(
+    alloc: Global,
+    known: &Names,
+    pairs: &Pairs,
+    symbols: &mut Names,
+) -> Result<(), AllocError>
     ensures { OnOk result (symbols.new ≡ with_names symbols.old (named_mentions known.now (named_of pairs.now))) }
 {
     for pair in pairs.as_slice() {

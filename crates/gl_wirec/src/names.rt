@@ -50,7 +50,10 @@ impl Names {
     pub fn place(&self, name: &Text) -> Result<u32, AllocError>
         ensures { IfOk result (λ i. i ≡ place_of self.now name.now) }
     {
-        let place = self.set.get_index_of(name.as_str()).unwrap_or(self.set.len());
+        let place = self
+            .set
+            .get_index_of(name.as_str())
+            .unwrap_or(self.set.len());
         match u32::try_from(place) {
             Ok(place) => Ok(place),
             Err(_) => Err(AllocError),

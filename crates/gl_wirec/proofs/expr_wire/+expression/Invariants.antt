@@ -1,4 +1,4 @@
-use Rattle.std.proofs.Common.{◌≡◌, ◌≤◌, ◌+◌, ◌*◌, ◌++◌, max, drop, false}
+use Rattle.std.proofs.Common.{◌≡◌, ◌≤◌, ◌+◌, ◌*◌, ◌++◌, max, drop}
 use Rattle.gl_ast.specs.Depth.{expr_depth, exprs_depth, named_depth}
 use Rattle.gl_ast.specs.Template.{exprs_of, named_of}
 use Rattle.gl_ast.specs.View.{expr_view, seen_exprs, seen_pairs}

@@ -1,4 +1,4 @@
-use Rattle.std.proofs.Common.{sym, ◌∙◌}
+use Rattle.std.proofs.Common.{◌∙◌}
 use Rattle.gl_wirec.proofs.Found.{has_name}
 use Rattle.gl_wirec.proofs.names.Names.has.Goals as goal
 
