@@ -3,5 +3,6 @@ pub mod Listed
 pub mod Made
 pub mod Once
 pub mod PaysExprs
+pub mod PaysStmts
 pub mod Scopes
 pub mod Weights

@@ -1,16 +1,16 @@
 -- The tokens of expressions, values and parts of tags pay for what these have in a wire: for their size, and for the names
 -- that they mention or have.
 use Rattle.std.proofs.Common.{◌≡◌, ◌≤◌, ◌+◌, ◌*◌, inl, inr, ℕ, zero, suc, List, [], ◌∷◌, ◌++◌, Bool, true, false, cond, length, refl, sym, ap, subst, ◌∙◌, arith, length-append, true≢false}
-use Rattle.std.specs.Prelude.{◌&&◌, ◌||◌, ◌==◌, codes, map, filter, nat_lt, Some, if◌then◌else◌}
+use Rattle.std.specs.Prelude.{◌==◌, codes, filter, nat_lt, Some, if◌then◌else◌}
 use Rattle.std.specs.List.{list_all}
 use Rattle.std.specs.Str.{NonePass}
 use Rattle.gl_base.specs.Names.{has_text}
 use Rattle.gl_base.specs.Texts.{Text}
 use Rattle.gl_value.specs.Value as v
 use Rattle.gl_ast.specs.Canon.{segments_text}
-use Rattle.gl_ast.specs.Grammar.{deepest_calls, Mark, Stands, IsName, IsLiteral, IsExpr, AreExprs, AreNamed, IsCall, IsInner, IsMustache, IsQuotedText, AreQuoted, IsPlainValue, IsValue, IsGiven, IsPart, Item, part_item, argument_item, IsItem, after_comments, AreItems, parts_among, arguments_among, AreParameters}
+use Rattle.gl_ast.specs.Grammar.{deepest_calls, Stands, IsName, IsLiteral, IsExpr, AreExprs, AreNamed, IsCall, IsInner, IsMustache, IsQuotedText, AreQuoted, IsPlainValue, IsValue, IsPart, Item, part_item, argument_item, IsItem, after_comments, AreItems, parts_among, arguments_among, AreParameters}
 use Rattle.gl_ast.specs.Marks.{is_white}
-use Rattle.gl_ast.specs.Settling.{is_text, is_comment}
+use Rattle.gl_ast.specs.Settling.{is_comment}
 use Rattle.gl_ast.specs.Template.{Plain, Expr, literal, this, argument, bare, call, cat, Exprs, no_exprs, expr, NamedExprs, no_named, named_expr, AttrValue, fixed, live, Part, attribute, modifier, spread}
 use Rattle.gl_ast.specs.TokenText.{names_of, is_free, whole_of, string_of, decoded, parameters_of, words, pieces, add_first, up_to, beyond}
 use Rattle.gl_ast.specs.declared.token.Token.{Token}
@@ -23,7 +23,7 @@ use Rattle.gl_wire.specs.Size.{expr_size, exprs_size, named_size, part_size, par
 use Rattle.gl_wire.specs.Symbols.{place_of, expr_mentions, exprs_mentions, named_mentions, value_mentions, part_mentions, parts_mentions, arguments_mentions}
 use Rattle.gl_wire.specs.Wire as w
 use Rattle.gl_wire.specs.WireOf.{followed, path_of, expr_wire, exprs_wire, named_wire, part_wire, parts_wire, value_wire, arguments_wire}
-use Rattle.gl_wirec.proofs.Weights.{weights, Fits, Pays, none_pays, then, less, mark_pays, stands_pays, long_pays}
+use Rattle.gl_wirec.proofs.Weights.{Fits, Pays, none_pays, onward, less, mark_pays, stands_pays, long_pays}
 
 -- the length of a path's text
 name_some : (n : Text) → is_name n ≡ true → 1 ≤ length n
@@ -103,7 +103,7 @@ mutual
       let c = exprs_pays ss scope known false calls es g.1 g.2 b.fits g.6 in
       let d = named_pays ss scope known calls ns g.2 g.3 c.fits g.7 in
       let e = mark_pays k.CloseParen g.3 us d.fits g.8 in
-      less (then a (then b (then c (then d e)))) (omega arith) (omega (arith, length-append (exprs_mentions known es) (named_mentions known ns)))
+      less (onward a (onward b (onward c (onward d e)))) (omega arith) (omega (arith, length-append (exprs_mentions known es) (named_mentions known ns)))
   expr_pays ss scope known whole calls (cat es) ts us f g = absurd g
 
   pub exprs_pays : (ss scope known : List Text) (whole : Bool) (calls : ℕ) (es : Exprs) (ts us : List Token) → Fits ts → AreExprs calls ts es us
@@ -112,7 +112,7 @@ mutual
   exprs_pays ss scope known whole calls (expr e es) ts us f g =
       let a = expr_pays ss scope known whole calls e ts g.0 f g.1 in
       let b = exprs_pays ss scope known whole calls es g.0 us a.fits g.2 in
-      less (then a b) (omega arith) (omega (arith, length-append (expr_mentions known e) (exprs_mentions known es)))
+      less (onward a b) (omega arith) (omega (arith, length-append (expr_mentions known e) (exprs_mentions known es)))
 
   pub named_pays : (ss scope known : List Text) (calls : ℕ) (ns : NamedExprs) (ts us : List Token) → Fits ts → AreNamed calls ts ns us
       → Pays (named_size (named_wire ss scope ns)) (length (named_mentions known ns)) ts us
@@ -122,7 +122,7 @@ mutual
       let b = mark_pays k.Equals g.0 g.1 a.fits g.4 in
       let c = expr_pays ss scope known false calls e g.1 g.2 b.fits g.5 in
       let d = named_pays ss scope known calls ns g.2 us c.fits g.6 in
-      less (then a (then b (then c d))) (omega arith) (omega (arith, length-append (expr_mentions known e) (named_mentions known ns)))
+      less (onward a (onward b (onward c d))) (omega arith) (omega (arith, length-append (expr_mentions known e) (named_mentions known ns)))
 
 -- from here on nothing is known, as in a template
 call_pays : (ss scope : List Text) (n : Text) (es : Exprs) (ns : NamedExprs) (ts us : List Token) → Fits ts → IsCall ts n es ns us
@@ -131,7 +131,7 @@ call_pays ss scope n es ns ts us f g =
     let a = name_pays n ts g.0 f g.2 in
     let b = exprs_pays ss scope [] false deepest_calls es g.0 g.1 a.fits g.3 in
     let c = named_pays ss scope [] deepest_calls ns g.1 us b.fits g.4 in
-    less (then a (then b c)) (omega arith) (omega (arith, length-append (exprs_mentions [] es) (named_mentions [] ns)))
+    less (onward a (onward b c)) (omega arith) (omega (arith, length-append (exprs_mentions [] es) (named_mentions [] ns)))
 
 inner_pays : (ss scope : List Text) (e : Expr) (ts us : List Token) → Fits ts → IsInner ts e us → Pays (expr_size (expr_wire ss scope true e)) (length (expr_mentions [] e)) ts us
 inner_pays ss scope (literal x) ts us f g = expr_pays ss scope [] true deepest_calls (literal x) ts us f g
@@ -147,7 +147,7 @@ mustache_pays ss scope e ts us f g =
     let a = mark_pays k.OpenMustache ts g.0 f g.2 in
     let b = inner_pays ss scope e g.0 g.1 a.fits g.3 in
     let c = mark_pays k.CloseMustache g.1 us b.fits g.4 in
-    less (then a (then b c)) (omega arith) (omega arith)
+    less (onward a (onward b c)) (omega arith) (omega arith)
 
 -- quoted values
 quoted_text : (ss scope : List Text) (e : Expr) (ts us : List Token) → Fits ts → IsQuotedText ts e us → Pays (expr_size (expr_wire ss scope true e)) (length (expr_mentions [] e)) ts us
@@ -170,11 +170,11 @@ quoted_pays ss scope wanting (expr e es) ts us f g = elim g.1 [
   | inl h ↦
       let a = quoted_text ss scope e ts g.0 f h.0 in
       let b = quoted_pays ss scope wanting es g.0 us a.fits h.1 in
-      less (then a b) (omega arith) (omega (arith, length-append (expr_mentions [] e) (exprs_mentions [] es)))
+      less (onward a b) (omega arith) (omega (arith, length-append (expr_mentions [] e) (exprs_mentions [] es)))
   | inr h ↦
       let a = mustache_pays ss scope e ts g.0 f h.0 in
       let b = quoted_pays ss scope false es g.0 us a.fits h.1 in
-      less (then a b) (omega arith) (omega (arith, length-append (expr_mentions [] e) (exprs_mentions [] es)))
+      less (onward a b) (omega arith) (omega (arith, length-append (expr_mentions [] e) (exprs_mentions [] es)))
 ]
 
 plain_pays : (s : Text) (ts us : List Token) → Fits ts → IsPlainValue ts s us → Pays 1 1 ts us
@@ -182,7 +182,7 @@ plain_pays s ts us f (inl g) = mark_pays k.CloseQuote ts us f g.0
 plain_pays s ts us f (inr g) =
     let a = stands_pays k.Text (λ x. decoded x ≡ s) ts g.0 f g.1 in
     let b = mark_pays k.CloseQuote g.0 us a.fits g.2 in
-    less (then a b) (omega arith) (omega arith)
+    less (onward a b) (omega arith) (omega arith)
 
 -- a value, as that of an argument; an attribute's text counts for less
 value_pays : (ss scope : List Text) (x : AttrValue) (ts us : List Token) → Fits ts → IsValue ts x us → Pays (expr_size (value_wire ss scope x)) (length (value_mentions x)) ts us
@@ -190,12 +190,12 @@ value_pays ss scope (fixed s) ts us f (inl g) = less (stands_pays k.Unquoted (λ
 value_pays ss scope (fixed s) ts us f (inr g) =
     let a = mark_pays k.OpenQuote ts g.0 f g.1 in
     let b = plain_pays s g.0 us a.fits g.2 in
-    less (then a b) (omega arith) (omega arith)
+    less (onward a b) (omega arith) (omega arith)
 value_pays ss scope (live (cat es)) ts us f g =
     let a = mark_pays k.OpenQuote ts g.0 f g.2 in
     let b = quoted_pays ss scope true es g.0 g.1 a.fits g.3 in
     let c = mark_pays k.CloseQuote g.1 us b.fits g.4 in
-    less (then a (then b c)) (omega arith) (omega arith)
+    less (onward a (onward b c)) (omega arith) (omega arith)
 value_pays ss scope (live (literal x)) ts us f g = less (mustache_pays ss scope (literal x) ts us f g) (omega arith) (omega arith)
 value_pays ss scope (live (this n ns)) ts us f g = less (mustache_pays ss scope (this n ns) ts us f g) (omega arith) (omega arith)
 value_pays ss scope (live (argument n ns)) ts us f g = less (mustache_pays ss scope (argument n ns) ts us f g) (omega arith) (omega arith)
@@ -219,11 +219,11 @@ attribute_pays ss scope n x ts us f g =
       | inl h ↦
           let none : (x : AttrValue) → x ≡ fixed [] → (part_size (part_wire ss scope (attribute n x)) ≡ 1) × (length (value_mentions x) ≡ 0) = (λ y e. let P : AttrValue → Type 0 = λ z. (part_size (part_wire ss scope (attribute n z)) ≡ 1) × (length (value_mentions z) ≡ 0) in subst P (sym e) (refl, refl)) in
           let is = none x h.1 in
-          less (then a (none_pays g.0 us h.0 a.fits)) (omega (arith, is.0)) (omega (arith, is.1, attribute_names ss scope n x))
+          less (onward a (none_pays g.0 us h.0 a.fits)) (omega (arith, is.0)) (omega (arith, is.1, attribute_names ss scope n x))
       | inr h ↦
           let b = mark_pays k.Equals g.0 h.0 a.fits h.1 in
           let c = value_pays ss scope x h.0 us b.fits h.2 in
-          less (then a (then b c)) (omega (arith, attribute_size ss scope n x)) (omega (arith, attribute_names ss scope n x))
+          less (onward a (onward b c)) (omega (arith, attribute_size ss scope n x)) (omega (arith, attribute_names ss scope n x))
     ]
 
 part_pays : (ss scope : List Text) (p : Part) (ts us : List Token) → Fits ts → IsPart ts p us → Pays (part_size (part_wire ss scope p)) (length (part_mentions p) + part_names (part_wire ss scope p)) ts us
@@ -232,7 +232,7 @@ part_pays ss scope (modifier n es ns) ts us f g =
     let a = mark_pays k.OpenMustache ts g.0 f g.2 in
     let b = call_pays ss scope n es ns g.0 g.1 a.fits g.3 in
     let c = mark_pays k.CloseMustache g.1 us b.fits g.4 in
-    less (then a (then b c)) (omega arith) (omega arith)
+    less (onward a (onward b c)) (omega arith) (omega arith)
 part_pays ss scope spread ts us f g = less (mark_pays k.Spread ts us f g) (omega arith) (omega arith)
 
 argument_pays : (ss scope : List Text) (n : Text) (x : AttrValue) (ts us : List Token) → Fits ts → IsItem ts (argument_item n x) us
@@ -244,11 +244,11 @@ argument_pays ss scope n x ts us f g =
       | inl h ↦
           let none : (x : AttrValue) → x ≡ fixed [] → (expr_size (value_wire ss scope x) ≡ 1) × (length (value_mentions x) ≡ 0) = (λ y e. let P : AttrValue → Type 0 = λ z. (expr_size (value_wire ss scope z) ≡ 1) × (length (value_mentions z) ≡ 0) in subst P (sym e) (refl, refl)) in
           let is = none x h.1 in
-          less (then a (none_pays g.0 us h.0 a.fits)) (omega (arith, is.0)) (omega (arith, is.1))
+          less (onward a (none_pays g.0 us h.0 a.fits)) (omega (arith, is.0)) (omega (arith, is.1))
       | inr h ↦
           let b = mark_pays k.Equals g.0 h.0 a.fits h.1 in
           let c = value_pays ss scope x h.0 us b.fits h.2 in
-          less (then a (then b c)) (omega arith) (omega arith)
+          less (onward a (onward b c)) (omega arith) (omega arith)
     ]
 
 -- comments are passed over
@@ -270,50 +270,59 @@ items_names ss scope is =
     + (length (arguments_mentions (arguments_among is)) + argument_names (arguments_wire ss scope (arguments_among is)))
 
 pub items_pay : (ss scope : List Text) (is : List Item) (ts us : List Token) → Fits ts → AreItems ts is us → Pays (items_size ss scope is) (items_names ss scope is) ts us
-items_pay ss scope [] ts us f g = let c = comments_pay ts f in less (then c (none_pays (after_comments ts) us g c.fits)) (omega arith) (omega arith)
+items_pay ss scope [] ts us f g = let c = comments_pay ts f in less (onward c (none_pays (after_comments ts) us g c.fits)) (omega arith) (omega arith)
 items_pay ss scope (part_item p ∷ is) ts us f g =
     let c = comments_pay ts f in
     let a = part_pays ss scope p (after_comments ts) g.0 c.fits g.1 in
     let b = items_pay ss scope is g.0 us a.fits g.2 in
-    less (then c (then a b)) (omega arith) (omega (arith, length-append (part_mentions p) (parts_mentions (parts_among is))))
+    less (onward c (onward a b)) (omega arith) (omega (arith, length-append (part_mentions p) (parts_mentions (parts_among is))))
 items_pay ss scope (argument_item n x ∷ is) ts us f g =
     let c = comments_pay ts f in
     let a = argument_pays ss scope n x (after_comments ts) g.0 c.fits g.1 in
     let b = items_pay ss scope is g.0 us a.fits g.2 in
-    less (then c (then a b)) (omega arith) (omega (arith, length-append (value_mentions x) (arguments_mentions (arguments_among is))))
+    less (onward c (onward a b)) (omega arith) (omega (arith, length-append (value_mentions x) (arguments_mentions (arguments_among is))))
 
--- parameters
-more_words : (c : ℕ) (ps : List Text) → length (filter (λ w. nat_lt 0 (length w)) (add_first c ps)) ≤ suc (length (filter (λ w. nat_lt 0 (length w)) ps))
-more_words c [] = omega arith
-more_words c (p ∷ ps) = kept (nat_lt 0 (length p)) p ps
-  where
-    kept : (b : Bool) (p : Text) (ps : List Text) → suc (length (filter (λ w. nat_lt 0 (length w)) ps)) ≤ suc (length (if b then p ∷ filter (λ w. nat_lt 0 (length w)) ps else filter (λ w. nat_lt 0 (length w)) ps))
-    kept true p ps = omega arith
-    kept false p ps = omega arith
+-- parameters: words have characters
+abbrev kept : List Text → List Text
+kept ps = filter (λ w. nat_lt 0 (length w)) ps
+
+kept_first : (a b : Bool) (p q : Text) (ps : List Text) → length (if a then p ∷ ps else ps) ≤ suc (length (if b then q ∷ ps else ps))
+kept_first true true p q ps = omega arith
+kept_first true false p q ps = omega arith
+kept_first false true p q ps = omega arith
+kept_first false false p q ps = omega arith
+
+kept_alone : (a : Bool) (p : Text) → length (if a then p ∷ [] else []) ≤ 1
+kept_alone true p = omega arith
+kept_alone false p = omega arith
+
+more_words : (c : ℕ) (ps : List Text) → length (kept (add_first c ps)) ≤ suc (length (kept ps))
+more_words c [] = kept_alone (nat_lt 0 (length (c ∷ []))) (c ∷ [])
+more_words c (p ∷ ps) = kept_first (nat_lt 0 (length (c ∷ p))) (nat_lt 0 (length p)) (c ∷ p) p (kept ps)
+
+few_case : (b : Bool) (c n : ℕ) (ps : List Text) → length (kept ps) ≤ n → length (kept (if b then [] ∷ ps else add_first c ps)) ≤ suc n
+few_case true c n ps h = omega (arith, h)
+few_case false c n ps h = omega (arith, h, more_words c ps)
 
 few_words : (cs : Text) → length (words cs) ≤ length cs
 few_words [] = omega arith
-few_words (c ∷ cs) = white_case (is_white c)
-  where
-    white_case : (b : Bool) → length (filter (λ w. nat_lt 0 (length w)) (if b then [] ∷ pieces cs else add_first c (pieces cs))) ≤ suc (length cs)
-    white_case true = omega (arith, few_words cs)
-    white_case false = omega (arith, few_words cs, more_words c (pieces cs))
+few_words (c ∷ cs) = few_case (is_white c) c (length cs) (pieces cs) (few_words cs)
+
+cut_case : (b : Bool) (x : ℕ) (cut xs : Text) → length cut ≤ length xs → length (if b then [] else x ∷ cut) ≤ suc (length xs)
+cut_case true x cut xs h = omega arith
+cut_case false x cut xs h = omega (arith, h)
 
 up_to_less : (c : ℕ) (cs : Text) → length (up_to c cs) ≤ length cs
 up_to_less c [] = omega arith
-up_to_less c (x ∷ xs) = found (x == c)
-  where
-    found : (b : Bool) → length (if b then [] else x ∷ up_to c xs) ≤ suc (length xs)
-    found true = omega arith
-    found false = omega (arith, up_to_less c xs)
+up_to_less c (x ∷ xs) = cut_case (x == c) x (up_to c xs) xs (up_to_less c xs)
+
+rest_case : (b : Bool) (rest xs : Text) → length rest ≤ length xs → length (if b then xs else rest) ≤ suc (length xs)
+rest_case true rest xs h = omega arith
+rest_case false rest xs h = omega (arith, h)
 
 beyond_less : (c : ℕ) (cs : Text) → length (beyond c cs) ≤ length cs
 beyond_less c [] = omega arith
-beyond_less c (x ∷ xs) = found (x == c)
-  where
-    found : (b : Bool) → length (if b then xs else beyond c xs) ≤ suc (length xs)
-    found true = omega arith
-    found false = omega (arith, beyond_less c xs)
+beyond_less c (x ∷ xs) = rest_case (x == c) (beyond c xs) xs (beyond_less c xs)
 
 few_parameters : (x : Text) → length (parameters_of x) ≤ length x
 few_parameters x = omega (arith, few_words (up_to 124 (beyond 124 x)), up_to_less 124 (beyond 124 x), beyond_less 124 x)

@@ -1,12 +1,12 @@
 -- What tokens weigh: how many bytes each has. The tokens of a text weigh no more than the text.
-use Rattle.std.proofs.Common.{◌≡◌, ◌≤◌, ◌<◌, ◌+◌, ◌-◌, ◌*◌, ℕ, zero, suc, List, [], ◌∷◌, ◌++◌, Bool, true, false, cond, length, take, drop, refl, sym, ap, subst, ◌∙◌, arith, true≢false}
-use Rattle.std.specs.Prelude.{◌&&◌, not, min, if◌then◌else◌}
+use Rattle.std.proofs.Common.{◌≡◌, ◌≤◌, ◌+◌, ◌-◌, ◌*◌, ℕ, zero, suc, List, [], ◌∷◌, Bool, true, false, length, drop, refl, sym, ap, subst, ◌∙◌, arith, true≢false}
+use Rattle.std.specs.Prelude.{◌&&◌, not, if◌then◌else◌}
 use Rattle.std.specs.Str.{chars, chars_after, continuation_len, lead_bits, is_utf8}
 use Rattle.std.proofs.lemmas.List.{length-take}
 use Rattle.std.proofs.lemmas.Str.{IsUtf8-from_is_utf8}
 use Rattle.gl_base.specs.Texts.{Text}
 use Rattle.gl_ast.specs.Grammar.{Mark, Stands}
-use Rattle.gl_ast.specs.Settling.{is_text, settled_token, settle_from, settled, within_tag, edge_after}
+use Rattle.gl_ast.specs.Settling.{is_text, settle_from, settled, within_tag, edge_after}
 use Rattle.gl_ast.specs.Spans.{Spans, slice}
 use Rattle.gl_ast.specs.Tokens.{Reads}
 use Rattle.gl_ast.specs.declared.edge.Edge.{Edge}
@@ -72,7 +72,7 @@ settle_full : (bs : List ℕ) (tag : Bool) (front : Edge) (ts : List Token) → 
 settle_full bs tag front [] f = (tt, refl)
 settle_full bs tag front (t ∷ ts) f =
     let more = settle_full bs (within_tag tag t.kind) (edge_after bs tag front t ts) ts f.1 in
-    ((one_full (not tag && is_text t.kind) t _ (λ e. (both (not tag) (is_text t.kind) e).1) f.0, more.0), ap (λ n. n + weights _) (one_weight (not tag && is_text t.kind) t _) ∙ ap (λ n. weight t + n) more.1)
+    ((one_full (not tag && is_text t.kind) t _ (λ e. (both (not tag) (is_text t.kind) e).1) f.0, more.0), ap (λ n. n + weights (settle_from bs (within_tag tag t.kind) (edge_after bs tag front t ts) ts)) (one_weight (not tag && is_text t.kind) t _) ∙ ap (λ n. weight t + n) more.1)
 
 -- tokens that have their places, and texts of their kinds
 pub record Fits (ts : List Token) : Type 0 where
@@ -81,16 +81,16 @@ pub record Fits (ts : List Token) : Type 0 where
 
 -- the tokens of a text
 pub lone_fits : (mode : Mode) (bs : List ℕ) (ts : List Token) → is_utf8 bs ≡ true → Reads mode 0 bs ts → Fits ts × (weights ts ≤ length bs)
-lone_fits mode bs ts text reads =
+lone_fits mode bs ts text read =
     let u = IsUtf8-from_is_utf8 bs text in
     let none : 0 ≤ length bs = omega arith in
-    let s = spans_full bs 0 ts none (spans_from mode bs ts u (reading_read mode 0 bs ts reads)) in
-    (record { full = s.0; proper = reads_proper mode 0 bs ts u reads }, omega (arith, s.1))
+    let s = spans_full bs 0 ts none (spans_from mode bs ts u (reading_read mode 0 bs ts read)) in
+    (record { full = s.0; proper = reads_proper mode 0 bs ts u read }, omega (arith, s.1))
 
 pub settled_fits : (mode : Mode) (bs : List ℕ) (ts : List Token) → is_utf8 bs ≡ true → Reads mode 0 bs ts → Fits (settled bs ts) × (weights (settled bs ts) ≤ length bs)
 unfolding settled
-settled_fits mode bs ts text reads =
-    let f = lone_fits mode bs ts text reads in
+settled_fits mode bs ts text read =
+    let f = lone_fits mode bs ts text read in
     let s = settle_full bs false Keep ts f.0.full in
     (record { full = s.0; proper = settled_proper bs ts f.0.proper }, omega (arith, s.1, f.1))
 
@@ -105,8 +105,9 @@ none_pays ts us e f =
     let P : List Token → Type 0 = λ xs. Pays 0 0 ts xs in
     subst P e (record { fits = f; size = omega arith; names = omega arith })
 
-pub then : {n m p q : ℕ} {ts vs us : List Token} → Pays n m ts vs → Pays p q vs us → Pays (n + p) (m + q) ts us
-then a b = record { fits = b.fits; size = omega (arith, a.size, b.size); names = omega (arith, a.names, b.names) }
+-- one piece after another
+pub onward : {n m p q : ℕ} {ts vs us : List Token} → Pays n m ts vs → Pays p q vs us → Pays (n + p) (m + q) ts us
+onward a b = record { fits = b.fits; size = omega (arith, a.size, b.size); names = omega (arith, a.names, b.names) }
 
 pub less : {n m p q : ℕ} {ts us : List Token} → Pays n m ts us → p ≤ n → q ≤ m → Pays p q ts us
 less a h k = record { fits = a.fits; size = omega (arith, a.size, h); names = omega (arith, a.names, k) }
@@ -127,8 +128,8 @@ stands_pays kind Such ts us f g = let a = front_pays g.0 ts us f g.1 in record {
 
 -- one that is no text, by what its text says of its length
 pub long_pays : (n : ℕ) (kind : TokenKind) (Such : Text → Type 0) (ts us : List Token) → is_text kind ≡ false → ((x : Text) → IsProper kind x → Such x → n ≤ length x) → Fits ts → Stands kind Such ts us → Pays n n ts us
-long_pays n kind Such ts us no long f g =
+long_pays n kind Such ts us other long f g =
     let a = front_pays g.0 ts us f g.1 in
-    let h = a.1 (ap is_text g.2 ∙ no) in
+    let h = a.1 (ap is_text g.2 ∙ other) in
     let l = long g.0.text (subst (λ (y : TokenKind). IsProper y g.0.text) g.2 a.2) g.3 in
     record { fits = a.3; size = omega (arith, h, l); names = omega (arith, h, l) }

@@ -4,6 +4,7 @@
 mod body_mentions;
 mod compiling;
 mod expr_wire;
+pub mod laws;
 mod mentions;
 mod names;
 mod part_wire;
