@@ -1,0 +1,3 @@
+pub mod Elses
+pub mod NoFloats
+mod WireRows

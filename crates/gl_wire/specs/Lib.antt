@@ -1,0 +1,14 @@
+pub mod Depth
+pub mod ExprCode
+pub mod ExprFalls
+pub mod IsWire
+pub mod Json
+pub mod PartCode
+pub mod Rows
+pub mod Size
+pub mod StmtCode
+pub mod StmtFalls
+pub mod Symbols
+pub mod View
+pub mod Wire
+pub mod WireOf

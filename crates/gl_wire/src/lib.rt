@@ -1,0 +1,25 @@
+//! The wire of a template, and its JSON.
+#![tactic(auto)]
+
+mod body;
+mod expr;
+mod expr_json;
+mod exprs;
+mod head;
+mod json;
+mod pairs;
+mod part;
+mod parts;
+mod row;
+mod slots;
+mod stmt;
+mod stmt_json;
+mod symbols;
+mod wire;
+
+pub use expr::{Head, WireExpr, WireExprs, WirePair, WirePairs};
+pub use json::{to_json, to_text};
+pub use part::{WirePart, WireParts};
+pub use stmt::{WireBody, WireSlot, WireSlots, WireStmt};
+pub use symbols::Symbols;
+pub use wire::{ExprWire, Wire};

@@ -1,0 +1,65 @@
+// The calls of a list of parts of a tag.
+ghost use Rattle.std.specs.Prelude.{◌≡◌, ◌↔◌, [], ◌∷◌, ◌++◌, IsTrue, OnOk, OnErr, length, option_map, slice_get};
+ghost use Rattle.gl_wire.specs.View.{part_view, seen_parts};
+
+use crate::{WirePart, WireParts};
+use std::alloc::{AllocError, Global};
+
+impl WireParts {
+    /// The empty list. It takes no memory.
+    pub fn new(alloc: Global) -> WireParts
+        ensures { result ≡ [] }
+    {
+        WireParts {
+            list: Vec::new(alloc),
+        }
+    }
+
+    /// The list of the parts of a tag of a vector. It takes no memory.
+    pub fn from_vec(list: Vec<WirePart>) -> WireParts
+        ensures { result ≡ seen_parts list.items }
+    {
+        WireParts { list }
+    }
+
+    /// Gives the vector back. It takes no memory.
+    pub fn into_vec(self) -> Vec<WirePart>
+        ensures { seen_parts result.items ≡ self }
+    {
+        self.list
+    }
+
+    pub fn as_slice(&self) -> &[WirePart]
+        ensures { seen_parts result.now ≡ self.now }
+    {
+        self.list.as_slice()
+    }
+
+    pub fn len(&self) -> usize
+        ensures { result ≡ length self.now }
+    {
+        self.list.len()
+    }
+
+    pub fn is_empty(&self) -> bool
+        ensures { IsTrue result ↔ (self.now ≡ []) }
+    {
+        self.list.is_empty()
+    }
+
+    /// The part at a place, counted from 0.
+    pub fn get(&self, at: usize) -> Option<&WirePart>
+        ensures { option_map (λ v. part_view v.now) result ≡ slice_get self.now at }
+    {
+        self.list.as_slice().get(at)
+    }
+
+    /// Adds a part at the end.
+    pub fn push(&mut self, item: WirePart) -> Result<(), AllocError>
+        ensures ok { OnOk result (self.new ≡ self.old ++ part_view item ∷ []) }
+        ensures err { OnErr result (self.new ≡ self.old) }
+    {
+        self.list.push(item)?;
+        Ok(())
+    }
+}

@@ -1,0 +1,8 @@
+pub mod Found
+pub mod Listed
+pub mod Made
+pub mod Once
+pub mod PaysExprs
+pub mod PaysStmts
+pub mod Scopes
+pub mod Weights
