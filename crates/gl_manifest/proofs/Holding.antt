@@ -1,16 +1,14 @@
 -- What bytes say is what they hold.
-use Rattle.std.proofs.Common.{◌≡◌, ℕ, List, Option, Some, None, Ok, Err, refl}
-use Rattle.std.specs.Prelude.{Result, IfOk, ⊤}
+use Rattle.std.proofs.Common.{◌≡◌, ℕ, List, Option, Some, None, refl}
 use Rattle.serde_json.specs.Data as json
 use Rattle.gl_meaning.specs.JsonText.{read_json}
 use Rattle.gl_meaning.specs.Manifest as m
-use Rattle.gl_meaning.specs.ManifestIs.{IsManifest}
-use Rattle.gl_meaning.specs.ManifestOf.{manifest_of, said, after_shape, in_json, read_manifest}
+use Rattle.gl_meaning.specs.ManifestOf.{manifest_of, said, in_json, read_manifest}
 use Rattle.gl_meaning.specs.ManifestShape.{manifest_check}
 use Rattle.gl_meaning.proofs.Limits.{after_said}
 use Rattle.gl_meaning.proofs.Manifests.{manifest_is, is_manifest}
 use Rattle.gl_parse.specs.ReadStmt.{expression_of}
-use Rattle.gl_manifest.specs.Holds.{Spells, Holds}
+use Rattle.gl_manifest.specs.Holds.{Holds}
 
 said_json : (bytes : List ℕ) (x : m.Manifest) (o : Option json.Data) → read_json bytes ≡ o → in_json expression_of o ≡ said x → Holds bytes x
 said_json bytes x None is e = let r : ⊥ = cc in absurd r

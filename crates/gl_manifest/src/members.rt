@@ -1,10 +1,10 @@
 // What a class has under names: actions, fields and getters.
-ghost use Rattle.std.specs.Prelude.{◌≡◌, map};
+ghost use Rattle.std.specs.Prelude.{map};
 ghost use Rattle.serde_json.specs.View.{view};
-ghost use Rattle.gl_ast.specs.View.{expr_view, named_view};
+ghost use Rattle.gl_ast.specs.View.{named_view};
 ghost use Rattle.gl_value.specs.Plain.{plain_pair};
 ghost use Rattle.gl_value.specs.View.{seen_entry};
-ghost use Rattle.gl_meaning.specs.ManifestOf.{expression_in, action_of, field_of, getter_of, actions_in, fields_in, getters_in};
+ghost use Rattle.gl_meaning.specs.ManifestOf.{action_of, field_of, getter_of, actions_in, fields_in, getters_in};
 ghost use Rattle.gl_meaning.specs.View.{action_view};
 ghost use Rattle.gl_parse.specs.ReadStmt.{expression_of};
 ghost use Rattle.gl_shape.specs.View.{Tells};

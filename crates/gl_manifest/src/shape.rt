@@ -1,5 +1,4 @@
 // The form of classes and of a manifest.
-ghost use Rattle.std.specs.Prelude.{◌≡◌};
 ghost use Rattle.serde_json.specs.View.{view};
 ghost use Rattle.gl_meaning.specs.ManifestShape.{action_check, field_check, getter_check, class_member, class_check, modifier_check, manifest_member, manifest_check};
 ghost use Rattle.gl_shape.specs.View.{Tells};

@@ -1,5 +1,5 @@
 // What texts spell.
-ghost use Rattle.std.specs.Prelude.{◌≡◌, option_map};
+ghost use Rattle.std.specs.Prelude.{option_map};
 ghost use Rattle.serde_json.specs.View.{view};
 ghost use Rattle.gl_ast.specs.View.{expr_view};
 ghost use Rattle.gl_meaning.specs.ManifestOf.{expression_at, argument_path, called_in, when_in, text_found, texts_at};

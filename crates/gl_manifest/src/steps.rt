@@ -1,5 +1,4 @@
 // Steps.
-ghost use Rattle.std.specs.Prelude.{◌≡◌};
 ghost use Rattle.serde_json.specs.View.{view};
 ghost use Rattle.gl_ast.specs.View.{expr_view};
 ghost use Rattle.gl_meaning.specs.ManifestOf.{expression_in, arguments_in, set_of, call_of, step_of, steps_in};

@@ -1,9 +1,9 @@
 -- Manifests that are read from their bytes, computed.
-use Rattle.std.specs.Prelude.{◌≡◌, pos, List, [], ◌∷◌, true, false, Some, None, codes, refl}
-use Rattle.gl_value.specs.Value.{integer, list, no_values, text}
-use Rattle.gl_ast.specs.Template.{bare, argument, no_exprs, expr}
-use Rattle.gl_meaning.specs.App.{Action, Step, set_step, call_step}
-use Rattle.gl_meaning.specs.Manifest.{Manifest, ClassEntry}
+use Rattle.std.specs.Prelude.{◌≡◌, pos, [], ◌∷◌, true, false, Some, None, codes, refl}
+use Rattle.gl_value.specs.Value.{integer, list, no_values}
+use Rattle.gl_ast.specs.Template.{bare, no_exprs, expr}
+use Rattle.gl_meaning.specs.App.{Step, set_step, call_step}
+use Rattle.gl_meaning.specs.Manifest.{ClassEntry}
 use Rattle.gl_meaning.specs.ManifestOf.{read_manifest, said}
 use Rattle.gl_meaning.proofs.Computed.{on_literals, spelled}
 
@@ -28,7 +28,7 @@ full_class = record {
   fields = (codes "l", list no_values) ∷ (codes "n", integer (pos 1)) ∷ [];
   getters = (codes "g", bare (codes "x") []) ∷ [];
   actions = (codes "e", record { params = []; steps = [] }) ∷ (codes "f", record { params = codes "p" ∷ codes "o" ∷ []; steps = sets ∷ calls ∷ [] }) ∷ [];
-  teardown = true
+  teardown = true;
 }
 
 -- a class with all members: fields, getters and actions stand in the order of their names, and steps and parameters in the text's

@@ -1,6 +1,6 @@
 -- What follows from the form of JSON for what is read of it.
-use Rattle.std.proofs.Common.{◌≡◌, ◌≤◌, ◌<◌, ◌+◌, ℕ, List, [], ◌∷◌, length, Bool, true, false, Option, Some, None, Ok, Err, refl, sym, ap, ◌∙◌, arith, cond, subst}
-use Rattle.std.specs.Prelude.{⊤, option_and_then, unwrap_or, nat_le, ◌&&◌}
+use Rattle.std.proofs.Common.{◌≡◌, ◌≤◌, ◌+◌, ℕ, List, [], ◌∷◌, length, Bool, true, false, Option, Some, None, Ok, Err, refl, sym, ap, ◌∙◌, arith, cond}
+use Rattle.std.specs.Prelude.{⊤, nat_le}
 use Rattle.std.specs.Ordering.{nat_cmp, match_ordering, is_eq}
 use Rattle.std.specs.Cmp.Lexicographic.{slice_cmp}
 use Rattle.std.specs.declared.cmp.Ordering.{Ordering}
@@ -9,10 +9,10 @@ use Rattle.std.proofs.lemmas.Map.Text.{is_eq-slice_cmp}
 use Rattle.std.proofs.lemmas.Slice.Eq.{bytes_eq-Decides}
 use Rattle.gl_base.specs.Texts.{Text}
 use Rattle.serde_json.specs.Data as json
-use Rattle.serde_json.specs.Find.{get, get_member}
+use Rattle.serde_json.specs.Find.{get_member}
 use Rattle.gl_meaning.specs.JsonText.{count_members, count_items, member_count, item_count, members_in, items_in}
 use Rattle.gl_meaning.specs.ManifestRules.{Each}
-use Rattle.gl_meaning.specs.Walk.{Found, faulty, under, ◌then◌, sound_if, check_members, check_items, read_members, read_items, object_check, array_check}
+use Rattle.gl_meaning.specs.Walk.{Found, faulty, under, ◌then◌, check_members, read_members, read_items, object_check, array_check}
 
 -- what is sound as a whole is sound in both parts
 pub under_sound : (step : Text) (found rest : Found ⊤) → (under step found then λ u. rest) ≡ Ok tt → (found ≡ Ok tt) × (rest ≡ Ok tt)

@@ -1,18 +1,18 @@
 -- A manifest that is read keeps the limits.
-use Rattle.std.proofs.Common.{◌≡◌, ◌≤◌, ◌+◌, ℕ, List, ◌∷◌, length, Bool, true, Option, Some, None, Ok, Err, refl, sym, ap, ◌∙◌, arith, leb, subst}
+use Rattle.std.proofs.Common.{◌≡◌, ◌≤◌, ℕ, List, length, true, Option, Some, None, Ok, Err, refl, arith, subst}
 use Rattle.std.specs.Prelude.{⊤, codes, option_and_then, unwrap_or, nat_le, ◌&&◌}
 use Rattle.gl_base.specs.Texts.{Text}
 use Rattle.serde_json.specs.Data as json
-use Rattle.serde_json.specs.Find.{get, get_member, as_number, as_u64}
+use Rattle.serde_json.specs.Find.{get_member, as_number, as_u64}
 use Rattle.gl_meaning.specs.App.{Action}
 use Rattle.gl_meaning.specs.JsonText.{read_json, members_at, items_at, count_items}
 use Rattle.gl_meaning.specs.Manifest.{Manifest, ClassEntry}
 use Rattle.gl_meaning.specs.ManifestLimits as most
-use Rattle.gl_meaning.specs.ManifestOf.{Parse, text_found, texts_at, steps_in, action_of, field_of, getter_of, actions_in, fields_in, getters_in, class_of, classes_in, limit_in, manifest_of, ManifestReading, bad_json, bad_shape, not_in_grammar, said, after_shape, in_json, read_manifest}
-use Rattle.gl_meaning.specs.ManifestRules.{Each, ActionKeeps, ClassKeeps, KeepsLimits}
+use Rattle.gl_meaning.specs.ManifestOf.{Parse, text_found, texts_at, steps_in, action_of, field_of, getter_of, actions_in, fields_in, getters_in, class_of, classes_in, limit_in, manifest_of, said, after_shape, in_json, read_manifest}
+use Rattle.gl_meaning.specs.ManifestRules.{ActionKeeps, ClassKeeps, KeepsLimits}
 use Rattle.gl_meaning.specs.ManifestShape.{param_check, action_member, action_check, field_check, getter_check, class_member, class_check, is_nesting, limit_check, modifier_check, manifest_member, manifest_check}
 use Rattle.gl_meaning.specs.NameTests.{is_free_name, is_class_name}
-use Rattle.gl_meaning.specs.Walk.{Found, sound_if, check_members, read_members, read_items}
+use Rattle.gl_meaning.specs.Walk.{Found, sound_if, check_members}
 use Rattle.gl_meaning.proofs.Forms.{if_sound, then_gave, under_gave, ok_is, members_read, items_read, passed, object_passed, members_passed, items_passed}
 
 -- there are no more texts than items

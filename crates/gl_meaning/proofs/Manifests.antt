@@ -1,16 +1,15 @@
 -- The manifest that is read of JSON is the one that it holds.
-use Rattle.std.proofs.Common.{◌≡◌, ◌+◌, ℕ, List, [], ◌∷◌, Bool, true, false, Option, Some, None, Ok, Err, refl, sym, ap, ◌∙◌, cond}
+use Rattle.std.proofs.Common.{◌≡◌, ◌+◌, ℕ, List, [], ◌∷◌, Bool, true, false, Option, Some, None, Ok, refl, sym, ap, ◌∙◌, cond}
 use Rattle.std.specs.Prelude.{codes}
 use Rattle.std.specs.Str.{chars}
 use Rattle.serde_json.specs.Data as json
 use Rattle.gl_base.specs.Texts.{Text}
-use Rattle.gl_value.specs.Value.{Value, plain}
 use Rattle.gl_ast.specs.Template.{Plain, Expr, literal, this, argument, bare, call, cat, Exprs, no_exprs, expr, exprs_of}
 use Rattle.gl_meaning.specs.App.{Step, set_step, call_step, Action}
-use Rattle.gl_meaning.specs.JsonText.{members_at, items_at, text_in, text_at, has_key}
+use Rattle.gl_meaning.specs.JsonText.{members_at, items_at, text_at, has_key}
 use Rattle.gl_meaning.specs.Manifest.{Manifest, ClassEntry}
 use Rattle.gl_meaning.specs.ManifestIs.{MembersAre, ItemsAre, IsText, Spelling, IsWhen, AreArguments, IsStep, IsAction, IsField, IsGetter, IsClass, IsManifest}
-use Rattle.gl_meaning.specs.ManifestOf.{Parse, expression_in, expression_at, argument_path, called_in, when_in, arguments_in, set_of, call_of, step_of, text_found, texts_at, steps_in, action_of, field_of, getter_of, actions_in, fields_in, getters_in, flag_at, class_of, classes_in, limit_in, manifest_of}
+use Rattle.gl_meaning.specs.ManifestOf.{Parse, expression_in, expression_at, argument_path, called_in, when_in, arguments_in, set_of, call_of, step_of, text_found, texts_at, steps_in, action_of, field_of, getter_of, actions_in, fields_in, getters_in, class_of, classes_in, manifest_of}
 use Rattle.gl_meaning.specs.Walk.{Found, under, given, ◌then◌, read_members, read_items, value_at}
 use Rattle.gl_meaning.proofs.Forms.{then_gave, under_gave, ok_is}
 
@@ -202,7 +201,7 @@ class_is parse k d c h =
       fields = members_are field_of IsField field_is (members_at (codes "fields") d) fs.0 (under_gave _ _ fs.0 fs.1);
       getters = members_are (getter_of parse) (IsGetter (parses parse)) (getter_is parse) (members_at (codes "getters") d) gs.0 (under_gave _ _ gs.0 gs.1);
       actions = members_are (action_of parse) (IsAction (parses parse)) (action_is parse) (members_at (codes "actions") d) xs.0 (under_gave _ _ xs.0 xs.1);
-      teardown = refl
+      teardown = refl;
     })
 
 is_class : (parse : Parse) (k : List ℕ) (d : json.Data) (c : ClassEntry) → IsClass (parses parse) k d c → class_of parse k d ≡ Ok c
@@ -212,7 +211,10 @@ is_class parse k d c h =
       are_members (action_of parse) (IsAction (parses parse)) (is_action parse) (members_at (codes "actions") d) c.actions h.actions,
       are_members field_of IsField is_field (members_at (codes "fields") d) c.fields h.fields,
       are_members (getter_of parse) (IsGetter (parses parse)) (is_getter parse) (members_at (codes "getters") d) c.getters h.getters,
-      ← h.name, ← h.file, ← h.teardown) refl
+      ← h.name,
+      ← h.file,
+      ← h.teardown,
+    ) refl
 
 -- What is read is a manifest of the JSON, and a manifest of the JSON is read.
 pub manifest_is : (parse : Parse) (d : json.Data) (m : Manifest) → manifest_of parse d ≡ Ok m → IsManifest (parses parse) d m
@@ -224,7 +226,7 @@ manifest_is parse d m h =
       root = refl;
       limit = refl;
       modifiers = texts_are (codes "modifiers") d ts.0 ts.1;
-      classes = members_are (class_of parse) (IsClass (parses parse)) (class_is parse) (members_at (codes "classes") d) cs.0 (under_gave _ _ cs.0 cs.1)
+      classes = members_are (class_of parse) (IsClass (parses parse)) (class_is parse) (members_at (codes "classes") d) cs.0 (under_gave _ _ cs.0 cs.1);
     })
 
 pub is_manifest : (parse : Parse) (d : json.Data) (m : Manifest) → IsManifest (parses parse) d m → manifest_of parse d ≡ Ok m
@@ -233,4 +235,6 @@ is_manifest parse d m h =
     rw (
       are_members (class_of parse) (IsClass (parses parse)) (is_class parse) (members_at (codes "classes") d) m.classes h.classes,
       are_texts (codes "modifiers") d m.modifiers h.modifiers,
-      ← h.root, ← h.limit) refl
+      ← h.root,
+      ← h.limit,
+    ) refl

@@ -1,13 +1,13 @@
 -- The manifest that JSON of the form of a manifest holds, or else the pointer of the first text that spells no expression; where
 -- a `call` is, the first that spells no path of an argument. What a text spells is given by `parse`. Classes, fields, getters,
 -- actions and steps are taken in the order of the form, so each list is in the byte order of its names.
-use Rattle.std.specs.Prelude.{ℕ, List, Bool, false, ⊤, Result, Ok, Err, Option, Some, None, option_and_then, unwrap_or, codes, if◌then◌else◌}
+use Rattle.std.specs.Prelude.{ℕ, List, Bool, false, ⊤, Ok, Err, Option, Some, None, option_and_then, unwrap_or, codes, if◌then◌else◌}
 use Rattle.std.specs.Str.{chars}
 use Rattle.serde_json.specs.Data as json
 use Rattle.serde_json.specs.Find.{get, as_number, as_bool, as_u64}
 use Rattle.gl_base.specs.Texts.{Text}
 use Rattle.gl_value.specs.Value.{plain}
-use Rattle.gl_ast.specs.Template.{Plain, Expr, argument, literal, this, bare, call, cat, exprs_of}
+use Rattle.gl_ast.specs.Template.{Plain, Expr, argument, exprs_of}
 use Rattle.gl_meaning.specs.App.{Step, set_step, call_step, Action}
 use Rattle.gl_meaning.specs.JsonText.{read_json, members_at, items_at, text_in, text_at, has_key}
 use Rattle.gl_meaning.specs.Manifest.{Manifest, ClassEntry}

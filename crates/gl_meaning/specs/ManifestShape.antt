@@ -6,7 +6,7 @@
 use Rattle.std.specs.Prelude.{ℕ, zero, suc, List, Bool, true, false, not, ◌&&◌, ◌||◌, ◌==◌, nat_le, length, ⊤, Option, Some, None, option_and_then, codes, if◌then◌else◌}
 use Rattle.std.specs.Str.{bytes_eq}
 use Rattle.serde_json.specs.Data as json
-use Rattle.serde_json.specs.Find.{as_number, as_bool, as_u64}
+use Rattle.serde_json.specs.Find.{as_number, as_u64}
 use Rattle.gl_meaning.specs.JsonText.{items_in, has_key, has_inner, member_count, item_count}
 use Rattle.gl_meaning.specs.ManifestLimits as most
 use Rattle.gl_meaning.specs.NameTests.{is_name, is_free_name, is_class_name}

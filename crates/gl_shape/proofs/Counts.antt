@@ -1,6 +1,6 @@
 -- How many members and items there are.
 use Rattle.std.proofs.Common.{◌≡◌, List, [], ◌∷◌, length, refl, arith, String, Global}
-use Rattle.serde_json.specs.View.{view, members_view, items_view}
+use Rattle.serde_json.specs.View.{members_view, items_view}
 use Rattle.serde_json.specs.declared.value.Value.{Value}
 use Rattle.gl_meaning.specs.JsonText.{count_members, count_items}
 

@@ -1,5 +1,5 @@
 -- What an answer tells of a part, of what stands a step further down, and of the whole.
-use Rattle.std.proofs.Common.{◌≡◌, ◌++◌, ◌∷◌, [], List, Result, Ok, Err, refl, sym, ap, subst, ◌∙◌, append_assoc, append-nil}
+use Rattle.std.proofs.Common.{◌≡◌, ◌++◌, ◌∷◌, [], List, Result, Ok, Err, refl, sym, ap, ◌∙◌, append_assoc, append-nil}
 use Rattle.gl_base.specs.Texts.{Text}
 use Rattle.gl_meaning.specs.Walk.{Found, under, ◌then◌}
 use Rattle.gl_shape.specs.View.{Tells, IsUnder, IsFaultUnder}

@@ -1,5 +1,5 @@
 -- What the code's answers stand for.
-use Rattle.std.specs.Prelude.{◌≡◌, ◌++◌, [], ◌⊎◌, Result, Ok, Err}
+use Rattle.std.specs.Prelude.{◌≡◌, ◌++◌, [], Result, Ok, Err}
 use Rattle.gl_base.specs.Texts.{Text}
 use Rattle.gl_meaning.specs.Walk.{Found}
 use Rattle.gl_shape.specs.declared.fault.PlaceFault.{PlaceFault}
