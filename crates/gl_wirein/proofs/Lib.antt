@@ -1,7 +1,7 @@
 pub mod Allowed
 pub mod Expressions
 pub mod Placing
-pub mod Rows
+pub mod RowsRead
 pub mod SameWire
 pub mod Tags
 pub mod Texts

@@ -87,3 +87,9 @@ segments_read (n ∷ ns) h =
 
 pub texts_read : (ns : List Text) → list_all is_segment ns ≡ true → texts_in (texts_json ns) ≡ Some ns
 texts_read ns h = ap (λ (o : Option (List json.Data)). o >>= λ ds. read_all text_in ds) (list_read (map text_json ns)) ∙ segments_read ns h
+
+pub map_itself : (ss : List Text) → map (λ s. s) ss ≡ ss
+map_itself [] = refl
+map_itself (s ∷ ss) = ap (λ ts. s ∷ ts) (map_itself ss)
+
+pub ruleset list_laws = (data_of-items_of, map_itself)

@@ -4,3 +4,4 @@ pub mod Pieces
 pub mod ReadExpr
 pub mod ReadRows
 pub mod ReadTag
+pub mod View

@@ -1,6 +1,6 @@
 -- Statements that are read from their rows, the last row first. A row `end` opens a body that the row with which its
 -- statement begins takes; a row `else` begins the body before it.
-use Rattle.std.specs.Prelude.{ℕ, suc, List, [], ◌∷◌, Bool, true, false, ◌||◌, codes, nat_lt, length, if◌then◌else◌, Option, Some, None}
+use Rattle.std.specs.Prelude.{◌≡◌, ℕ, suc, List, [], ◌∷◌, Bool, true, false, ◌||◌, codes, nat_lt, length, if◌then◌else◌, Option, Some, None}
 use Rattle.std.specs.Str.{bytes_eq}
 use Rattle.serde_json.specs.Data as json
 use Rattle.serde_json.specs.Find.{get}
@@ -103,6 +103,11 @@ add_else state = ((end, state.0.0), state.1)
 abbrev pub add_opening : List Text → List ℕ → List json.Data → State → Option State
 add_opening symbols word fields (inside, []) = None
 add_opening symbols word fields (inside, (outside ∷ more)) = read_opening symbols word fields inside >>= λ s. Some (with_stmt s (outside, more))
+
+-- the innermost body is taken, where another is round it
+abbrev pub Closes : State → State → Option Open → Type 0
+Closes old new None = old.1 ≡ []
+Closes old new (Some inside) = old ≡ (inside, new.0 ∷ new.1)
 
 abbrev pub add_word : List Text → List ℕ → List json.Data → State → Option State
 add_word symbols word fields state =

@@ -1,7 +1,9 @@
 // Why JSON is the wire of no template.
 ghost use Rattle.std.specs.Prelude.{◌≡◌};
+ghost use Rattle.gl_wirein.specs.Answer.{fault_of};
 ghost use Rattle.gl_wirein.specs.declared.fault.WireFault.TheVariants.{Memory};
 
+use gl_parse::ParseFault;
 use std::alloc::{AllocError, AllocFailed};
 use thiserror::Error;
 
@@ -27,5 +29,16 @@ impl<T: Drop> From<AllocFailed<T>> for WireFault {
 
     fn from(_: AllocFailed<T>) -> Self {
         WireFault::Memory
+    }
+}
+
+impl From<ParseFault> for WireFault {
+    ghost from_gives = { λ f e. e ≡ fault_of f };
+
+    fn from(fault: ParseFault) -> Self {
+        match fault {
+            ParseFault::NotInGrammar { .. } => WireFault::BadWire,
+            ParseFault::Memory => WireFault::Memory,
+        }
     }
 }
