@@ -1,5 +1,5 @@
 -- Expressions are read again from their JSON.
-use Rattle.std.proofs.Common.{◌≡◌, ◌<◌, ℕ, zero, suc, ℤ, pos, negsuc, ◌^◌, List, [], ◌∷◌, ◌++◌, Bool, true, false, ◌&&◌, ◌==◌, Option, Some, None, if◌then◌else◌, map, refl, sym, ap, subst, ◌∙◌, codes, arith, nat_le, nat_lt, option_and_then}
+use Rattle.std.proofs.Common.{◌≡◌, ◌<◌, ◌-◌, ℕ, zero, suc, ℤ, pos, negsuc, ◌^◌, List, [], ◌∷◌, ◌++◌, Bool, true, false, ◌&&◌, ◌==◌, Option, Some, None, if◌then◌else◌, map, refl, sym, ap, subst, ◌∙◌, codes, arith, nat_le, nat_lt, option_and_then}
 use Rattle.std.specs.List.{list_all}
 use Rattle.std.specs.Str.{chars}
 use Rattle.std.proofs.lemmas.Bool.Decides.{nat_tests}
@@ -221,3 +221,8 @@ whole_read ss scope (bare n []) can s a = lone_read ss scope n can.0 s
 whole_read ss scope (bare n (m ∷ ms)) can s a = path_read ss scope n m ms can.0 can.1 s
 whole_read ss scope (call n es ns) can s a = whole_call_read ss scope n es ns can s a
 whole_read ss scope (cat es) can s a = absurd can
+
+-- a call, where one may stand
+pub called_more : (ss : List Text) (calls : ℕ) (fields : List json.Data) → 0 < calls → read_called ss calls fields ≡ read_call (λ e. read_expr ss (calls - 1) e) fields
+called_more ss zero fields h = absurd (omega (arith, h))
+called_more ss (suc n) fields h = let e : suc n - 1 ≡ n = omega arith in rw e refl

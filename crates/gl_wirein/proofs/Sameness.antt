@@ -1,16 +1,18 @@
 -- Two values of JSON are the same just where they are equal, but for floats.
-use Rattle.std.proofs.Common.{◌≡◌, ℕ, Bool, true, false, ◌||◌, true≢false, refl, sym, ap, ap₂, eqb, eq-eqb, eqb-eq}
+use Rattle.std.proofs.Common.{◌≡◌, ℕ, suc, List, [], ◌∷◌, length, Bool, true, false, ◌||◌, true≢false, refl, sym, ap, ap₂, eqb, eq-eqb, eqb→eq}
 use Rattle.std.specs.Prelude.{◌&&◌}
 use Rattle.std.specs.Cmp.{booleans_Decides}
 use Rattle.std.proofs.lemmas.Bool.Decides.{Decides-int_eq}
 use Rattle.std.proofs.lemmas.Slice.Eq.{bytes_eq-Decides}
 use Rattle.serde_json.specs.Data.{Num, unsigned, negative, float, Data, null, boolean, number, string, array, object, Items, no_items, item, Members, no_members, member}
+use Rattle.serde_json.specs.View.{view, items_view}
+use Rattle.serde_json.specs.declared.value.Value.{Value}
 use Rattle.serde_json.specs.Written.{has_float, items_have_float, members_have_float}
 use Rattle.gl_value.proofs.Sameness.{both_left, both_right, both_true}
 use Rattle.gl_wirein.specs.Same.{same_number, same, same_items, same_members}
 
 number_means : (a b : Num) → same_number a b ≡ true → a ≡ b
-number_means (unsigned a) (unsigned b) e = ap unsigned (eqb-eq a b e)
+number_means (unsigned a) (unsigned b) e = ap unsigned (eqb→eq a b e)
 number_means (negative a) (negative b) e = ap negative ((Decides-int_eq a b).0 e)
 number_means _ _ e = absurd (true≢false (sym e))
 
@@ -62,3 +64,14 @@ mutual
   members_same : (ms : Members) → members_have_float ms ≡ false → same_members ms ms ≡ true
   members_same no_members h = refl
   members_same (member k d ms) h = both_true _ _ (both_true _ _ ((bytes_eq-Decides k k).1 refl) (same_itself d (neither_left _ _ h))) (members_same ms (neither_right (has_float d) _ h))
+
+and_false : (a b : Bool) → false ≡ b → false ≡ (a && b)
+and_false true b e = e
+and_false false b e = refl
+
+-- arrays of different lengths are not the same
+pub differ_items : (vs ws : List Value) → (length vs ≡ length ws → ⊥) → false ≡ same_items (items_view vs) (items_view ws)
+differ_items [] [] h = absurd (h refl)
+differ_items [] (w ∷ ws) h = refl
+differ_items (v ∷ vs) [] h = refl
+differ_items (v ∷ vs) (w ∷ ws) h = and_false (same (view v) (view w)) (same_items (items_view vs) (items_view ws)) (differ_items vs ws (λ e. h (ap suc e)))

@@ -5,6 +5,7 @@ use Rattle.std.specs.Str.{chars, all_scalars}
 use Rattle.std.proofs.lemmas.Bool.Decides.{nat_tests}
 use Rattle.std.proofs.lemmas.Str.{chars-encodes}
 use Rattle.serde_json.specs.Data as json
+use Rattle.serde_json.specs.Find.{as_array}
 use Rattle.serde_json.specs.View.{items_of}
 use Rattle.gl_base.specs.Answers.{◌>>=◌}
 use Rattle.gl_base.specs.Reading.{read_all}
@@ -93,3 +94,22 @@ map_itself [] = refl
 map_itself (s ∷ ss) = ap (λ ts. s ∷ ts) (map_itself ss)
 
 pub ruleset list_laws = (data_of-items_of, map_itself)
+
+-- the values of an array, seen as one
+pub array_listed : (d : json.Data) (ds : json.Items) → Some ds ≡ as_array d → list_in d ≡ Some (data_of ds)
+array_listed json.null ds e = cc
+array_listed (json.boolean b) ds e = cc
+array_listed (json.number n) ds e = cc
+array_listed (json.string s) ds e = cc
+array_listed (json.array es) ds e = let same : es ≡ ds = cc in ap (λ xs. Some (data_of xs)) same
+array_listed (json.object ms) ds e = cc
+
+pub array_missing : (d : json.Data) → None ≡ as_array d → list_in d ≡ None
+array_missing json.null e = refl
+array_missing (json.boolean b) e = refl
+array_missing (json.number n) e = refl
+array_missing (json.string s) e = refl
+array_missing (json.array es) e = cc
+array_missing (json.object ms) e = refl
+
+pub ruleset array_laws = (array_missing, data_of-items_of)

@@ -1,11 +1,14 @@
 -- The JSON of a wire is read as a tree that has the wire.
-use Rattle.std.proofs.Common.{◌≡◌, ℕ, List, [], Bool, true, false, true≢false, Option, Some, None, refl, sym, ap, subst, ◌∙◌}
-use Rattle.std.proofs.Math.Logic.{∥∥₁_elim, ⊥_prop}
+use Rattle.std.proofs.Common.{◌≡◌, ℕ, List, [], Bool, true, false, true≢false, Option, Some, None, Result, Ok, Err, refl, sym, ap, subst, ◌∙◌}
+use Rattle.std.proofs.Math.Logic.{∥∥₁_elim}
 use Rattle.serde_json.specs.Data.{Data}
 use Rattle.gl_base.specs.Texts.{bytes_of}
 use Rattle.gl_ast.specs.Canon.{canonical}
 use Rattle.gl_ast.specs.Grammar.{IsTemplate, Spells, deepest_nesting}
 use Rattle.gl_ast.specs.Template.{Body}
+use Rattle.gl_parse.specs.Fault as parser
+use Rattle.gl_parse.specs.declared.fault.ParseFault.{ParseFault}
+use Rattle.gl_parse.specs.declared.fault.ParseFault.TheVariants as parse
 use Rattle.gl_parse.proofs.SpellsRead.{spells_one}
 use Rattle.gl_show.specs.Spellable.{CanBody}
 use Rattle.gl_show.proofs.CanStmts.{spelled_can}
@@ -15,9 +18,13 @@ use Rattle.gl_wire.specs.Json.{json_of}
 use Rattle.gl_wire.specs.Wire.{Wire}
 use Rattle.gl_wire.specs.WireOf.{wire_of}
 use Rattle.gl_wire.proofs.NoFloats.{no_float}
+use Rattle.gl_wirein.specs.Answer.{Tells, fault_of}
+use Rattle.gl_wirein.specs.Fault.{Fails}
 use Rattle.gl_wirein.specs.Normal.{normal_body}
 use Rattle.gl_wirein.specs.ReadRows.{tree_in}
 use Rattle.gl_wirein.specs.Same.{same}
+use Rattle.gl_wirein.specs.declared.fault.WireFault.{WireFault}
+use Rattle.gl_wirein.specs.declared.fault.WireFault.TheVariants as v
 use Rattle.gl_wirein.proofs.Allowed.{can_body}
 use Rattle.gl_wirein.proofs.RowsRead.{tree_read}
 use Rattle.gl_wirein.proofs.Sameness.{same_itself}
@@ -41,16 +48,16 @@ normal_spelled bytes b c d s e is =
 
 -- a wire has JSON that is read
 pub no_tree : (w : Wire) (d : Data) → IsWire w → json_of w ≡ d → tree_in d ≡ None → ⊥
-no_tree w d is e none = ∥∥₁_elim is ⊥_prop (λ x. ∥∥₁_elim x.1 ⊥_prop (λ s. some_none (normal_body [] x.0) (tree_in d) none (read_as s.0 x.0 d s.1 (ap json_of x.2 ∙ e))))
+no_tree w d is e none = ∥∥₁_elim is (λ a b. absurd a) (λ x. ∥∥₁_elim x.1 (λ a b. absurd a) (λ s. some_none (normal_body [] x.0) (tree_in d) none (read_as s.0 x.0 d s.1 (ap json_of x.2 ∙ e))))
 
 -- what is read of it has a spelling
 pub no_spelling : (w : Wire) (d : Data) (c : Body) → IsWire w → json_of w ≡ d → tree_in d ≡ Some c → ((b : Body) → Spells (bytes_of (canonical c)) b → ⊥) → ⊥
-no_spelling w d c is e read none = ∥∥₁_elim is ⊥_prop (λ x. ∥∥₁_elim x.1 ⊥_prop (λ s. none c (normal_spelled s.0 x.0 c d s.1 (ap json_of x.2 ∙ e) read).0))
+no_spelling w d c is e read none = ∥∥₁_elim is (λ a b. absurd a) (λ x. ∥∥₁_elim x.1 (λ a b. absurd a) (λ s. none c (normal_spelled s.0 x.0 c d s.1 (ap json_of x.2 ∙ e) read).0))
 
 -- and what that spells has the wire
 pub no_other : (w : Wire) (d : Data) (c t : Body) → IsWire w → json_of w ≡ d → tree_in d ≡ Some c → Spells (bytes_of (canonical c)) t → same (json_of (wire_of t)) d ≡ false → ⊥
 no_other w d c t is e read spells differs =
-    ∥∥₁_elim is ⊥_prop (λ x. ∥∥₁_elim x.1 ⊥_prop (λ s.
+    ∥∥₁_elim is (λ a b. absurd a) (λ x. ∥∥₁_elim x.1 (λ a b. absurd a) (λ s.
       let n = normal_spelled s.0 x.0 c d s.1 (ap json_of x.2 ∙ e) read in
       let is_t : t ≡ c = spells_one (bytes_of (canonical c)) t c spells n.0 in
       let is_d : json_of (wire_of t) ≡ d = ap (λ y. json_of (wire_of y)) is_t ∙ ap json_of (n.1 ∙ x.2) ∙ e in
@@ -62,3 +69,19 @@ pub one_wire : (bytes other : List ℕ) (b c : Body) → Spells bytes b → Spel
 one_wire bytes other b c s t e =
     let same_tree : normal_body [] b ≡ normal_body [] c = same_some (normal_body [] b) (normal_body [] c) (sym (read_as bytes b (json_of (wire_of c)) s e) ∙ read_as other c (json_of (wire_of c)) t refl) in
     sym (wire_of-normal b) ∙ ap wire_of same_tree ∙ wire_of-normal c
+
+-- what the answer tells, where the JSON is read as no tree
+pub tells_no_tree : {X : Type 0} (view : X → Wire) (d : Data) (e : WireFault) → Fails e (tree_in d) → Tells view d (Err e)
+tells_no_tree view d v.BadWire h = λ w is same_json. no_tree w d is same_json h
+tells_no_tree view d v.Memory h = tt
+
+-- where the tree has no spelling
+pub tells_no_spelling : {X Y : Type 0} (view : X → Wire) (seen : Y → Body) (d : Data) (c : Body) (bytes : List ℕ) (f : ParseFault) → tree_in d ≡ Some c → bytes ≡ bytes_of (canonical c) → parser.Tells seen (Spells bytes) (Err f) → Tells view d (Err (fault_of f))
+tells_no_spelling view seen d c bytes (parse.NotInGrammar offset) read is h =
+    λ w wire same_json. no_spelling w d c wire same_json read (λ b spells. h b (subst (λ bs. Spells bs b) (sym is) spells))
+tells_no_spelling view seen d c bytes parse.Memory read is h = tt
+
+-- and where the wire has another JSON
+pub tells_other : {X : Type 0} (view : X → Wire) (d again : Data) (c t : Body) (bytes : List ℕ) → tree_in d ≡ Some c → bytes ≡ bytes_of (canonical c) → Spells bytes t → again ≡ json_of (wire_of t) → same again d ≡ false → Tells view d (Err v.BadWire)
+tells_other view d again c t bytes read is spells made differs =
+    λ w wire same_json. no_other w d c t wire same_json read (subst (λ bs. Spells bs t) is spells) (ap (λ a. same a d) (sym made) ∙ differs)

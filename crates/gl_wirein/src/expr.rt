@@ -1,5 +1,6 @@
 // Expressions that are read from their JSON.
-ghost use Rattle.std.specs.Prelude.{◌≡◌, IfOk, map};
+ghost use Rattle.std.specs.Prelude.{◌≡◌, [], ◌∷◌, IfOk, MatchOption, map};
+ghost use Rattle.std.specs.Str.{chars};
 ghost use Rattle.serde_json.specs.View.{view};
 ghost use Rattle.gl_base.specs.Answers.{Gives};
 ghost use Rattle.gl_ast.specs.View.{lit_view, expr_view, named_view};
@@ -39,15 +40,23 @@ fn literal(alloc: Global, fields: &[Value]) -> Result<Expr, WireFault>
     }
 }
 
+// The first character of a text, and what stands after it.
+fn first_of(text: &Text) -> (Option<char>, &str)
+    ensures { MatchOption result.0 ((text.now ≡ []) × (chars result.1.now ≡ [])) (λ c. text.now ≡ c ∷ chars result.1.now) }
+{
+    let mut left = text.as_str().chars();
+    let first = left.next();
+    (first, left.as_str())
+}
+
 // The path that begins with a symbol.
-#[tactic(auto, using(gl_base::proofs::Chars::char_laws))]
 fn symbol_path(alloc: Global, name: &Text, rest: Texts) -> Result<Expr, AllocError>
     ensures { IfOk result (λ e. expr_view e ≡ symbol_path name.now rest) }
 {
-    let mut left = name.as_str().chars();
-    match left.next() {
+    let first = first_of(name);
+    match first.0 {
         Some('@') => Ok(Expr::Arg {
-            name: Text::from_str(alloc, left.as_str())?,
+            name: Text::from_str(alloc, first.1)?,
             rest,
         }),
         _ => Ok(Expr::Bare {

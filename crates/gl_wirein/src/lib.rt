@@ -3,10 +3,16 @@
 
 mod expr;
 mod fault;
+pub mod laws;
 mod pieces;
 mod rows;
+mod same;
 mod statement;
 mod tag;
+#[cfg(test)]
+mod tests;
 mod tree;
+mod wire;
 
 pub use fault::WireFault;
+pub use wire::from_json;

@@ -13,13 +13,13 @@ use serde_json::Value;
 use std::alloc::Global;
 
 /// The values of an array. `BadWire` where the value is none.
-#[tactic(auto, using(crate::proofs::Texts::list_laws))]
+#[tactic(auto, using(crate::proofs::Texts::array_laws))]
 pub fn items(json: &Value) -> Result<&[Value], WireFault>
     ensures { Gives Fails (λ s. map view s.now) result (list_in (view json.now)) }
 {
-    match json {
-        Value::Array(list) => Ok(list.as_slice()),
-        _ => Err(WireFault::BadWire),
+    match json.as_array() {
+        Some(list) => Ok(list.as_slice()),
+        None => Err(WireFault::BadWire),
     }
 }
 

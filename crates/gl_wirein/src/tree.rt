@@ -78,10 +78,11 @@ fn read_rows(alloc: Global, symbols: &Texts, list: &[Value]) -> Result<Rows, Wir
     ensures { Gives Fails (λ r. rows_view r) result (read_rows symbols.now (map view list.now)) }
 {
     let mut rows = Rows::new(alloc);
-    let mut left = list;
-    while let [front @ .., last] = left {
-        add_row(alloc, symbols, last, &mut rows)?;
-        left = front;
+    let mut left = list.len();
+    while left > 0 {
+        let at = left - 1;
+        add_row(alloc, symbols, &list[at], &mut rows)?;
+        left = at;
     }
     Ok(rows)
 }
