@@ -1,8 +1,8 @@
 -- Two values of JSON are the same just where they are equal, but for floats.
-use Rattle.std.proofs.Common.{◌≡◌, ℕ, suc, List, [], ◌∷◌, length, Bool, true, false, ◌||◌, true≢false, refl, sym, ap, ap₂, eqb, eq-eqb, eqb→eq}
+use Rattle.std.proofs.Common.{◌≡◌, ℕ, suc, List, [], ◌∷◌, length, Bool, true, false, ◌||◌, true≢false, refl, sym, ap, ap₂, ◌∙◌, eqb, eq-eqb, arith}
 use Rattle.std.specs.Prelude.{◌&&◌}
 use Rattle.std.specs.Cmp.{booleans_Decides}
-use Rattle.std.proofs.lemmas.Bool.Decides.{Decides-int_eq}
+use Rattle.std.proofs.lemmas.Bool.Decides.{Decides-int_eq, nat_tests}
 use Rattle.std.proofs.lemmas.Slice.Eq.{bytes_eq-Decides}
 use Rattle.serde_json.specs.Data.{Num, unsigned, negative, float, Data, null, boolean, number, string, array, object, Items, no_items, item, Members, no_members, member}
 use Rattle.serde_json.specs.View.{view, items_view}
@@ -11,8 +11,11 @@ use Rattle.serde_json.specs.Written.{has_float, items_have_float, members_have_f
 use Rattle.gl_value.proofs.Sameness.{both_left, both_right, both_true}
 use Rattle.gl_wirein.specs.Same.{same_number, same, same_items, same_members}
 
+naturals_mean : (a b : ℕ) → eqb a b ≡ true → a ≡ b
+naturals_mean a b e = grind (arith, nat_tests)
+
 number_means : (a b : Num) → same_number a b ≡ true → a ≡ b
-number_means (unsigned a) (unsigned b) e = ap unsigned (eqb→eq a b e)
+number_means (unsigned a) (unsigned b) e = ap unsigned (naturals_mean a b e)
 number_means (negative a) (negative b) e = ap negative ((Decides-int_eq a b).0 e)
 number_means _ _ e = absurd (true≢false (sym e))
 
@@ -35,7 +38,8 @@ mutual
   members_mean no_members no_members s = refl
   members_mean (member k d ms) (member l e ns) s =
       let first = both_left _ (same_members ms ns) s in
-      ap₂ (λ f w. f w) (ap₂ member ((bytes_eq-Decides k l).0 (both_left _ _ first)) (same_means d e (both_right _ (same d e) first))) (members_mean ms ns (both_right _ (same_members ms ns) s))
+      ap (λ (x : List ℕ). member x d ms) ((bytes_eq-Decides k l).0 (both_left _ _ first)) ∙ ap (λ (x : Data). member l x ms) (same_means d e (both_right _ (same d e) first))
+      ∙ ap (λ (x : Members). member l e x) (members_mean ms ns (both_right _ (same_members ms ns) s))
   members_mean _ _ s = absurd (true≢false (sym s))
 
 neither_left : (a b : Bool) → (a || b) ≡ false → a ≡ false

@@ -16,7 +16,6 @@ use std::alloc::Global;
 
 /// The wire whose JSON this is; there is at most one. `BadWire` exactly where no template's wire has that JSON. It takes
 /// time in proportion to the JSON.
-#[tactic(auto, using(crate::proofs::Sameness::same_means))]
 pub fn from_json(alloc: Global, json: &Value) -> Result<Wire, WireFault>
     ensures { Tells wire_view (view json.now) result }
 {

@@ -1,7 +1,9 @@
-use Rattle.std.proofs.Common.{◌≡◌, ◌<◌, ◌+◌, arith, rules, drop, map}
+use Rattle.std.proofs.Common.{◌≡◌, ◌<◌, ◌+◌, Option, arith, rules, drop, map}
 use Rattle.std.proofs.lemmas.List.{drop_all}
 use Rattle.std.proofs.lemmas.Result.{err_from_is_err_and}
+use Rattle.serde_json.specs.Data.{Data}
 use Rattle.serde_json.specs.View.{view}
+use Rattle.gl_ast.specs.Template.{Expr}
 use Rattle.gl_base.proofs.Lists.{drop_item, read_fail, read_end}
 use Rattle.gl_wirein.specs.ReadExpr.{pair_in, read_expr}
 use Rattle.gl_wirein.proofs.Expressions.{called_more}
@@ -15,7 +17,7 @@ called-returns-then-calls-gt0 t c =
 
 pub exprs-returns-in_err-read : goal.exprs-returns-in_err-read
 exprs-returns-in_err-read t c =
-    let inner = λ e. read_expr c.args.symbols.now c.args.calls e in
+    let inner : Data → Option Expr = λ e. read_expr c.args.symbols.now c.args.calls e in
     let values = c.in_ok-item-items.item-items.now in
     let here = drop_item values c.loop-item.item-index c.item-item.result c.loop-item-test.true c.item-item.is in
     let p = err_from_is_err_and c.from_residual-in_err-read.result c.from_residual-in_err-read.ensures.1 in
@@ -25,7 +27,7 @@ exprs-returns-in_err-read t c =
 
 pub exprs-returns : goal.exprs-returns
 exprs-returns t c =
-    let inner = λ e. read_expr c.args.symbols.now c.args.calls e in
+    let inner : Data → Option Expr = λ e. read_expr c.args.symbols.now c.args.calls e in
     let values = c.in_ok-item-items.item-items.now in
     let past = drop_all c.loop-item.item-index values c.loop-item-test.false in
     in_items inner (view c.args.json.now) values _ c.in_ok-item-items.ensures (read_end (λ v. inner (view v)) c.loop-item.list _ (rw past at c.loop-item.invariant))
