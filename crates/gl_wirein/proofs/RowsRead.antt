@@ -99,13 +99,13 @@ element_row ss scope tag ps b c outside more r can s a = rw (r, parts_read ss sc
 
 leaf_row : (ss scope : List Text) (class : Text) (ps : List Part) (args : List (Text × AttrValue)) (state : State) → Returns class → CanParts ps → CanArguments args → AllIn ss scope → AllIn ss (parts_mentions ps) → AllIn ss (arguments_mentions args)
     → add_row (rounded ss) (row (codes "leaf") (text_json class ∷ parts_json (parts_wire ss scope ps) ∷ array_of (named_json (arguments_wire ss scope args)) ∷ [])) state
-      ≡ Some (with_stmt (component_stmt class (normal_parts scope ps) (normal_arguments scope args) no_slots) state)
+    ≡ Some (with_stmt (component_stmt class (normal_parts scope ps) (normal_arguments scope args) no_slots) state)
 leaf_row ss scope class ps args state r can given s a g = rw (r, parts_read ss scope ps can s a, arguments_read ss scope args given s g) refl
 
 component_row : (ss scope : List Text) (class : Text) (ps : List Part) (args : List (Text × AttrValue)) (ns : List Text) (b c : Body) (outside : Open) (more : List Open) → Returns class → CanParts ps → CanArguments args → AreFreeNames ns
     → AllIn ss scope → AllIn ss (parts_mentions ps) → AllIn ss (arguments_mentions args) → AllIn ss ns
     → add_row (rounded ss) (row (codes "comp") (text_json class ∷ parts_json (parts_wire ss scope ps) ∷ array_of (named_json (arguments_wire ss scope args)) ∷ places_json (places_of ss ns) ∷ [])) ((b, c), outside ∷ more)
-      ≡ Some (with_stmt (component_stmt class (normal_parts scope ps) (normal_arguments scope args) (block (codes "default") ns b no_slots)) (outside, more))
+    ≡ Some (with_stmt (component_stmt class (normal_parts scope ps) (normal_arguments scope args) (block (codes "default") ns b no_slots)) (outside, more))
 component_row ss scope class ps args ns b c outside more r can given free s a g n = rw (r, parts_read ss scope ps can s a, arguments_read ss scope args given s g, params_read ss ns free n) refl
 
 if_row : (ss scope : List Text) (e : Expr) (unless : Bool) (b c : Body) (outside : Open) (more : List Open) → CanExpr deepest_calls e → AllIn ss scope → AllIn ss (expr_mentions [] e)
@@ -171,7 +171,7 @@ mutual
       before (rounded ss) (row (if_word unless) (expr_json (expr_wire ss scope false t) ∷ [])) ((body_rows (body_wire ss scope b) ++ (else_rows (body_wire ss scope c) ++ end_row)) ++ rest) ((normal_body scope b, normal_body scope c), state.0 ∷ state.1)
       (with_stmt (if_stmt t unless (normal_body scope b) (normal_body scope c)) state)
       (bodies_end (rounded ss) scope ss depth (body_wire ss scope b) (normal_body scope b) c rest state (body_read ss scope depth b can.1 s (in_front ss (body_mentions b) (body_mentions c) inside))
-        (body_read ss scope depth c can.2 s (in_back ss (body_mentions b) (body_mentions c) inside)) e fits)
+      (body_read ss scope depth c can.2 s (in_back ss (body_mentions b) (body_mentions c) inside)) e fits)
       (if_row ss scope t unless (normal_body scope b) (normal_body scope c) state.0 state.1 can.0 s (in_front ss (expr_mentions [] t) (body_mentions b ++ body_mentions c) a))
   stmt_read ss scope (suc depth) (each t key ns b c) can s a = λ rest state e fits.
       let inside = in_back ss (expr_mentions [] t) (ns ++ (body_mentions b ++ body_mentions c)) a in
@@ -180,8 +180,8 @@ mutual
       before (rounded ss) (row (codes "each") (expr_json (expr_wire ss scope false t) ∷ text_json key ∷ places_json (places_of ss ns) ∷ [])) ((body_rows (body_wire ss (with_names scope ns) b) ++ (else_rows (body_wire ss scope c) ++ end_row)) ++ rest)
       ((normal_body (with_names scope ns) b, normal_body scope c), state.0 ∷ state.1) (with_stmt (each t key ns (normal_body (with_names scope ns) b) (normal_body scope c)) state)
       (bodies_end (rounded ss) scope ss depth (body_wire ss (with_names scope ns) b) (normal_body (with_names scope ns) b) c rest state
-        (body_read ss (with_names scope ns) depth b can.4 (scope_in ss scope ns s names) (in_front ss (body_mentions b) (body_mentions c) bodies))
-        (body_read ss scope depth c can.5 s (in_back ss (body_mentions b) (body_mentions c) bodies)) e fits)
+      (body_read ss (with_names scope ns) depth b can.4 (scope_in ss scope ns s names) (in_front ss (body_mentions b) (body_mentions c) bodies))
+      (body_read ss scope depth c can.5 s (in_back ss (body_mentions b) (body_mentions c) bodies)) e fits)
       (each_row ss scope t key ns (normal_body (with_names scope ns) b) (normal_body scope c) state.0 state.1 can.0 (textual_returns key can.1.0) can.2 s (in_front ss (expr_mentions [] t) (ns ++ (body_mentions b ++ body_mentions c)) a) names)
   stmt_read ss scope (suc depth) (let_stmt es ns b) can s a = λ rest state e fits.
       let inside = in_back ss (exprs_mentions [] es) (ns ++ body_mentions b) a in
@@ -189,7 +189,7 @@ mutual
       before (rounded ss) (row (codes "let") (array_of (exprs_json (exprs_wire ss scope false es)) ∷ places_json (places_of ss ns) ∷ [])) ((body_rows (body_wire ss (with_names scope ns) b) ++ end_row) ++ rest)
       ((normal_body (with_names scope ns) b, end), state.0 ∷ state.1) (with_stmt (let_stmt es ns (normal_body (with_names scope ns) b)) state)
       (body_end (rounded ss) depth (body_wire ss (with_names scope ns) b) (normal_body (with_names scope ns) b) rest state
-        (body_read ss (with_names scope ns) depth b can.3 (scope_in ss scope ns s names) (in_back ss ns (body_mentions b) inside)) e fits)
+      (body_read ss (with_names scope ns) depth b can.3 (scope_in ss scope ns s names) (in_back ss ns (body_mentions b) inside)) e fits)
       (let_row ss scope es ns (normal_body (with_names scope ns) b) end state.0 state.1 can.1 can.2 s (in_front ss (exprs_mentions [] es) (ns ++ body_mentions b) a) names)
 
   body_read : (ss scope : List Text) (depth : ℕ) (b : Body) → CanBody depth b → AllIn ss scope → AllIn ss (body_mentions b) → ReadsBody (rounded ss) depth (body_wire ss scope b) (normal_body scope b)
@@ -212,7 +212,7 @@ mutual
       (with_stmt (component_stmt c (normal_parts scope ps) (normal_arguments scope args) (block name ns (normal_body (with_names scope ns) b) no_slots)) state)
       (body_end (rounded ss) depth (body_wire ss (with_names scope ns) b) (normal_body (with_names scope ns) b) rest state (body_read ss (with_names scope ns) depth b slots.2 (scope_in ss scope ns s names) inside) e fits)
       (component_row ss scope c ps args ns (normal_body (with_names scope ns) b) end state.0 state.1 r can given slots.1 s a g names
-        ∙ ap (λ (t : Text). Some (with_stmt (component_stmt c (normal_parts scope ps) (normal_arguments scope args) (block t ns (normal_body (with_names scope ns) b) no_slots)) state)) (sym slots.0))
+      ∙ ap (λ (t : Text). Some (with_stmt (component_stmt c (normal_parts scope ps) (normal_arguments scope args) (block t ns (normal_body (with_names scope ns) b) no_slots)) state)) (sym slots.0))
   component_read ss scope depth c ps args (block name ns b (block n2 ns2 b2 bs)) r can given slots s g a m = λ rest state e fits. absurd slots
 
 -- The rows of a template's wire are read as its normal tree.

@@ -58,11 +58,11 @@ no_spelling w d c is e read none = ∥∥₁_elim is (λ a b. absurd a) (λ x. �
 pub no_other : (w : Wire) (d : Data) (c t : Body) → IsWire w → json_of w ≡ d → tree_in d ≡ Some c → Spells (bytes_of (canonical c)) t → same (json_of (wire_of t)) d ≡ false → ⊥
 no_other w d c t is e read spells differs =
     ∥∥₁_elim is (λ a b. absurd a) (λ x. ∥∥₁_elim x.1 (λ a b. absurd a) (λ s.
-      let n = normal_spelled s.0 x.0 c d s.1 (ap json_of x.2 ∙ e) read in
-      let is_t : t ≡ c = spells_one (bytes_of (canonical c)) t c spells n.0 in
-      let is_d : json_of (wire_of t) ≡ d = ap (λ y. json_of (wire_of y)) is_t ∙ ap json_of (n.1 ∙ x.2) ∙ e in
-      let P : Data → Type 0 = λ y. same (json_of (wire_of t)) y ≡ true in
-      true≢false (sym (subst P is_d (same_itself (json_of (wire_of t)) (no_float (wire_of t)))) ∙ differs)))
+    let n = normal_spelled s.0 x.0 c d s.1 (ap json_of x.2 ∙ e) read in
+    let is_t : t ≡ c = spells_one (bytes_of (canonical c)) t c spells n.0 in
+    let is_d : json_of (wire_of t) ≡ d = ap (λ y. json_of (wire_of y)) is_t ∙ ap json_of (n.1 ∙ x.2) ∙ e in
+    let P : Data → Type 0 = λ y. same (json_of (wire_of t)) y ≡ true in
+    true≢false (sym (subst P is_d (same_itself (json_of (wire_of t)) (no_float (wire_of t)))) ∙ differs)))
 
 -- no two wires of templates have one JSON
 pub one_wire : (bytes other : List ℕ) (b c : Body) → Spells bytes b → Spells other c → json_of (wire_of b) ≡ json_of (wire_of c) → wire_of b ≡ wire_of c

@@ -117,12 +117,7 @@ fn get(alloc: Global, symbols: &Texts, fields: &[Value]) -> Result<Expr, WireFau
 
 /// The expressions of an array, where so many calls may nest.
 #[cycle(expression)]
-pub fn exprs(
-    alloc: Global,
-    symbols: &Texts,
-    json: &Value,
-    calls: u32,
-) -> Result<Exprs, WireFault>
+pub fn exprs(alloc: Global, symbols: &Texts, json: &Value, calls: u32) -> Result<Exprs, WireFault>
     ensures { Gives Fails (λ es. es) result (exprs_in (λ e. read_expr symbols.now calls e) (view json.now)) }
 {
     let mut list = Exprs::new(alloc);
@@ -150,12 +145,7 @@ fn pair(alloc: Global, symbols: &Texts, json: &Value, calls: u32) -> Result<Name
 
 /// The named expressions of an array, where so many calls may nest.
 #[cycle(expression)]
-pub fn pairs(
-    alloc: Global,
-    symbols: &Texts,
-    json: &Value,
-    calls: u32,
-) -> Result<Pairs, WireFault>
+pub fn pairs(alloc: Global, symbols: &Texts, json: &Value, calls: u32) -> Result<Pairs, WireFault>
     ensures { Gives Fails (λ ns. ns) result (pairs_in (λ e. read_expr symbols.now calls e) (view json.now)) }
 {
     let mut list = Pairs::new(alloc);

@@ -10,7 +10,7 @@ ghost use Rattle.gl_wirein.specs.ReadTag.{inner_in, whole_in, parts_of_cat, valu
 use crate::WireFault;
 use crate::expr::{expr, exprs, pairs};
 use crate::pieces::{Reader, fields, items, read_all, text, word};
-use gl_ast::{Argument, Args, AttrValue, Expr, Exprs, Lit, Part, Parts};
+use gl_ast::{Args, Argument, AttrValue, Expr, Exprs, Lit, Part, Parts};
 use gl_value::Texts;
 use serde_json::Value;
 use std::alloc::Global;
@@ -54,12 +54,7 @@ fn value(alloc: Global, symbols: &Texts, json: &Value) -> Result<Expr, WireFault
     ensures { Gives Fails (λ e. expr_view e) result (value_in symbols.now (view json.now)) }
 {
     match cat_parts(items(json)?) {
-        Some(parts) => Ok(Expr::Cat(exprs(
-            alloc,
-            symbols,
-            parts,
-            DEEPEST_CALLS + 1,
-        )?)),
+        Some(parts) => Ok(Expr::Cat(exprs(alloc, symbols, parts, DEEPEST_CALLS + 1)?)),
         None => whole(alloc, symbols, json),
     }
 }

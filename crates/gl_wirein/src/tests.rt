@@ -82,7 +82,12 @@ const WIRES: [&str; 6] = [
 ];
 
 // Whether the text is of no wire, or of one that gives it again.
-fn check_row(rt: &impl Abort, alloc: Global, text: &'static str, is_wire: bool) -> Result<(), Fail> {
+fn check_row(
+    rt: &impl Abort,
+    alloc: Global,
+    text: &'static str,
+    is_wire: bool,
+) -> Result<(), Fail> {
     let json = Value::from_str(alloc, text)?;
     match from_json(alloc, &json) {
         Ok(wire) => {

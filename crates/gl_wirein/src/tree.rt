@@ -62,12 +62,7 @@ fn add_word(
     add_opening(alloc, symbols, word, fields, rows)
 }
 
-fn add_row(
-    alloc: Global,
-    symbols: &Texts,
-    json: &Value,
-    rows: &mut Rows,
-) -> Result<(), WireFault>
+fn add_row(alloc: Global, symbols: &Texts, json: &Value, rows: &mut Rows) -> Result<(), WireFault>
     ensures { Gives Fails (λ u. rows_view rows.new) result (add_row symbols.now (view json.now) (rows_view rows.old)) }
 {
     let row = items(json)?;

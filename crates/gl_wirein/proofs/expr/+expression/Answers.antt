@@ -23,7 +23,7 @@ exprs-returns-in_err-read t c =
     let p = err_from_is_err_and c.from_residual-in_err-read.result c.from_residual-in_err-read.ensures.1 in
     rw (p.1, p.2)
     (fails_on c.in_err-read.field-0.0 _ _ (λ never. in_items inner (view c.args.json.now) values _ c.in_ok-item-items.ensures
-      (read_fail (λ v. inner (view v)) c.loop-item.list c.item-item.result (drop (c.loop-item.item-index + 1) values) _ never (rw here at c.loop-item.invariant))) c.in_err-read.ensures)
+    (read_fail (λ v. inner (view v)) c.loop-item.list c.item-item.result (drop (c.loop-item.item-index + 1) values) _ never (rw here at c.loop-item.invariant))) c.in_err-read.ensures)
 
 pub exprs-returns : goal.exprs-returns
 exprs-returns t c =
@@ -40,7 +40,7 @@ pairs-returns-in_err-read t c =
     let p = err_from_is_err_and c.from_residual-in_err-read.result c.from_residual-in_err-read.ensures.1 in
     rw (p.1, p.2)
     (fails_on c.in_err-read.field-0.0 _ _ (λ never. in_items inner (view c.args.json.now) values _ c.in_ok-item-items.ensures
-      (read_fail (λ v. inner (view v)) c.loop-item.list c.item-item.result (drop (c.loop-item.item-index + 1) values) _ never (rw here at c.loop-item.invariant))) c.in_err-read.ensures)
+    (read_fail (λ v. inner (view v)) c.loop-item.list c.item-item.result (drop (c.loop-item.item-index + 1) values) _ never (rw here at c.loop-item.invariant))) c.in_err-read.ensures)
 
 pub pairs-returns : goal.pairs-returns
 pairs-returns t c =

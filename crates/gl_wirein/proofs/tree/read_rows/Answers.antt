@@ -17,4 +17,4 @@ returns-in_err-add_row c =
     let p = err_from_is_err_and c.from_residual.result c.from_residual.ensures.1 in
     rw (p.1, p.2)
     (fails_on c.in_err-add_row.field-0.0 _ _
-      (λ never. rows_fail c.args.symbols.now list (l.left - 1) c.index-list-at.result (rows_view l.rows) (drop_item list (l.left - 1) c.index-list-at.result within c.index-list-at.is) (subst P next l.invariant.1) never) c.in_err-add_row.ensures)
+    (λ never. rows_fail c.args.symbols.now list (l.left - 1) c.index-list-at.result (rows_view l.rows) (drop_item list (l.left - 1) c.index-list-at.result within c.index-list-at.is) (subst P next l.invariant.1) never) c.in_err-add_row.ensures)

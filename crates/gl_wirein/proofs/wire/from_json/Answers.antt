@@ -21,7 +21,7 @@ returns-in_err-template c =
     let p = err_from_is_err_and c.from_residual-in_err-template.result c.from_residual-in_err-template.ensures.1 in
     rw (p.1, p.2)
     (tells_no_spelling wire_view (λ (t : Template). body_of t.body) (view c.args.json.now) (body_of c.in_ok-body.body) c.as_bytes.result.now c.in_err-template.field-0.0 c.in_ok-body.ensures
-      (c.as_bytes.ensures.value ∙ c.as_str.ensures.bytes ∙ ap bytes_of c.in_ok-text.ensures) c.in_err-template.ensures.tree)
+    (c.as_bytes.ensures.value ∙ c.as_str.ensures.bytes ∙ ap bytes_of c.in_ok-text.ensures) c.in_err-template.ensures.tree)
 
 pub returns-then-not-same : goal.returns-then-not-same
 returns-then-not-same c =
