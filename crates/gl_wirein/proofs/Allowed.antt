@@ -1,9 +1,9 @@
 -- Where some bytes spell a tree, some spell its normal tree.
-use Rattle.std.proofs.Common.{◌≡◌, ℕ, zero, suc, List, [], ◌∷◌, Bool, true, false, ◌&&◌, refl, sym, ap, ◌∙◌}
+use Rattle.std.proofs.Common.{◌≡◌, ℕ, zero, suc, List, [], ◌∷◌, Bool, true, false, refl, ap, ◌∙◌}
 use Rattle.gl_base.specs.Names.{has_text}
 use Rattle.gl_base.specs.Texts.{Text}
 use Rattle.gl_value.specs.Value as v
-use Rattle.gl_ast.specs.Template.{Expr, literal, this, argument, bare, call, cat, Exprs, no_exprs, expr, NamedExprs, no_named, named_expr, AttrValue, fixed, live, Part, attribute, modifier, spread, Stmt, text_stmt, comment_stmt, put, element, component_stmt, if_stmt, each, let_stmt, yield, Body, end, stmt, Slots, no_slots, block}
+use Rattle.gl_ast.specs.Template.{Expr, literal, this, argument, bare, call, cat, Exprs, no_exprs, expr, AttrValue, fixed, live, Part, attribute, modifier, spread, Stmt, text_stmt, comment_stmt, put, element, component_stmt, if_stmt, each, let_stmt, yield, Body, end, stmt, Slots, no_slots, block}
 use Rattle.gl_show.specs.Spellable.{CanInner, CanQuotedPart, needs_text, CanQuoted, CanCat, CanValue, CanPart, CanParts, CanArguments, CanBody, CanStmt, CanSlots}
 use Rattle.gl_wire.specs.Symbols.{with_names}
 use Rattle.gl_wirein.specs.ReadTag.{given, given_plain}

@@ -1,14 +1,13 @@
 -- Expressions are read again from their JSON.
-use Rattle.std.proofs.Common.{◌≡◌, ◌<◌, ◌-◌, ℕ, zero, suc, ℤ, pos, negsuc, ◌^◌, List, [], ◌∷◌, ◌++◌, Bool, true, false, ◌&&◌, ◌==◌, Option, Some, None, if◌then◌else◌, map, refl, sym, ap, subst, ◌∙◌, codes, arith, nat_le, nat_lt, option_and_then}
+use Rattle.std.proofs.Common.{◌≡◌, ◌<◌, ◌-◌, ℕ, zero, suc, ℤ, pos, negsuc, ◌^◌, List, [], ◌∷◌, ◌++◌, Bool, true, false, ◌==◌, Option, Some, refl, ap, ◌∙◌, codes, arith, nat_le, nat_lt}
 use Rattle.std.specs.List.{list_all}
-use Rattle.std.specs.Str.{chars}
 use Rattle.std.proofs.lemmas.Bool.Decides.{nat_tests}
 use Rattle.serde_json.specs.Data as json
 use Rattle.serde_json.specs.Find.{as_i64, of_integer}
 use Rattle.gl_base.specs.Answers.{◌>>=◌}
 use Rattle.gl_base.specs.Names.{has_text}
 use Rattle.gl_base.specs.Reading.{read_all}
-use Rattle.gl_base.specs.Texts.{Text, bytes_of}
+use Rattle.gl_base.specs.Texts.{Text}
 use Rattle.gl_value.specs.Value as v
 use Rattle.gl_ast.specs.Grammar.{deepest_calls}
 use Rattle.gl_ast.specs.Marks.{starts_name, in_name}
@@ -16,13 +15,13 @@ use Rattle.gl_ast.specs.Template.{Plain, Expr, literal, this, argument, bare, ca
 use Rattle.gl_ast.specs.Words.{greatest}
 use Rattle.gl_ast.proofs.Forward.{both}
 use Rattle.gl_show.specs.Spellable.{is_name, is_segment, is_within, IsTextual, IsFreeName, CanLiteral, CanExpr, CanExprs, CanNamed, CanCall, CanInner, CanQuotedPart}
-use Rattle.gl_wire.specs.Json.{array_of, row, text_json, texts_json, place_json, literal_json, expr_json, exprs_json, named_json}
+use Rattle.gl_wire.specs.Json.{array_of, text_json, texts_json, place_json, literal_json, expr_json, exprs_json, named_json}
 use Rattle.gl_wire.specs.Symbols.{place_of, expr_mentions, exprs_mentions, named_mentions}
 use Rattle.gl_wire.specs.Wire as w
 use Rattle.gl_wire.specs.WireOf.{followed, path_of, expr_wire, exprs_wire, named_wire}
 use Rattle.gl_wirein.specs.Normal.{normal_name, normal_expr}
 use Rattle.gl_wirein.specs.Pieces.{text_in, list_in, texts_in, symbol_in}
-use Rattle.gl_wirein.specs.ReadExpr.{symbol_path, read_head, exprs_in, pair_in, pairs_in, read_call, read_with, no_call, read_expr, read_called}
+use Rattle.gl_wirein.specs.ReadExpr.{symbol_path, read_head, exprs_in, pair_in, pairs_in, read_call, read_with, read_expr, read_called}
 use Rattle.gl_wirein.proofs.Placing.{AllIn, in_front, in_back, known_in, rounded, symbol_read}
 use Rattle.gl_wirein.proofs.Texts.{Returns, textual_returns, name_returns, at_name_returns, segment_returns, first_no_at, list_read, text_read, texts_read}
 

@@ -1,5 +1,5 @@
 -- Names by their places among the symbols.
-use Rattle.std.proofs.Common.{◌≡◌, ℕ, suc, List, [], ◌∷◌, ◌++◌, Bool, true, false, ◌||◌, Option, Some, None, if◌then◌else◌, map, refl, sym, ap, subst, ◌∙◌, slice_get}
+use Rattle.std.proofs.Common.{◌≡◌, suc, List, [], ◌∷◌, ◌++◌, Bool, true, false, ◌||◌, Option, Some, if◌then◌else◌, map, refl, sym, ap, subst, ◌∙◌, slice_get}
 use Rattle.std.specs.Str.{bytes_eq, chars}
 use Rattle.std.proofs.lemmas.Slice.Eq.{bytes_eq-Decides}
 use Rattle.serde_json.specs.Data as json
@@ -8,11 +8,11 @@ use Rattle.gl_base.specs.Names.{has_text}
 use Rattle.gl_base.specs.Reading.{read_all}
 use Rattle.gl_base.specs.Texts.{Text, bytes_of}
 use Rattle.gl_ast.specs.Template.{Body}
-use Rattle.gl_show.specs.Spellable.{is_name, AreFreeNames}
+use Rattle.gl_show.specs.Spellable.{AreFreeNames}
 use Rattle.gl_wire.specs.Json.{text_json, texts_json, place_json, places_json}
 use Rattle.gl_wire.specs.Symbols.{with_name, with_names, place_of, symbols_of, body_mentions}
 use Rattle.gl_wire.specs.WireOf.{places_of}
-use Rattle.gl_wirein.specs.Pieces.{text_in, list_in, texts_in, symbol_in, symbols_in}
+use Rattle.gl_wirein.specs.Pieces.{text_in, texts_in, symbol_in, symbols_in}
 use Rattle.gl_wirein.proofs.Texts.{Returns, name_returns, list_read}
 
 -- the texts as JSON gives them back

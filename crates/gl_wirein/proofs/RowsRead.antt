@@ -1,27 +1,25 @@
 -- Statements are read again from their rows.
-use Rattle.std.proofs.Common.{◌≡◌, ◌≤◌, ◌<◌, ◌+◌, ℕ, zero, suc, List, [], ◌∷◌, ◌++◌, Bool, true, false, Option, Some, None, length, nat_lt, map, refl, sym, ap, subst, ◌∙◌, codes, arith, append_assoc, append-nil}
+use Rattle.std.proofs.Common.{◌≡◌, ◌≤◌, ◌+◌, ℕ, zero, suc, List, [], ◌∷◌, ◌++◌, Bool, true, false, Option, Some, length, nat_lt, refl, sym, ap, subst, ◌∙◌, codes, arith, append_assoc, append-nil}
 use Rattle.std.proofs.lemmas.Bool.Decides.{nat_tests}
 use Rattle.serde_json.specs.Data as json
-use Rattle.serde_json.specs.Find.{get}
 use Rattle.gl_base.specs.Answers.{◌>>=◌}
-use Rattle.gl_base.specs.Reading.{read_all}
-use Rattle.gl_base.specs.Texts.{Text, bytes_of}
+use Rattle.gl_base.specs.Texts.{Text}
 use Rattle.gl_ast.specs.Grammar.{deepest_calls, deepest_nesting}
 use Rattle.gl_ast.specs.Template.{Expr, Exprs, exprs_of, AttrValue, Part, Stmt, text_stmt, comment_stmt, put, element, component_stmt, if_stmt, each, let_stmt, yield, Body, end, stmt, Slots, no_slots, block}
-use Rattle.gl_show.specs.Spellable.{CanInner, CanExpr, CanExprs, CanParts, CanArguments, IsClassName, IsTextual, IsString, AreFreeNames, CanBody, CanStmt, CanSlots}
-use Rattle.gl_wire.specs.Json.{array_of, row, text_json, texts_json, places_json, expr_json, exprs_json, named_json, parts_json, if_word, end_row, stmt_rows, body_rows, component_rows, else_rows, json_of}
+use Rattle.gl_show.specs.Spellable.{CanInner, CanExpr, CanExprs, CanParts, CanArguments, IsTextual, AreFreeNames, CanBody, CanStmt, CanSlots}
+use Rattle.gl_wire.specs.Json.{array_of, row, text_json, texts_json, places_json, expr_json, exprs_json, named_json, parts_json, if_word, end_row, stmt_rows, body_rows, else_rows, json_of}
 use Rattle.gl_wire.specs.Symbols.{with_names, symbols_of, expr_mentions, exprs_mentions, parts_mentions, arguments_mentions, stmt_mentions, body_mentions, slots_mentions}
 use Rattle.gl_wire.specs.Wire as w
-use Rattle.gl_wire.specs.WireOf.{places_of, expr_wire, exprs_wire, parts_wire, arguments_wire, stmt_wire, body_wire, slots_wire, wire_of}
-use Rattle.gl_wirein.specs.Normal.{normal_expr, normal_parts, normal_arguments, normal_stmt, normal_body, normal_slots}
-use Rattle.gl_wirein.specs.Pieces.{text_in, list_in, texts_in, symbols_in}
+use Rattle.gl_wire.specs.WireOf.{places_of, expr_wire, exprs_wire, parts_wire, arguments_wire, stmt_wire, body_wire, wire_of}
+use Rattle.gl_wirein.specs.Normal.{normal_expr, normal_parts, normal_arguments, normal_stmt, normal_body}
+use Rattle.gl_wirein.specs.Pieces.{list_in, texts_in, symbols_in}
 use Rattle.gl_wirein.specs.ReadExpr.{exprs_in}
-use Rattle.gl_wirein.specs.ReadTag.{inner_in, whole_in, parts_in, arguments_in}
+use Rattle.gl_wirein.specs.ReadTag.{inner_in}
 use Rattle.gl_wirein.specs.ReadRows.{Open, State, closed, start, with_stmt, add_row, read_rows, whole_body, read_body, tree_in}
 use Rattle.gl_wirein.proofs.Expressions.{goes_on, exprs_list, exprs_of-list, exprs_array, expr_read, exprs_read, inner_quoted, whole_read}
 use Rattle.gl_wirein.proofs.Placing.{AllIn, in_front, in_back, scope_in, rounded, symbols_read, params_read, mentions_in}
 use Rattle.gl_wirein.proofs.Tags.{parts_read, arguments_read}
-use Rattle.gl_wirein.proofs.Texts.{Returns, textual_returns, tag_returns, class_returns, list_read, text_read}
+use Rattle.gl_wirein.proofs.Texts.{Returns, textual_returns, tag_returns, class_returns, list_read}
 
 -- the state with statements before the innermost body
 abbrev with_body : Body → State → State

@@ -1,9 +1,9 @@
 -- The normal tree has the wire of the tree.
-use Rattle.std.proofs.Common.{◌≡◌, ℕ, List, [], ◌∷◌, ◌++◌, Bool, true, false, refl, sym, ap, ◌∙◌}
+use Rattle.std.proofs.Common.{◌≡◌, List, [], ◌∷◌, Bool, true, false, refl, ◌∙◌}
 use Rattle.gl_base.specs.Names.{has_text}
 use Rattle.gl_base.specs.Texts.{Text}
 use Rattle.gl_value.specs.Value as v
-use Rattle.gl_ast.specs.Template.{Expr, literal, this, argument, bare, call, cat, Exprs, no_exprs, expr, NamedExprs, no_named, named_expr, AttrValue, fixed, live, Part, attribute, modifier, spread, Stmt, text_stmt, comment_stmt, put, element, component_stmt, if_stmt, each, let_stmt, yield, Body, end, stmt, Slots, no_slots, block}
+use Rattle.gl_ast.specs.Template.{Expr, literal, this, argument, bare, call, cat, Exprs, no_exprs, expr, AttrValue, fixed, live, Part, attribute, modifier, spread, Stmt, text_stmt, comment_stmt, put, element, component_stmt, if_stmt, each, let_stmt, yield, Body, end, stmt, Slots, no_slots, block}
 use Rattle.gl_wire.specs.Symbols.{with_names, place_of, symbols_of, expr_mentions, exprs_mentions, value_mentions, part_mentions, parts_mentions, arguments_mentions, stmt_mentions, body_mentions, slots_mentions}
 use Rattle.gl_wire.specs.WireOf.{path_of, expr_wire, exprs_wire, part_wire, parts_wire, value_wire, arguments_wire, stmt_wire, body_wire, slots_wire, wire_of}
 use Rattle.gl_wirein.specs.ReadTag.{given, given_plain}

@@ -1,14 +1,14 @@
 -- Values, parts and arguments of a tag are read again from their JSON.
-use Rattle.std.proofs.Common.{◌≡◌, ℕ, suc, List, [], ◌∷◌, ◌++◌, Bool, true, false, ◌&&◌, Option, Some, None, map, refl, sym, ap, ◌∙◌, codes}
+use Rattle.std.proofs.Common.{◌≡◌, ℕ, List, [], ◌∷◌, Bool, true, false, Some, map, refl, ap, ◌∙◌, codes}
 use Rattle.serde_json.specs.Data as json
 use Rattle.gl_base.specs.Answers.{◌>>=◌}
 use Rattle.gl_base.specs.Names.{has_text}
 use Rattle.gl_base.specs.Reading.{read_all}
-use Rattle.gl_base.specs.Texts.{Text, bytes_of}
+use Rattle.gl_base.specs.Texts.{Text}
 use Rattle.gl_value.specs.Value as v
 use Rattle.gl_ast.specs.Grammar.{deepest_calls}
-use Rattle.gl_ast.specs.Template.{Plain, Expr, literal, this, argument, bare, call, cat, Exprs, no_exprs, expr, NamedExprs, no_named, named_expr, exprs_of, named_of, AttrValue, fixed, live, Part, attribute, modifier, spread}
-use Rattle.gl_show.specs.Spellable.{CanInner, CanQuotedPart, needs_text, CanQuoted, CanCat, CanValue, CanPart, CanParts, CanArguments}
+use Rattle.gl_ast.specs.Template.{Plain, Expr, literal, this, argument, bare, call, cat, Exprs, no_exprs, expr, NamedExprs, exprs_of, named_of, AttrValue, fixed, live, Part, attribute, modifier, spread}
+use Rattle.gl_show.specs.Spellable.{CanQuotedPart, needs_text, CanQuoted, CanCat, CanValue, CanPart, CanParts, CanArguments}
 use Rattle.gl_wire.specs.Json.{array_of, row, text_json, literal_json, expr_json, exprs_json, named_json, part_json, parts_json}
 use Rattle.gl_wire.specs.Symbols.{place_of, expr_mentions, exprs_mentions, named_mentions, value_mentions, part_mentions, parts_mentions, arguments_mentions}
 use Rattle.gl_wire.specs.Wire as w

@@ -1,7 +1,7 @@
 -- Texts of a tree are read again from their JSON.
-use Rattle.std.proofs.Common.{◌≡◌, ◌<◌, ℕ, List, [], ◌∷◌, ◌++◌, Bool, true, false, ◌&&◌, Option, Some, None, map, refl, sym, ap, ◌∙◌, ltb, codes, arith, ◌==◌, inl, inr}
+use Rattle.std.proofs.Common.{◌≡◌, ◌<◌, ℕ, List, [], ◌∷◌, true, false, Option, Some, None, map, refl, ap, ◌∙◌, arith, ◌==◌, inl, inr}
 use Rattle.std.specs.List.{list_all}
-use Rattle.std.specs.Str.{chars, all_scalars}
+use Rattle.std.specs.Str.{chars}
 use Rattle.std.proofs.lemmas.Bool.Decides.{nat_tests}
 use Rattle.std.proofs.lemmas.Str.{chars-encodes}
 use Rattle.serde_json.specs.Data as json
@@ -11,7 +11,7 @@ use Rattle.gl_base.specs.Answers.{◌>>=◌}
 use Rattle.gl_base.specs.Reading.{read_all}
 use Rattle.gl_base.specs.Texts.{Text, bytes_of, is_ascii_text}
 use Rattle.gl_base.proofs.Chars.{chars_of_ascii}
-use Rattle.gl_ast.specs.Marks.{is_capital, is_small, is_digit, starts_name, in_name, in_class, in_tag, starts_attribute, in_attribute}
+use Rattle.gl_ast.specs.Marks.{is_small, is_digit, starts_name, in_tag, starts_attribute, in_attribute}
 use Rattle.gl_ast.proofs.Forward.{both}
 use Rattle.gl_show.specs.Spellable.{is_word, is_name, is_segment, IsClassName, IsTextual}
 use Rattle.gl_show.proofs.ContentTokens.{NamesElement, class_names}

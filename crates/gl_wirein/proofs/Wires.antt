@@ -1,16 +1,15 @@
 -- The JSON of a wire is read as a tree that has the wire.
-use Rattle.std.proofs.Common.{◌≡◌, ℕ, List, [], Bool, true, false, true≢false, Option, Some, None, Result, Ok, Err, refl, sym, ap, subst, ◌∙◌}
+use Rattle.std.proofs.Common.{◌≡◌, ℕ, List, [], true, false, true≢false, Option, Some, None, Err, refl, sym, ap, subst, ◌∙◌}
 use Rattle.std.proofs.Math.Logic.{∥∥₁_elim}
 use Rattle.serde_json.specs.Data.{Data}
 use Rattle.gl_base.specs.Texts.{bytes_of}
 use Rattle.gl_ast.specs.Canon.{canonical}
-use Rattle.gl_ast.specs.Grammar.{IsTemplate, Spells, deepest_nesting}
+use Rattle.gl_ast.specs.Grammar.{Spells, deepest_nesting}
 use Rattle.gl_ast.specs.Template.{Body}
 use Rattle.gl_parse.specs.Fault as parser
 use Rattle.gl_parse.specs.declared.fault.ParseFault.{ParseFault}
 use Rattle.gl_parse.specs.declared.fault.ParseFault.TheVariants as parse
 use Rattle.gl_parse.proofs.SpellsRead.{spells_one}
-use Rattle.gl_show.specs.Spellable.{CanBody}
 use Rattle.gl_show.proofs.CanStmts.{spelled_can}
 use Rattle.gl_show.proofs.SpelledCanon.{spelled_canonical}
 use Rattle.gl_wire.specs.IsWire.{IsWire}

@@ -1,5 +1,5 @@
 -- What a fault says of the reading of a wire.
-use Rattle.std.specs.Prelude.{◌≡◌, Option, None, Result, Ok, Err}
+use Rattle.std.specs.Prelude.{◌≡◌, Option, None}
 use Rattle.gl_wirein.specs.declared.fault.WireFault.{WireFault}
 use Rattle.gl_wirein.specs.declared.fault.WireFault.TheVariants as v
 

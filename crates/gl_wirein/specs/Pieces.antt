@@ -2,7 +2,7 @@
 use Rattle.std.specs.Prelude.{ℕ, List, [], ◌∷◌, Option, Some, None, option_and_then, slice_get}
 use Rattle.std.specs.Str.{chars}
 use Rattle.serde_json.specs.Data as json
-use Rattle.serde_json.specs.Find.{as_number, as_str, as_u64, get}
+use Rattle.serde_json.specs.Find.{as_number, as_str, as_u64}
 use Rattle.gl_base.specs.Answers.{◌>>=◌}
 use Rattle.gl_base.specs.Reading.{read_all}
 use Rattle.gl_base.specs.Texts.{Text}

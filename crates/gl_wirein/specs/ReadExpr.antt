@@ -1,5 +1,5 @@
 -- Expressions that are read from their JSON. Nothing is checked but the form.
-use Rattle.std.specs.Prelude.{ℕ, zero, suc, List, [], ◌∷◌, Bool, ◌==◌, ◌||◌, codes, if◌then◌else◌, Option, Some, None}
+use Rattle.std.specs.Prelude.{ℕ, zero, suc, List, [], ◌∷◌, ◌==◌, codes, if◌then◌else◌, Option, Some, None}
 use Rattle.std.specs.Str.{bytes_eq, chars}
 use Rattle.serde_json.specs.Data as json
 use Rattle.serde_json.specs.Find.{as_i64}
@@ -7,7 +7,7 @@ use Rattle.gl_base.specs.Answers.{◌>>=◌}
 use Rattle.gl_base.specs.Reading.{read_all}
 use Rattle.gl_base.specs.Texts.{Text}
 use Rattle.gl_value.specs.Value as v
-use Rattle.gl_ast.specs.Template.{Plain, Expr, literal, this, argument, bare, call, cat, exprs_of, named_of}
+use Rattle.gl_ast.specs.Template.{Plain, Expr, literal, this, argument, bare, call, exprs_of, named_of}
 use Rattle.gl_wirein.specs.Pieces.{text_in, list_in, texts_in, symbol_in, word_in, fields_in}
 
 -- a literal but undefined

@@ -1,13 +1,13 @@
 -- Statements that are read from their rows, the last row first. A row `end` opens a body that the row with which its
 -- statement begins takes; a row `else` begins the body before it.
-use Rattle.std.specs.Prelude.{◌≡◌, ℕ, suc, List, [], ◌∷◌, Bool, true, false, ◌||◌, codes, nat_lt, length, if◌then◌else◌, Option, Some, None}
+use Rattle.std.specs.Prelude.{◌≡◌, ℕ, List, [], ◌∷◌, Bool, true, false, ◌||◌, codes, nat_lt, length, if◌then◌else◌, Option, Some, None}
 use Rattle.std.specs.Str.{bytes_eq}
 use Rattle.serde_json.specs.Data as json
 use Rattle.serde_json.specs.Find.{get}
 use Rattle.gl_base.specs.Answers.{◌>>=◌}
 use Rattle.gl_base.specs.Texts.{Text}
 use Rattle.gl_ast.specs.Grammar.{deepest_nesting}
-use Rattle.gl_ast.specs.Template.{exprs_of, Stmt, text_stmt, comment_stmt, put, element, component_stmt, if_stmt, each, let_stmt, yield, Body, end, stmt, Slots, no_slots, block}
+use Rattle.gl_ast.specs.Template.{exprs_of, Stmt, text_stmt, comment_stmt, put, element, component_stmt, if_stmt, each, let_stmt, yield, Body, end, stmt, no_slots, block}
 use Rattle.gl_wirein.specs.Pieces.{text_in, list_in, texts_in, symbols_in, word_in, fields_in}
 use Rattle.gl_wirein.specs.ReadExpr.{exprs_in}
 use Rattle.gl_wirein.specs.ReadTag.{inner_in, whole_in, parts_in, arguments_in}

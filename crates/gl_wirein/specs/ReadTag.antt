@@ -7,7 +7,7 @@ use Rattle.gl_base.specs.Reading.{read_all}
 use Rattle.gl_base.specs.Texts.{Text}
 use Rattle.gl_value.specs.Value as v
 use Rattle.gl_ast.specs.Grammar.{deepest_calls}
-use Rattle.gl_ast.specs.Template.{Expr, literal, this, argument, bare, call, cat, exprs_of, named_of, AttrValue, fixed, live, Part, attribute, modifier, spread}
+use Rattle.gl_ast.specs.Template.{Expr, literal, cat, exprs_of, named_of, AttrValue, fixed, live, Part, attribute, modifier, spread}
 use Rattle.gl_wirein.specs.Pieces.{text_in, list_in, word_in, fields_in}
 use Rattle.gl_wirein.specs.ReadExpr.{exprs_in, pairs_in, read_expr}
 

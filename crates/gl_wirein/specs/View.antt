@@ -1,5 +1,5 @@
 -- What the code's rows stand for.
-use Rattle.std.specs.Prelude.{List, map, reverse}
+use Rattle.std.specs.Prelude.{map, reverse}
 use Rattle.gl_ast.specs.Template.{body_of}
 use Rattle.gl_ast.specs.View.{seen_stmts}
 use Rattle.gl_wirein.specs.ReadRows as rows
