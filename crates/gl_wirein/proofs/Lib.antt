@@ -1,0 +1,10 @@
+pub mod Allowed
+pub mod Expressions
+pub mod Loops
+pub mod Placing
+pub mod RowsRead
+pub mod Sameness
+pub mod SameWire
+pub mod Tags
+pub mod Texts
+pub mod Wires

@@ -1,0 +1,9 @@
+pub mod Answer
+pub mod Fault
+pub mod Normal
+pub mod Pieces
+pub mod ReadExpr
+pub mod ReadRows
+pub mod ReadTag
+pub mod Same
+pub mod View
