@@ -3,13 +3,19 @@ pub mod Alike
 pub mod Calls
 mod CaseTodo
 mod CasesActions
+mod CasesClasses
+mod CasesForms
 mod CasesLists
 mod CasesManifest
 mod CasesNames
 mod CasesPaths
+mod CasesRead
 mod CasesScopes
+mod CasesSpelled
+mod CasesSteps
 mod CasesTexts
 mod CasesTurns
+mod Computed
 pub mod Drawn
 pub mod Equal
 pub mod Frame

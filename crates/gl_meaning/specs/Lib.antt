@@ -9,6 +9,9 @@ pub mod JsonText
 pub mod Known
 pub mod Laws
 pub mod Manifest
+pub mod ManifestLimits
+pub mod ManifestOf
+pub mod ManifestShape
 pub mod NameTests
 pub mod Parts
 pub mod Path

@@ -2,10 +2,12 @@
 ghost use Rattle.std.specs.Prelude.{◌≡◌, ℕ, List, ⊤, map};
 ghost use Rattle.serde_json.specs.Data.{Data};
 ghost use Rattle.serde_json.specs.View.{view, members_view, items_view};
-ghost use Rattle.gl_meaning.specs.Walk.{Found, check_members, check_items, read_members, read_items, object_check, array_check};
+ghost use Rattle.gl_meaning.specs.Walk.{Found, check_members, check_items, read_members, read_items, object_check, array_check, under};
+ghost use Rattle.gl_meaning.specs.JsonText.{members_at, items_at};
+ghost use Rattle.gl_meaning.specs.Pointer.{key_step};
 ghost use Rattle.gl_shape.specs.View.{Tells};
 
-use crate::{PlaceFault, at_item, at_key};
+use crate::{PlaceFault, at_item, at_key, items_at, members_at};
 use serde_json::Map;
 use std::alloc::Global;
 
@@ -161,4 +163,37 @@ pub fn read_items<R: ItemReader>(
         list.push(item)?;
     }
     Ok(list)
+}
+
+/// Reads each member of the object at a key; there are none where there is no object.
+#[tactic(auto, using(crate::proofs::Walks::tells_under))]
+pub fn read_members_at<R: MemberReader>(
+    alloc: Global,
+    reader: &R,
+    json: &serde_json::Value,
+    key: &str,
+) -> Result<Vec<R::Item>, PlaceFault>
+    ensures { Tells (λ v. map R.seen v.items) result (under (key_step key.now) (read_members (R.reads reader.now) (members_at key.now (view json.now)))) }
+{
+    match members_at(json, key) {
+        Some(members) => {
+            let read = read_members(alloc, reader, members);
+            at_key(alloc, key, read)
+        }
+        None => Ok(Vec::new(alloc)),
+    }
+}
+
+/// Reads each item of the array at a key; there are none where there is no array.
+#[tactic(auto, using(crate::proofs::Walks::tells_under))]
+pub fn read_items_at<R: ItemReader>(
+    alloc: Global,
+    reader: &R,
+    json: &serde_json::Value,
+    key: &str,
+) -> Result<Vec<R::Item>, PlaceFault>
+    ensures { Tells (λ v. map R.seen v.items) result (under (key_step key.now) (read_items (R.reads reader.now) 0 (items_at key.now (view json.now)))) }
+{
+    let read = read_items(alloc, reader, items_at(json, key));
+    at_key(alloc, key, read)
 }

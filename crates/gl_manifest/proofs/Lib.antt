@@ -1,0 +1,4 @@
+pub mod Before
+pub mod Limits
+pub mod Seen
+pub mod Spelling
