@@ -1,0 +1,4 @@
+pub mod Faults
+pub mod Fetch
+pub mod Spelled
+pub mod Trees

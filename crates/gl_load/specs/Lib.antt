@@ -1,0 +1,4 @@
+pub mod Load
+pub mod Loads
+pub mod Refusal
+pub mod Trees
