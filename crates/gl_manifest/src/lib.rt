@@ -16,3 +16,6 @@ mod texts;
 
 pub use fault::ManifestFault;
 pub use reading::read;
+
+#[cfg(test)]
+mod tests;

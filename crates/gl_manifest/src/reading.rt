@@ -1,5 +1,8 @@
 // The manifest that bytes say.
-ghost use Rattle.gl_meaning.specs.ManifestOf.{read_manifest, in_json, after_shape};
+ghost use Rattle.std.specs.Prelude.{IfOk};
+ghost use Rattle.gl_meaning.specs.ManifestOf.{read_manifest};
+ghost use Rattle.gl_meaning.specs.ManifestRules.{KeepsLimits};
+ghost use Rattle.gl_meaning.specs.View.{manifest_view};
 ghost use Rattle.gl_parse.specs.ReadStmt.{expression_of};
 ghost use Rattle.gl_manifest.specs.View.{Reads};
 
@@ -10,9 +13,9 @@ use gl_meaning::Manifest;
 use gl_shape::{PlaceFault, json_of};
 use std::alloc::Global;
 
-/// The manifest that the bytes say: first that they hold JSON, then its form as a whole, then its expressions.
+// The manifest that the bytes say.
 #[tactic(auto, using(crate::proofs::Limits::limit_fits), unfolding(gl_meaning::specs::ManifestOf::read_manifest))]
-pub fn read(alloc: Global, bytes: &[u8]) -> Result<Manifest, ManifestFault>
+fn said(alloc: Global, bytes: &[u8]) -> Result<Manifest, ManifestFault>
     ensures { Reads result (read_manifest expression_of bytes.now) }
 {
     let Some(json) = json_of(alloc, bytes)? else {
@@ -28,4 +31,15 @@ pub fn read(alloc: Global, bytes: &[u8]) -> Result<Manifest, ManifestFault>
         Err(PlaceFault::At { pointer }) => Err(ManifestFault::NotInGrammar { pointer }),
         Err(PlaceFault::Memory) => Err(ManifestFault::Memory),
     }
+}
+
+/// The manifest that the bytes say. `BadJson` exactly where `serde_json` reads no JSON from them; `BadShape` exactly where
+/// the JSON is not of the form of a manifest, at the first place that is not; `NotInGrammar` exactly where it is of the
+/// form and a text in it spells no expression, or no path of an argument where it is a `call`, at the first such text.
+#[tactic(auto, using(crate::proofs::Limits::keeps_limits))]
+pub fn read(alloc: Global, bytes: &[u8]) -> Result<Manifest, ManifestFault>
+    ensures reads { Reads result (read_manifest expression_of bytes.now) }
+    ensures limits { IfOk result (λ m. KeepsLimits (manifest_view m)) }
+{
+    said(alloc, bytes)
 }

@@ -11,6 +11,7 @@ mod CasesNames
 mod CasesPaths
 mod CasesRead
 mod CasesScopes
+mod CasesScript
 mod CasesSpelled
 mod CasesSteps
 mod CasesTexts
@@ -18,8 +19,11 @@ mod CasesTurns
 mod Computed
 pub mod Drawn
 pub mod Equal
+pub mod Forms
 pub mod Frame
 pub mod Getters
+pub mod Limits
+pub mod Manifests
 pub mod Modifiers
 pub mod Numbers
 pub mod Once

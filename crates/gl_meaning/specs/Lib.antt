@@ -9,8 +9,10 @@ pub mod JsonText
 pub mod Known
 pub mod Laws
 pub mod Manifest
+pub mod ManifestIs
 pub mod ManifestLimits
 pub mod ManifestOf
+pub mod ManifestRules
 pub mod ManifestShape
 pub mod NameTests
 pub mod Parts
@@ -20,6 +22,7 @@ pub mod Pointer
 pub mod Print
 pub mod Render
 pub mod Scope
+pub mod ScriptOf
 pub mod Session
 pub mod View
 pub mod Walk
