@@ -3,8 +3,8 @@ use Rattle.std.proofs.Common.{◌≡◌, List, [], ◌∷◌, ◌++◌, Result, 
 use Rattle.gl_base.specs.Texts.{Text}
 use Rattle.gl_ast.specs.Template.{Body}
 use Rattle.gl_outside.specs.Shelf.{Entry}
-use Rattle.gl_meaning.specs.Manifest.{ClassEntry}
-use Rattle.gl_load.specs.Load.{template_in, templates_in, templates_fetched}
+use Rattle.gl_meaning.specs.Manifest.{ClassEntry, Manifest}
+use Rattle.gl_load.specs.Load.{manifest_in, template_in, templates_in, templates_fetched, app_fetched}
 use Rattle.gl_load.specs.Loads.{StopsIn, FailsAmong, IsAmong}
 use Rattle.gl_load.specs.Refusal.{Cause, Refusal, ◌>>=◌, in_file}
 use Rattle.gl_load.specs.Trees.{after_trees}
@@ -42,3 +42,11 @@ only_one n name (inr e) = absurd e
 pub fetched_here : (files : List Entry) (c : ClassEntry) (cs : List ClassEntry) (n : Text) → IsAmong n (c.file ∷ []) → IsAmong n (templates_fetched files (c ∷ cs))
 unfolding templates_fetched
 fetched_here files c cs n h = inl (only_one n c.file h)
+
+pub app_here : (files : List Entry) (name n : Text) → IsAmong n (name ∷ []) → IsAmong n (app_fetched files name)
+unfolding app_fetched
+app_here files name n h = inl (only_one n name h)
+
+pub app_templates : (files : List Entry) (name n : Text) (m : Manifest) → in_file name (manifest_in files name) ≡ Ok m → IsAmong n (templates_fetched files m.classes) → IsAmong n (app_fetched files name)
+unfolding app_fetched
+app_templates files name n m is h = rw (was_ok name (manifest_in files name) m is) (inr h)

@@ -9,6 +9,8 @@ use Rattle.gl_meaning.specs.App.{Event}
 use Rattle.gl_meaning.specs.Manifest.{ClassEntry, Manifest}
 use Rattle.gl_meaning.specs.ManifestOf as m
 use Rattle.gl_meaning.specs.ManifestOf.{ManifestReading, read_manifest}
+use Rattle.gl_meaning.specs.ScriptOf as s
+use Rattle.gl_meaning.specs.ScriptOf.{ScriptReading, script_reading}
 use Rattle.gl_load.specs.Refusal.{Cause, absent, too_long, not_json, bad_shape, bad_expression, not_in_grammar, getter_cycle, unknown_field, Refusal, ◌>>=◌, in_file}
 
 -- the most bytes of a file
@@ -66,6 +68,20 @@ unfoldable pub app_in : List Entry → Text → Result Parts Refusal
 app_in files name =
     in_file name (manifest_in files name) >>= λ manifest.
     (templates_in files manifest.classes >>= λ trees. checked name manifest trees)
+
+-- what the bytes of a script say
+abbrev pub script_read : ScriptReading → Result (List Event) Cause
+script_read s.not_json = Err not_json
+script_read (s.bad_shape pointer) = Err (bad_shape pointer)
+script_read (s.unknown_name index name) = Err (unknown_field index name)
+script_read (s.script events) = Ok events
+
+-- the events of a script for a root with these fields
+unfoldable pub script_file : List Entry → List (Text × Plain) → Text → Result (List Event) Cause
+script_file files fields name = small_file files name >>= λ bytes. script_read (script_reading fields bytes)
+
+unfoldable pub script_in : List Entry → List (Text × Plain) → Text → Result (List Event) Refusal
+script_in files fields name = in_file name (script_file files fields name)
 
 abbrev pub after_ok : {A E : Type 0} → Result A E → (A → List Text) → List Text
 after_ok (Err e) rest = []
