@@ -1,9 +1,5 @@
 -- A reading that goes on after what is read.
-use Rattle.std.proofs.Common.{◌≡◌, ℕ, zero, suc, List, [], ◌∷◌, ◌++◌, true, false, eqb, length, Option, Some, None, refl, sym, ap, ◌∙◌, append_assoc, append-nil}
-use Rattle.gl_base.specs.Answers.{◌>>=◌}
-use Rattle.gl_base.specs.Reading.{after_front}
-use Rattle.gl_base.proofs.Lists.{after_front_more}
-use Rattle.gl_ast.specs.Template.{Stmt}
+use Rattle.std.proofs.Common.{◌≡◌, Option, None}
 use Rattle.gl_run.specs.Forms.{Fails}
 use Rattle.gl_run.specs.declared.fault.FormFault.{FormFault}
 use Rattle.gl_run.specs.declared.fault.FormFault.TheVariants as v

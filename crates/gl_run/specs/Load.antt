@@ -67,8 +67,12 @@ spelled name size (Some tree) = Ok tree
 unfoldable pub manifest_in : List Entry → Text → Result Manifest Refusal
 manifest_in files name = small_file files name >>= λ bytes. formed (manifest_from bytes)
 
+-- the tree that the file of a template spells
+unfoldable pub template_in : List Entry → Text → Result Body Refusal
+template_in files name = small_file files name >>= λ bytes. spelled name (length bytes) (template_of bytes)
+
 unfoldable pub tree_in : List Entry → Cells → Text → Result Body Refusal
-tree_in files cells name = small_file files name >>= λ bytes. (spelled name (length bytes) (template_of bytes) >>= λ tree. formed (known_tree cells tree))
+tree_in files cells name = template_in files name >>= λ tree. formed (known_tree cells tree)
 
 unfoldable pub events_in : List Entry → Cells → Text → Result (List Event) Refusal
 events_in files cells name = small_file files name >>= λ bytes. formed (script_from cells bytes)

@@ -1,12 +1,14 @@
 -- What the program writes, and how it ends.
-use Rattle.std.specs.Prelude.{◌≡◌, ◌≤◌, ℕ, List, [], ◌∷◌, ◌++◌, codes, decimal, Option, Some, None, Result, Ok, Err, if◌then◌else◌}
-use Rattle.std.specs.Str.{bytes_eq}
+use Rattle.std.specs.Prelude.{◌≡◌, ◌≤◌, ℕ, List, [], ◌∷◌, ◌++◌, codes, decimal, Option, Some, None, Result, Ok, Err}
 use Rattle.gl_base.specs.Texts.{Text, bytes_of, joined}
 use Rattle.gl_base.specs.Taking.{Takes, TakesFront, TakesSome}
 use Rattle.gl_value.specs.Quote.{quoted}
 use Rattle.gl_outside.specs.Shelf.{Entry}
-use Rattle.gl_run.specs.Load.{Refusal, absent, too_long, not_in_grammar, not_built, load_of}
-use Rattle.gl_run.specs.Session.{App, session}
+use Rattle.gl_ast.specs.Canon.{canonical}
+use Rattle.gl_ast.specs.Template.{Body}
+use Rattle.gl_run.specs.Command.{Command, run_command, show_command, command_of}
+use Rattle.gl_run.specs.Load.{Refusal, absent, too_long, not_in_grammar, not_built, load_of, template_in, ◌>>=◌}
+use Rattle.gl_run.specs.Session.{session}
 use Rattle.gl_run.specs.declared.status.Status.{Status}
 use Rattle.gl_run.specs.declared.status.Status.TheVariants as status
 
@@ -21,11 +23,6 @@ pub record Output : Type 0 where
   pub texts : List Text
   pub message : Message
   pub status : Status
-
--- the manifest and the script that the words name
-unfoldable pub run_words : List Text → Option (Text × Text)
-run_words (word ∷ manifest ∷ script ∷ []) = if bytes_eq word (codes "run") then Some (manifest, script) else None
-run_words _ = None
 
 -- what is the matter with a file
 abbrev pub file_line : Text → Text → Text
@@ -56,18 +53,27 @@ IsLine (refused (too_long file)) line = line ≡ too_long_line file
 IsLine (refused (not_in_grammar file size)) line = (byte : ℕ) × (byte ≤ size) × (line ≡ grammar_line file byte)
 IsLine (refused not_built) line = line ≡ not_built_line
 
-abbrev pub loaded_output : Result App Refusal → Output
-loaded_output (Err r) = record { texts = []; message = refused r; status = status.Refused }
-loaded_output (Ok app) = record { texts = session app; message = no_message; status = status.Done }
+-- the canonical spelling and a line feed
+abbrev pub shown_text : Body → Text
+shown_text tree = canonical tree ++ codes "\n"
 
-abbrev pub command_output : Option (Text × Text) → List Entry → Output
+-- what a command writes, where nothing is refused: `run` the texts of all turns, `show` one text
+abbrev pub texts_of : Command → List Entry → Result (List Text) Refusal
+texts_of (run_command manifest script) files = load_of files manifest script >>= λ app. Ok (session app)
+texts_of (show_command template) files = template_in files template >>= λ tree. Ok (shown_text tree ∷ [])
+
+-- where a command is refused, nothing is written
+abbrev pub texts_output : Result (List Text) Refusal → Output
+texts_output (Err r) = record { texts = []; message = refused r; status = status.Refused }
+texts_output (Ok texts) = record { texts = texts; message = no_message; status = status.Done }
+
+abbrev pub command_output : Option Command → List Entry → Output
 command_output None files = record { texts = []; message = no_command; status = status.Usage }
-command_output (Some w) files = loaded_output (load_of files w.0 w.1)
+command_output (Some c) files = texts_output (texts_of c files)
 
--- The output of the words over the files: a command that isn't `run MANIFEST SCRIPT` writes nothing, nor does a load that
--- is refused; else the texts of all turns are written.
+-- The output of the words over the files: where they are no command nothing is written, and else what the command says.
 unfoldable pub output_of : List Text → List Entry → Output
-output_of words files = command_output (run_words words) files
+output_of words files = command_output (command_of words) files
 
 -- What a call that ended with this status left in `out`, where o is the output of its words over its files. With a status that
 -- no fault made, it is o's, and all of o's texts were taken; after a write fault a front of them, after want of memory

@@ -1,8 +1,9 @@
 -- How a run ends, and why.
-use Rattle.std.specs.Prelude.{◌≡◌, ◌<◌, ◌⊎◌, ℕ, List, [], ◌++◌, codes, Option, Some, None, Result, Ok, Err}
+use Rattle.std.specs.Prelude.{◌≡◌, ◌<◌, ◌⊎◌, ℕ, List, [], ◌∷◌, codes, Option, Some, None, Result, Ok, Err}
 use Rattle.gl_base.specs.Texts.{Text, bytes_of, joined}
 use Rattle.gl_base.specs.Taking.{Takes}
 use Rattle.gl_outside.specs.Shelf.{Entry}
+use Rattle.gl_run.specs.Command.{Command, run_command, show_command}
 use Rattle.gl_run.specs.Load.{fetched}
 use Rattle.gl_run.specs.Loads.{IsAmong}
 use Rattle.gl_run.specs.Output.{Output, IsLine, file_line, absent_line, too_long_line, grammar_line, not_built_line, usage_line}
@@ -53,10 +54,11 @@ HasCause (Err (v.ReadFault file)) misses misses_now faults faults_now writes wri
 HasCause (Err v.WriteFault) misses misses_now faults faults_now writes writes_now = writes < writes_now
 HasCause ending misses misses_now faults faults_now writes writes_now = Unit {0}
 
--- the files that the words have fetched, in order
-abbrev pub fetched_by : Option (Text × Text) → List Entry → List Text
+-- the files that a command has fetched, in order
+abbrev pub fetched_by : Option Command → List Entry → List Text
 fetched_by None files = []
-fetched_by (Some w) files = fetched files w.0 w.1
+fetched_by (Some (run_command manifest script)) files = fetched files manifest script
+fetched_by (Some (show_command template)) files = template ∷ []
 
 -- Over a shelf that tells its files: where no device and no memory failed, the line is the output's; a file that can't be read
 -- is one that is fetched, where no step before it refuses.

@@ -1,6 +1,7 @@
 //! The command line of the renderer, over a shelf of files and two sinks.
 #![tactic(auto)]
 
+mod command;
 mod ending;
 mod fault;
 mod known;
@@ -10,6 +11,7 @@ mod manifest;
 mod names;
 mod page;
 mod session;
+mod show;
 mod status;
 mod top;
 

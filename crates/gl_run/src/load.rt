@@ -5,7 +5,7 @@ ghost use Rattle.gl_base.specs.Texts.{Text};
 ghost use Rattle.gl_outside.specs.Shelf.{Entry};
 ghost use Rattle.gl_parse.specs.ReadStmt.{template_of};
 ghost use Rattle.gl_ast.specs.Template.{body_of};
-ghost use Rattle.gl_run.specs.Load.{small_file, spelled, manifest_in, tree_in, events_in, load_of, fetched};
+ghost use Rattle.gl_run.specs.Load.{small_file, spelled, manifest_in, template_in, tree_in, events_in, load_of, fetched};
 ghost use Rattle.gl_run.specs.Loads.{seen_app, Loads, Causes, FailsAmong};
 ghost use Rattle.gl_run.specs.Seen.{seen_manifest};
 
@@ -112,6 +112,20 @@ fn spelled(alloc: Global, file: Text, bytes: &[u8]) -> Result<Body, LoadFault>
     }
 }
 
+/// The tree that the file of a template spells, or why there is none.
+#[tactic(auto, unfolding(crate::specs::Load::template_in))]
+pub fn template_in<S: Shelf>(alloc: Global, shelf: &mut S, name: &str) -> Result<Body, LoadFault>
+    ensures keeps { S.holds shelf.new ≡ S.holds shelf.old }
+    ensures told { (files : List Entry) → S.holds shelf.old ≡ Some files → Loads (λ b. body_of b) result (template_in files (chars name.now)) }
+    ensures causes { IfErr result (λ e. Causes e (S.misses shelf.old) (S.misses shelf.new) (S.faults shelf.old) (S.faults shelf.new)) }
+    ensures named { IfErr result (λ e. FailsAmong e (chars name.now ∷ [])) }
+    ensures misses_stay { S.misses shelf.old ≤ S.misses shelf.new }
+    ensures faults_stay { S.faults shelf.old ≤ S.faults shelf.new }
+{
+    let bytes = fetch_small(alloc, shelf, name)?;
+    spelled(alloc, Text::from_str(alloc, name)?, &bytes)
+}
+
 #[tactic(auto, unfolding(crate::specs::Load::tree_in))]
 fn tree_in<S: Shelf>(
     alloc: Global,
@@ -126,8 +140,7 @@ fn tree_in<S: Shelf>(
     ensures misses_stay { S.misses shelf.old ≤ S.misses shelf.new }
     ensures faults_stay { S.faults shelf.old ≤ S.faults shelf.new }
 {
-    let bytes = fetch_small(alloc, shelf, name)?;
-    let tree = spelled(alloc, Text::from_str(alloc, name)?, &bytes)?;
+    let tree = template_in(alloc, shelf, name)?;
     Ok(known_tree(fields, tree)?)
 }
 

@@ -72,8 +72,8 @@ fn set_page(
     Ok(text)
 }
 
-// Puts one text.
-fn put_text<K: Sink>(out: &mut K, text: &Text) -> Result<(), PlayFault>
+/// Puts one text, in one piece.
+pub fn put_text<K: Sink>(out: &mut K, text: &Text) -> Result<(), PlayFault>
     ensures puts { Puts result (K.took out.old) (K.took out.new) text.now }
     ensures failed { IsErrOf result PlayFault.WriteFault → K.faults out.old < K.faults out.new }
     ensures later { K.faults out.old ≤ K.faults out.new }

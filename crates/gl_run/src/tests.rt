@@ -207,6 +207,71 @@ fn rows(rt: HostRuntime) -> Result<(), Fail> {
     Ok(())
 }
 
+const SHOW: &[&str] = &["show", "app.hbs"];
+
+const SHOWN: [Row; 6] = [
+    (
+        "numbers are spelled plainly",
+        SHOW,
+        [NONE, "{{#unless @a}}{{add 007 -0}}{{/unless}}", ""],
+        Status::Done,
+        "{{#unless @a}}{{add 7 0}}{{/unless}}\n",
+        "",
+    ),
+    (
+        "a comment parts texts",
+        SHOW,
+        [NONE, "a{{! x }}b<br/>", ""],
+        Status::Done,
+        "a{{!}}b<br>\n",
+        "",
+    ),
+    (
+        "white space and branches",
+        SHOW,
+        [
+            NONE,
+            "<p  class = 'a'>\n  {{! c }}\n{{#if @x}}y{{else if @z}}w{{/if}}</p>",
+            "",
+        ],
+        Status::Done,
+        "<p class=\"a\">&#10;{{#if @x}}y{{else}}{{#if @z}}w{{/if}}{{/if}}</p>\n",
+        "",
+    ),
+    (
+        "nothing is spelled",
+        SHOW,
+        [NONE, "<p></b>", ""],
+        Status::Refused,
+        "",
+        "\"app.hbs\": not in the grammar at byte 3\n",
+    ),
+    (
+        "no template",
+        SHOW,
+        ["", "", ""],
+        Status::Refused,
+        "",
+        "\"app.hbs\": absent\n",
+    ),
+    (
+        "one word too many",
+        &["show", "app.hbs", "s.json"],
+        [NONE, "", ""],
+        Status::Usage,
+        "",
+        "bad command line\n",
+    ),
+];
+
+#[test]
+fn shown(rt: HostRuntime) -> Result<(), Fail> {
+    for row in &SHOWN {
+        check_row(&rt, rt.alloc(), row)?;
+    }
+    Ok(())
+}
+
 // A file of one byte more than the most.
 #[test]
 fn too_long(rt: HostRuntime) -> Result<(), Fail> {

@@ -1,16 +1,19 @@
 // The top call: what the program does.
-ghost use Rattle.std.specs.Prelude.{◌≡◌, ◌<◌, ◌≤◌, ◌↔◌, List, Some, None, Result, Err, IsErrOf, map, option_map, codes};
-ghost use Rattle.std.specs.Str.{chars, bytes_eq};
+ghost use Rattle.std.specs.Prelude.{◌≡◌, ◌<◌, ◌↔◌, ◌∷◌, [], List, Some, None, Err, IsErrOf, map};
+ghost use Rattle.std.specs.Str.{chars};
 ghost use Rattle.gl_outside.specs.Shelf.{Entry};
 ghost use Rattle.gl_run.specs.Lines.{Says};
-ghost use Rattle.gl_run.specs.Load.{load_of, fetched};
-ghost use Rattle.gl_run.specs.Output.{run_words, loaded_output, output_of, Answers};
+ghost use Rattle.gl_run.specs.Command.{run_command, show_command, command_of};
+ghost use Rattle.gl_run.specs.Load.{fetched};
+ghost use Rattle.gl_run.specs.Output.{texts_of, texts_output, output_of, Answers};
 ghost use Rattle.gl_run.specs.Run.{Ending, status_of, line_of, HasCause, Tells, Completes, Untouched, fetched_by};
 
 use crate::Status;
+use crate::command::{Command, command_of};
 use crate::ending::{RunFault, say_line, status_of};
-use crate::load::load;
+use crate::load::{load, template_in};
 use crate::session::play;
+use crate::show::write_shown;
 use gl_outside::{Shelf, Sink};
 use std::alloc::Global;
 
@@ -25,25 +28,6 @@ impl Last {
     }
 }
 
-// Whether the word is the command `run`.
-#[tactic(auto, using(crate::proofs::Words::run_word))]
-fn is_run(word: &str) -> bool
-    ensures { result ≡ bytes_eq (chars word.now) (codes "run") }
-{
-    word == "run"
-}
-
-// The manifest and the script that the words name.
-#[tactic(auto, unfolding(crate::specs::Output::run_words))]
-fn named_by<'a>(words: &[&'a str]) -> Option<(&'a str, &'a str)>
-    ensures { option_map (λ p. (chars p.0.now, chars p.1.now)) result ≡ run_words (map (λ w. chars w.now) words.now) }
-{
-    match words {
-        [word, manifest, script] if is_run(word) => Some((*manifest, *script)),
-        _ => None,
-    }
-}
-
 // Loads the app and plays its session.
 fn play_app<S: Shelf, K: Sink>(
     alloc: Global,
@@ -53,15 +37,35 @@ fn play_app<S: Shelf, K: Sink>(
     out: &mut K,
 ) -> Result<(), RunFault>
     ensures told { (files : List Entry) → S.holds shelf.old ≡ Some files
-        → Answers (status_of result) (K.took out.old) (K.took out.new) (loaded_output (load_of files (chars manifest.now) (chars script.now))) }
+        → Answers (status_of result) (K.took out.old) (K.took out.new) (texts_output (texts_of (run_command (chars manifest.now) (chars script.now)) files)) }
     ensures tells { (files : List Entry) → S.holds shelf.old ≡ Some files
-        → Tells result (loaded_output (load_of files (chars manifest.now) (chars script.now))) (fetched files (chars manifest.now) (chars script.now)) }
+        → Tells result (texts_output (texts_of (run_command (chars manifest.now) (chars script.now)) files)) (fetched files (chars manifest.now) (chars script.now)) }
     ensures causes { HasCause result (S.misses shelf.old) (S.misses shelf.new) (S.faults shelf.old) (S.faults shelf.new) (K.faults out.old) (K.faults out.new) }
     ensures untouched { Untouched result (K.took out.old) (K.took out.new) }
     ensures used { IsErrOf result RunFault.Usage → ⊥ }
 {
     let app = load(alloc, shelf, manifest, script)?;
     play(alloc, app.fields, &app.tree, &app.events, out)?;
+    Ok(())
+}
+
+// Shows the canonical spelling of a template.
+fn show_template<S: Shelf, K: Sink>(
+    alloc: Global,
+    template: &str,
+    shelf: &mut S,
+    out: &mut K,
+) -> Result<(), RunFault>
+    ensures told { (files : List Entry) → S.holds shelf.old ≡ Some files
+        → Answers (status_of result) (K.took out.old) (K.took out.new) (texts_output (texts_of (show_command (chars template.now)) files)) }
+    ensures tells { (files : List Entry) → S.holds shelf.old ≡ Some files
+        → Tells result (texts_output (texts_of (show_command (chars template.now)) files)) (chars template.now ∷ []) }
+    ensures causes { HasCause result (S.misses shelf.old) (S.misses shelf.new) (S.faults shelf.old) (S.faults shelf.new) (K.faults out.old) (K.faults out.new) }
+    ensures untouched { Untouched result (K.took out.old) (K.took out.new) }
+    ensures used { IsErrOf result RunFault.Usage → ⊥ }
+{
+    let tree = template_in(alloc, shelf, template)?;
+    write_shown(alloc, &tree, out)?;
     Ok(())
 }
 
@@ -75,23 +79,25 @@ fn attempt<S: Shelf, K: Sink>(
     ensures told { (files : List Entry) → S.holds shelf.old ≡ Some files
         → Answers (status_of result) (K.took out.old) (K.took out.new) (output_of (map (λ w. chars w.now) words.now) files) }
     ensures tells { (files : List Entry) → S.holds shelf.old ≡ Some files
-        → Tells result (output_of (map (λ w. chars w.now) words.now) files) (fetched_by (run_words (map (λ w. chars w.now) words.now)) files) }
+        → Tells result (output_of (map (λ w. chars w.now) words.now) files) (fetched_by (command_of (map (λ w. chars w.now) words.now)) files) }
     ensures causes { HasCause result (S.misses shelf.old) (S.misses shelf.new) (S.faults shelf.old) (S.faults shelf.new) (K.faults out.old) (K.faults out.new) }
     ensures untouched { Untouched result (K.took out.old) (K.took out.new) }
-    ensures used { (result ≡ Err RunFault.Usage) ↔ (run_words (map (λ w. chars w.now) words.now) ≡ None) }
+    ensures used { (result ≡ Err RunFault.Usage) ↔ (command_of (map (λ w. chars w.now) words.now) ≡ None) }
 {
-    match named_by(words) {
-        Some((manifest, script)) => play_app(alloc, manifest, script, shelf, out),
+    match command_of(words) {
+        Some(Command::Run { manifest, script }) => play_app(alloc, manifest, script, shelf, out),
+        Some(Command::Show { template }) => show_template(alloc, template, shelf, out),
         None => Err(RunFault::Usage),
     }
 }
 
 /// Does what the words say, over a shelf of files and two sinks, and gives the status.
 ///
-/// The words are `run MANIFEST SCRIPT`; all else is [`Status::Usage`]. The manifest is fetched and read, then its
-/// template, then the script, before anything is written. Then `out` gets the text of the first turn and of
-/// the turn of each event, one put each, and `err` gets the line of the status, which is none at
-/// [`Status::Done`]. A file that is not of the small form is refused as not built yet.
+/// The words are `run MANIFEST SCRIPT` or `show TEMPLATE`; all else is [`Status::Usage`]. For `run` the manifest is
+/// fetched and read, then its template, then the script, before anything is written. Then `out` gets the text of
+/// the first turn and of the turn of each event, one put each. A file that is not of the small form is refused as
+/// not built yet. For `show` the template is fetched and read, and `out` gets its canonical spelling and a line feed,
+/// in one put. `err` gets the line of the status, which is none at [`Status::Done`].
 pub fn run<S: Shelf, K: Sink, E: Sink>(
     alloc: Global,
     words: &[&str],
@@ -113,9 +119,9 @@ pub fn run<S: Shelf, K: Sink, E: Sink>(
         × HasCause why (S.misses shelf.old) (S.misses shelf.new) (S.faults shelf.old) (S.faults shelf.new) (K.faults out.old) (K.faults out.new)
         × Untouched why (K.took out.old) (K.took out.new)
         × ((files : List Entry) → S.holds shelf.old ≡ Some files
-        → Tells why (output_of (map (λ w. chars w.now) words.now) files) (fetched_by (run_words (map (λ w. chars w.now) words.now)) files)) }
+        → Tells why (output_of (map (λ w. chars w.now) words.now) files) (fetched_by (command_of (map (λ w. chars w.now) words.now)) files)) }
 
-    ensures usage { (result ≡ Status.Usage) ↔ (run_words (map (λ w. chars w.now) words.now) ≡ None) }
+    ensures usage { (result ≡ Status.Usage) ↔ (command_of (map (λ w. chars w.now) words.now) ≡ None) }
     ensures read { result ≡ Status.ReadFault → S.faults shelf.old < S.faults shelf.new }
     ensures write { result ≡ Status.WriteFault → K.faults out.old < K.faults out.new }
     ensures refused { result ≡ Status.Refused → K.took out.new ≡ K.took out.old }

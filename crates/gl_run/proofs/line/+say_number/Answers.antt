@@ -1,4 +1,4 @@
-use Rattle.std.proofs.Common.{◌≡◌, ◌<◌, ◌+◌, ◌%◌, ◌/◌, ◌∷◌, [], ◌∙◌, decimal, arith}
+use Rattle.std.proofs.Common.{◌≡◌, ◌+◌, ◌%◌, ◌/◌, ◌∷◌, [], ◌∙◌, decimal, arith}
 use Rattle.std.proofs.lemmas.Fmt.{decimal_digit}
 use Rattle.gl_run.proofs.Decimals.{decimal_step, glyph}
 use Rattle.gl_run.proofs.Saying.{says_more}
