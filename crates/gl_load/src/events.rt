@@ -24,7 +24,10 @@ fn script_of(alloc: Global, root: &Class, bytes: &[u8]) -> Result<Script, LoadCa
         Ok(script) => Ok(script),
         Err(ScriptFault::BadJson) => Err(LoadCause::BadJson),
         Err(ScriptFault::BadShape { pointer }) => Err(LoadCause::BadShape { pointer }),
-        Err(ScriptFault::UnknownName { index, name }) => Err(LoadCause::UnknownField { index, name }),
+        Err(ScriptFault::UnknownName { index, name }) => Err(LoadCause::UnknownField {
+            index,
+            name,
+        }),
         Err(ScriptFault::Memory) => Err(LoadCause::Memory),
     }
 }

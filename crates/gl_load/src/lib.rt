@@ -10,6 +10,9 @@ mod templates;
 
 pub use application::{App, load_app};
 pub use events::load_script;
-pub use fault::{LoadCause, LoadFault};
+pub use fault::{LoadCause, LoadFault, fault_in};
 pub use file::template_in;
 pub use templates::Templates;
+
+#[cfg(test)]
+mod tests;

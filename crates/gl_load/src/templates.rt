@@ -1,7 +1,7 @@
 // The templates of an application's classes.
 ghost use Rattle.std.specs.Prelude.{◌≡◌, ◌↔◌, [], ◌∷◌, ◌++◌, IsTrue, OnOk, OnErr, length, option_map, slice_get};
 ghost use Rattle.gl_ast.specs.Template.{body_of};
-ghost use Rattle.gl_load.specs.Trees.{seen_templates};
+ghost use Rattle.gl_load.specs.Trees.{seen_templates, lone_tree};
 
 use gl_ast::Body;
 use std::alloc::{AllocError, Global};
@@ -70,5 +70,13 @@ impl Templates {
     {
         self.list.push(item)?;
         Ok(())
+    }
+
+    /// The template that is alone in the list. It takes no memory.
+    pub fn into_only(self) -> Option<Body>
+        ensures { option_map (λ b. body_of b) result ≡ lone_tree self }
+    {
+        let mut list = self.list;
+        if list.len() == 1 { list.pop() } else { None }
     }
 }
