@@ -5,3 +5,4 @@ pub mod Places
 pub mod Reaching
 pub mod Marking
 pub mod Rows
+pub mod Throughs

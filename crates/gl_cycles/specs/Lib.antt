@@ -1,3 +1,4 @@
 pub mod Chains
 pub mod Cycles
 pub mod Marks
+pub mod Through

@@ -4,19 +4,22 @@ use Rattle.gl_base.specs.Texts.{Text, bytes_of, joined}
 use Rattle.gl_base.specs.Taking.{Takes}
 use Rattle.gl_outside.specs.Shelf.{Entry}
 use Rattle.gl_run.specs.Command.{Command, command_of}
-use Rattle.gl_run.specs.Load.{Refusal, ◌>>=◌}
+use Rattle.gl_load.specs.Refusal.{◌>>=◌}
+use Rattle.gl_run.specs.Load.{Refusal}
 use Rattle.gl_run.specs.Session.{App, session}
 use Rattle.gl_run.specs.Page.{pages}
 use Rattle.gl_run.specs.Plays.{Plays}
 use Rattle.gl_run.specs.Output.{Output, texts_of, texts_output, command_output, output_of, Answers}
 use Rattle.gl_run.specs.Loads.{Loads, FailsAmong}
-use Rattle.gl_run.specs.Run.{status_of, fetched_by, load_ending, play_ending, Completes, Tells}
-use Rattle.gl_run.specs.declared.load.LoadFault.{LoadFault}
-use Rattle.gl_run.specs.declared.load.LoadFault.TheVariants as load
+use Rattle.gl_run.specs.Run.{status_of, fetched_by, play_ending, Completes, Tells}
+use Rattle.gl_run.specs.declared.ending.RunFault.{RunFault}
+use Rattle.gl_run.specs.declared.ending.RunFault.TheVariants as run
 use Rattle.gl_run.specs.declared.session.PlayFault.{PlayFault}
 use Rattle.gl_run.specs.declared.session.PlayFault.TheVariants as play
 use Rattle.gl_run.specs.declared.status.Status.{Status}
 use Rattle.gl_run.specs.declared.status.Status.TheVariants as status
+use Rattle.gl_base.proofs.Taken.{takes_nothing, some_nothing}
+use Rattle.gl_run.proofs.Files.{stops_then, stopped, stop_tells}
 use Rattle.gl_run.proofs.Sessions.{session-pages}
 
 -- the texts are all written
@@ -58,10 +61,17 @@ completes status.WriteFault old new o p read write = absurd (write refl)
 completes status.NoMemory old new o p read write = inl refl
 
 -- a load that fails is told by its line
-pub load_tells : {X Y : Type 0} (view : X → Y) (e : LoadFault) (loaded : Result Y Refusal) (f : Y → List Text) (names : List Text) → Loads view (Err e) loaded → FailsAmong e names → Tells (Err (load_ending e)) (texts_output (loaded >>= λ y. Ok (f y))) names
-load_tells view (load.Absent name) loaded f names is among = rw is refl
-load_tells view (load.TooLong name) loaded f names is among = rw is refl
-load_tells view (load.NotInGrammar name offset) loaded f names is among = rw is.1 (offset, is.2, refl)
-load_tells view load.NotBuilt loaded f names is among = rw is refl
-load_tells view (load.ReadFault name) loaded f names is among = among
-load_tells view load.Memory loaded f names is among = tt
+pub load_tells : {X Y : Type 0} (view : X → Y) (e : RunFault) (loaded : Result Y Refusal) (f : Y → List Text) (names : List Text) → Loads view (Err e) loaded → FailsAmong e names → Tells (Err e) (texts_output (loaded >>= λ y. Ok (f y))) names
+load_tells view (run.Load fault) loaded f names is among = stop_tells fault.file fault.cause _ names (stops_then fault.file fault.cause loaded (λ y. Ok (f y)) is) among
+load_tells view run.NotBuilt loaded f names is among = rw is refl
+load_tells view run.Memory loaded f names is among = tt
+load_tells view run.Usage loaded f names is among = absurd is
+load_tells view run.WriteFault loaded f names is among = absurd is
+
+-- and nothing is written
+pub load_stops : {X Y : Type 0} (view : X → Y) (e : RunFault) (loaded : Result Y Refusal) (f : Y → List Text) (took : Option (List ℕ)) → Loads view (Err e) loaded → Answers (status_of (Err e)) took took (texts_output (loaded >>= λ y. Ok (f y)))
+load_stops view (run.Load fault) loaded f took is = stopped fault.file fault.cause _ took (stops_then fault.file fault.cause loaded (λ y. Ok (f y)) is)
+load_stops view run.NotBuilt loaded f took is = rw is (refl, takes_nothing took)
+load_stops view run.Memory loaded f took is = some_nothing took (texts_output (loaded >>= λ y. Ok (f y))).texts
+load_stops view run.Usage loaded f took is = absurd is
+load_stops view run.WriteFault loaded f took is = absurd is

@@ -1,15 +1,13 @@
 pub mod Command
+pub mod Form
 pub mod Forms
 pub mod Lines
 pub mod Load
 pub mod Loads
-pub mod Manifest
-pub mod Names
 pub mod Numbers
 pub mod Output
 pub mod Page
 pub mod Path
-pub mod Places
 pub mod Plays
 pub mod Print
 pub mod Render

@@ -7,7 +7,8 @@ use Rattle.gl_outside.specs.Shelf.{Entry}
 use Rattle.gl_ast.specs.Canon.{canonical}
 use Rattle.gl_ast.specs.Template.{Body}
 use Rattle.gl_run.specs.Command.{Command, run_command, show_command, command_of}
-use Rattle.gl_run.specs.Load.{Refusal, absent, too_long, not_in_grammar, not_built, load_of, template_in, ◌>>=◌}
+use Rattle.gl_load.specs.Refusal.{Cause, absent, too_long, not_json, bad_shape, bad_expression, not_in_grammar, getter_cycle, unknown_field, ◌>>=◌}
+use Rattle.gl_run.specs.Load.{Refusal, refused_file, not_built, load_of, tree_in}
 use Rattle.gl_run.specs.Session.{session}
 use Rattle.gl_run.specs.declared.status.Status.{Status}
 use Rattle.gl_run.specs.declared.status.Status.TheVariants as status
@@ -44,13 +45,37 @@ not_built_line = codes "not built yet\n"
 abbrev pub usage_line : Text
 usage_line = codes "bad command line\n"
 
--- The line of a message. A template that is not in the grammar is faulty at a place within it or at its end.
+-- the pointer is quoted
+abbrev pub shape_line : Text → Text → Text
+shape_line file pointer = quoted file ++ (codes ": bad shape at " ++ (quoted pointer ++ codes "\n"))
+
+abbrev pub expression_line : Text → Text → Text
+expression_line file pointer = quoted file ++ (codes ": bad expression at " ++ (quoted pointer ++ codes "\n"))
+
+-- the names of a class and of a getter are not quoted: they have no other characters than letters, digits and a few signs
+abbrev pub cycle_line : Text → Text → Text → Text
+cycle_line file class getter = (quoted file ++ codes ": getter cycle through ") ++ (class ++ (codes "." ++ (getter ++ codes "\n")))
+
+-- events are counted from 0
+abbrev pub field_line : Text → ℕ → Text → Text
+field_line file index name = (quoted file ++ codes ": event ") ++ (decimal index ++ (codes ": unknown field " ++ (quoted name ++ codes "\n")))
+
+-- The line of a file that is refused. A template that is not in the grammar is faulty at a place within it or at its end.
+abbrev pub IsFileLine : Text → Cause → Text → Type 0
+IsFileLine file absent line = line ≡ absent_line file
+IsFileLine file too_long line = line ≡ too_long_line file
+IsFileLine file not_json line = line ≡ file_line file (codes ": not JSON\n")
+IsFileLine file (bad_shape pointer) line = line ≡ shape_line file pointer
+IsFileLine file (bad_expression pointer) line = line ≡ expression_line file pointer
+IsFileLine file (not_in_grammar size) line = (byte : ℕ) × (byte ≤ size) × (line ≡ grammar_line file byte)
+IsFileLine file (getter_cycle class getter) line = line ≡ cycle_line file class getter
+IsFileLine file (unknown_field index name) line = line ≡ field_line file index name
+
+-- the line of a message
 abbrev pub IsLine : Message → Text → Type 0
 IsLine no_message line = line ≡ []
 IsLine no_command line = line ≡ usage_line
-IsLine (refused (absent file)) line = line ≡ absent_line file
-IsLine (refused (too_long file)) line = line ≡ too_long_line file
-IsLine (refused (not_in_grammar file size)) line = (byte : ℕ) × (byte ≤ size) × (line ≡ grammar_line file byte)
+IsLine (refused (refused_file r)) line = IsFileLine r.file r.cause line
 IsLine (refused not_built) line = line ≡ not_built_line
 
 -- the canonical spelling and a line feed
@@ -60,7 +85,7 @@ shown_text tree = canonical tree ++ codes "\n"
 -- what a command writes, where nothing is refused: `run` the texts of all turns, `show` one text
 abbrev pub texts_of : Command → List Entry → Result (List Text) Refusal
 texts_of (run_command manifest script) files = load_of files manifest script >>= λ app. Ok (session app)
-texts_of (show_command template) files = template_in files template >>= λ tree. Ok (shown_text tree ∷ [])
+texts_of (show_command template) files = tree_in files template >>= λ tree. Ok (shown_text tree ∷ [])
 
 -- where a command is refused, nothing is written
 abbrev pub texts_output : Result (List Text) Refusal → Output

@@ -5,12 +5,15 @@ use Rattle.gl_base.specs.Taking.{Takes}
 use Rattle.gl_outside.specs.Shelf.{Entry}
 use Rattle.gl_run.specs.Command.{Command, run_command, show_command}
 use Rattle.gl_run.specs.Load.{fetched}
-use Rattle.gl_run.specs.Loads.{IsAmong}
-use Rattle.gl_run.specs.Output.{Output, IsLine, file_line, absent_line, too_long_line, grammar_line, not_built_line, usage_line}
+use Rattle.gl_load.specs.Loads as l
+use Rattle.gl_load.specs.Loads.{IsAmong}
+use Rattle.gl_load.specs.declared.fault.LoadCause.{LoadCause}
+use Rattle.gl_load.specs.declared.fault.LoadCause.TheVariants as cause
+use Rattle.gl_run.specs.Output.{Output, IsLine, file_line, absent_line, too_long_line, shape_line, expression_line, grammar_line, cycle_line, field_line, not_built_line, usage_line}
 use Rattle.gl_run.specs.declared.status.Status.{Status}
 use Rattle.gl_run.specs.declared.status.Status.TheVariants as status
-use Rattle.gl_run.specs.declared.load.LoadFault.{LoadFault}
-use Rattle.gl_run.specs.declared.load.LoadFault.TheVariants as load
+use Rattle.gl_run.specs.declared.fault.FormFault.{FormFault}
+use Rattle.gl_run.specs.declared.fault.FormFault.TheVariants as form
 use Rattle.gl_run.specs.declared.session.PlayFault.{PlayFault}
 use Rattle.gl_run.specs.declared.session.PlayFault.TheVariants as play
 use Rattle.gl_run.specs.declared.ending.RunFault.{RunFault}
@@ -20,37 +23,49 @@ use Rattle.gl_run.specs.declared.ending.RunFault.TheVariants as v
 abbrev pub Ending : Type 0
 Ending = Result (Unit {0}) RunFault
 
+-- of a file that is refused or can't be read
+abbrev pub file_status : LoadCause → Status
+file_status cause.ReadFault = status.ReadFault
+file_status cause.Memory = status.NoMemory
+file_status _ = status.Refused
+
 abbrev pub status_of : Ending → Status
 status_of (Ok x) = status.Done
 status_of (Err v.Usage) = status.Usage
-status_of (Err (v.Absent file)) = status.Refused
-status_of (Err (v.TooLong file)) = status.Refused
-status_of (Err (v.NotInGrammar file byte)) = status.Refused
+status_of (Err (v.Load fault)) = file_status fault.cause
 status_of (Err v.NotBuilt) = status.Refused
-status_of (Err (v.ReadFault file)) = status.ReadFault
 status_of (Err v.WriteFault) = status.WriteFault
 status_of (Err v.Memory) = status.NoMemory
 
-abbrev pub read_fault_line : Text → Text
-read_fault_line file = file_line file (codes ": read fault\n")
+abbrev pub memory_line : Text
+memory_line = codes "out of memory\n"
+
+-- the line on a file
+abbrev pub cause_line : Text → LoadCause → Text
+cause_line file cause.Absent = absent_line file
+cause_line file (cause.TooLong taken) = too_long_line file
+cause_line file cause.BadJson = file_line file (codes ": not JSON\n")
+cause_line file (cause.BadShape pointer) = shape_line file pointer
+cause_line file (cause.BadExpression pointer) = expression_line file pointer
+cause_line file (cause.NotInGrammar byte) = grammar_line file byte
+cause_line file (cause.GetterCycle class getter) = cycle_line file class getter
+cause_line file (cause.UnknownField index name) = field_line file index name
+cause_line file cause.ReadFault = file_line file (codes ": read fault\n")
+cause_line file cause.Memory = memory_line
 
 -- the line on `err`: none where all was written
 abbrev pub line_of : Ending → Text
 line_of (Ok x) = []
 line_of (Err v.Usage) = usage_line
-line_of (Err (v.Absent file)) = absent_line file
-line_of (Err (v.TooLong file)) = too_long_line file
-line_of (Err (v.NotInGrammar file byte)) = grammar_line file byte
+line_of (Err (v.Load fault)) = cause_line fault.file fault.cause
 line_of (Err v.NotBuilt) = not_built_line
-line_of (Err (v.ReadFault file)) = read_fault_line file
 line_of (Err v.WriteFault) = codes "write fault\n"
-line_of (Err v.Memory) = codes "out of memory\n"
+line_of (Err v.Memory) = memory_line
 
 -- A file is absent only where the shelf's misses rose; it can't be read only where the shelf's faults rose; a write fails only
 -- where the faults of `out` rose.
 abbrev pub HasCause : Ending → ℕ → ℕ → ℕ → ℕ → ℕ → ℕ → Type 0
-HasCause (Err (v.Absent file)) misses misses_now faults faults_now writes writes_now = misses < misses_now
-HasCause (Err (v.ReadFault file)) misses misses_now faults faults_now writes writes_now = faults < faults_now
+HasCause (Err (v.Load fault)) misses misses_now faults faults_now writes writes_now = l.HasCause fault.cause misses misses_now faults faults_now
 HasCause (Err v.WriteFault) misses misses_now faults faults_now writes writes_now = writes < writes_now
 HasCause ending misses misses_now faults faults_now writes writes_now = Unit {0}
 
@@ -60,10 +75,16 @@ fetched_by None files = []
 fetched_by (Some (run_command manifest script)) files = fetched files manifest script
 fetched_by (Some (show_command template)) files = template ∷ []
 
--- Over a shelf that tells its files: where no device and no memory failed, the line is the output's; a file that can't be read
--- is one that is fetched, where no step before it refuses.
+-- Over a shelf that tells its files: the line on a file is the output's, where no device and no memory failed; a file that
+-- can't be read is one that is fetched, where no step before it refuses.
+abbrev pub TellsFile : LoadCause → Text → Output → List Text → Type 0
+TellsFile cause.ReadFault file o names = IsAmong file names
+TellsFile cause.Memory file o names = Unit {0}
+TellsFile c file o names = IsLine o.message (cause_line file c)
+
+-- the same of each ending
 abbrev pub Tells : Ending → Output → List Text → Type 0
-Tells (Err (v.ReadFault file)) o names = IsAmong file names
+Tells (Err (v.Load fault)) o names = TellsFile fault.cause fault.file o names
 Tells (Err v.WriteFault) o names = Unit {0}
 Tells (Err v.Memory) o names = Unit {0}
 Tells ending o names = IsLine o.message (line_of ending)
@@ -72,25 +93,18 @@ Tells ending o names = IsLine o.message (line_of ending)
 abbrev pub Completes : Status → Option (List ℕ) → Option (List ℕ) → Output → Type 0
 Completes s old new o = (s ≡ status.NoMemory) ⊎ ((o.status ≡ s) × Takes old new (bytes_of (joined o.texts)))
 
--- the ending of a run whose load, or whose play, failed
-abbrev pub load_ending : LoadFault → RunFault
-load_ending (load.Absent file) = v.Absent file
-load_ending (load.TooLong file) = v.TooLong file
-load_ending (load.NotInGrammar file byte) = v.NotInGrammar file byte
-load_ending load.NotBuilt = v.NotBuilt
-load_ending (load.ReadFault file) = v.ReadFault file
-load_ending load.Memory = v.Memory
+-- the ending of a run that is not of the form, or whose play failed
+abbrev pub form_ending : FormFault → RunFault
+form_ending form.NotBuilt = v.NotBuilt
+form_ending form.Memory = v.Memory
 
 abbrev pub play_ending : PlayFault → RunFault
 play_ending play.WriteFault = v.WriteFault
 play_ending play.Memory = v.Memory
 
--- a run that is refused, or can't read, has written nothing
+-- a run that loads nothing has written nothing
 abbrev pub Untouched : Ending → Option (List ℕ) → Option (List ℕ) → Type 0
 Untouched (Err v.Usage) old new = new ≡ old
-Untouched (Err (v.Absent file)) old new = new ≡ old
-Untouched (Err (v.TooLong file)) old new = new ≡ old
-Untouched (Err (v.NotInGrammar file byte)) old new = new ≡ old
+Untouched (Err (v.Load fault)) old new = new ≡ old
 Untouched (Err v.NotBuilt) old new = new ≡ old
-Untouched (Err (v.ReadFault file)) old new = new ≡ old
 Untouched ending old new = Unit {0}

@@ -1,34 +1,29 @@
 // Why a run ends before all was written, its status and its line.
-ghost use Rattle.std.specs.Prelude.{◌≡◌, ◌++◌, IsTrue, true};
+ghost use Rattle.std.specs.Prelude.{◌≡◌, ◌++◌, IsTrue, codes, true};
 ghost use Rattle.gl_base.specs.Texts.{is_ascii_text};
 ghost use Rattle.gl_value.specs.Quote.{quoted};
 ghost use Rattle.gl_run.specs.Lines.{Says, SaysOn};
-ghost use Rattle.gl_run.specs.Output.{grammar_line};
-ghost use Rattle.gl_run.specs.Run.{status_of, line_of};
+ghost use Rattle.gl_run.specs.Output.{grammar_line, cycle_line, field_line};
+ghost use Rattle.gl_run.specs.Run.{file_status, status_of, cause_line, line_of};
 
-use crate::Status;
-use crate::line::{say_ascii, say_number, say_quoted};
-use crate::load::LoadFault;
+use crate::line::{say, say_ascii, say_number, say_quoted};
 use crate::session::PlayFault;
+use crate::{FormFault, Status};
+use gl_load::{LoadCause, LoadFault};
 use gl_outside::Sink;
 use gl_value::Text;
 use thiserror::Error;
 
-/// Why a run ends before all was written; a file is given by its name.
+/// Why a run ends before all was written.
 #[derive(Debug, Drop, Error)]
 pub enum RunFault {
     #[error("bad command line")]
     Usage,
-    #[error("absent")]
-    Absent(Text),
-    #[error("longer than 16777216 bytes")]
-    TooLong(Text),
-    #[error("not in the grammar at byte {offset}")]
-    NotInGrammar { file: Text, offset: u64 },
+    /// A file is refused or can't be read, or memory is wanting.
+    #[error("{0}")]
+    Load(LoadFault),
     #[error("not built yet")]
     NotBuilt,
-    #[error("read fault")]
-    ReadFault(Text),
     #[error("write fault")]
     WriteFault,
     #[error("out of memory")]
@@ -36,18 +31,24 @@ pub enum RunFault {
 }
 
 impl From<LoadFault> for RunFault {
-    ghost use Rattle.gl_run.specs.Run.{load_ending};
+    ghost use Rattle.gl_run.specs.declared.ending.RunFault.TheVariants.{Load};
 
-    ghost from_gives = { λ fault e. e ≡ load_ending fault };
+    ghost from_gives = { λ fault e. e ≡ Load fault };
 
     fn from(fault: LoadFault) -> Self {
+        RunFault::Load(fault)
+    }
+}
+
+impl From<FormFault> for RunFault {
+    ghost use Rattle.gl_run.specs.Run.{form_ending};
+
+    ghost from_gives = { λ fault e. e ≡ form_ending fault };
+
+    fn from(fault: FormFault) -> Self {
         match fault {
-            LoadFault::Absent(file) => RunFault::Absent(file),
-            LoadFault::TooLong(file) => RunFault::TooLong(file),
-            LoadFault::NotInGrammar { file, offset } => RunFault::NotInGrammar { file, offset },
-            LoadFault::NotBuilt => RunFault::NotBuilt,
-            LoadFault::ReadFault(file) => RunFault::ReadFault(file),
-            LoadFault::Memory => RunFault::Memory,
+            FormFault::NotBuilt => RunFault::NotBuilt,
+            FormFault::Memory => RunFault::Memory,
         }
     }
 }
@@ -65,6 +66,17 @@ impl From<PlayFault> for RunFault {
     }
 }
 
+// The status of a run that ended so for a file.
+fn status_of_file(cause: &LoadCause) -> Status
+    ensures { result ≡ file_status cause.now }
+{
+    match cause {
+        LoadCause::ReadFault => Status::ReadFault,
+        LoadCause::Memory => Status::NoMemory,
+        _ => Status::Refused,
+    }
+}
+
 // The status of a run that ended so.
 pub fn status_of(ending: &Result<(), RunFault>) -> Status
     ensures { result ≡ status_of ending.now }
@@ -72,9 +84,8 @@ pub fn status_of(ending: &Result<(), RunFault>) -> Status
     match ending {
         Ok(()) => Status::Done,
         Err(RunFault::Usage) => Status::Usage,
-        Err(RunFault::Absent(_) | RunFault::TooLong(_) | RunFault::NotBuilt) => Status::Refused,
-        Err(RunFault::NotInGrammar { file: _, offset: _ }) => Status::Refused,
-        Err(RunFault::ReadFault(_)) => Status::ReadFault,
+        Err(RunFault::Load(fault)) => status_of_file(&fault.cause),
+        Err(RunFault::NotBuilt) => Status::Refused,
         Err(RunFault::WriteFault) => Status::WriteFault,
         Err(RunFault::Memory) => Status::NoMemory,
     }
@@ -98,6 +109,58 @@ fn say_of_grammar<E: Sink>(err: &mut E, file: &Text, offset: u64) -> bool
     say_ascii(err, whole, "\n")
 }
 
+// Says the name of a file, what is the matter with it, and a text between quotation marks.
+fn say_quoted_of_file<E: Sink>(err: &mut E, file: &Text, matter: &str, text: &Text) -> bool
+    requires { IsTrue (is_ascii_text matter.now) }
+    ensures { SaysOn true result (E.took err.old) (E.took err.new) (E.faults err.old) (E.faults err.new) (E.wants err.old) (E.wants err.new) (quoted file.now ++ (matter.now ++ (quoted text.now ++ codes "\n"))) }
+{
+    let whole = say_of_file(err, file, matter);
+    let whole = say_quoted(err, whole, text.as_str());
+    say_ascii(err, whole, "\n")
+}
+
+// Says the name of a manifest and the first getter that reaches itself.
+fn say_of_cycle<E: Sink>(err: &mut E, file: &Text, class: &Text, getter: &Text) -> bool
+    ensures { SaysOn true result (E.took err.old) (E.took err.new) (E.faults err.old) (E.faults err.new) (E.wants err.old) (E.wants err.new) (cycle_line file.now class.now getter.now) }
+{
+    let whole = say_of_file(err, file, ": getter cycle through ");
+    let whole = say(err, whole, class.as_str());
+    let whole = say_ascii(err, whole, ".");
+    let whole = say(err, whole, getter.as_str());
+    say_ascii(err, whole, "\n")
+}
+
+// Says the name of a script, the place of the event that sets what is no field, and the name that it sets.
+fn say_of_field<E: Sink>(err: &mut E, file: &Text, index: u64, name: &Text) -> bool
+    ensures { SaysOn true result (E.took err.old) (E.took err.new) (E.faults err.old) (E.faults err.new) (E.wants err.old) (E.wants err.new) (field_line file.now index name.now) }
+{
+    let whole = say_of_file(err, file, ": event ");
+    let whole = say_number(err, whole, index);
+    let whole = say_ascii(err, whole, ": unknown field ");
+    let whole = say_quoted(err, whole, name.as_str());
+    say_ascii(err, whole, "\n")
+}
+
+// Says the line of a file that is refused or can't be read.
+fn say_cause<E: Sink>(err: &mut E, file: &Text, cause: &LoadCause) -> bool
+    ensures { SaysOn true result (E.took err.old) (E.took err.new) (E.faults err.old) (E.faults err.new) (E.wants err.old) (E.wants err.new) (cause_line file.now cause.now) }
+{
+    match cause {
+        LoadCause::Absent => say_of_file(err, file, ": absent\n"),
+        LoadCause::TooLong { taken: _ } => say_of_file(err, file, ": longer than 16777216 bytes\n"),
+        LoadCause::BadJson => say_of_file(err, file, ": not JSON\n"),
+        LoadCause::BadShape { pointer } => say_quoted_of_file(err, file, ": bad shape at ", pointer),
+        LoadCause::BadExpression { pointer } => {
+            say_quoted_of_file(err, file, ": bad expression at ", pointer)
+        }
+        LoadCause::NotInGrammar { offset } => say_of_grammar(err, file, *offset),
+        LoadCause::GetterCycle { class, getter } => say_of_cycle(err, file, class, getter),
+        LoadCause::UnknownField { index, name } => say_of_field(err, file, *index, name),
+        LoadCause::ReadFault => say_of_file(err, file, ": read fault\n"),
+        LoadCause::Memory => say_ascii(err, true, "out of memory\n"),
+    }
+}
+
 // Says the line of a run that ended so, which is none where all was written, and tells whether all was taken.
 fn say_ending<E: Sink>(err: &mut E, ending: &Result<(), RunFault>) -> bool
     ensures { SaysOn true result (E.took err.old) (E.took err.new) (E.faults err.old) (E.faults err.new) (E.wants err.old) (E.wants err.new) (line_of ending.now) }
@@ -105,11 +168,8 @@ fn say_ending<E: Sink>(err: &mut E, ending: &Result<(), RunFault>) -> bool
     match ending {
         Ok(()) => true,
         Err(RunFault::Usage) => say_ascii(err, true, "bad command line\n"),
-        Err(RunFault::Absent(file)) => say_of_file(err, file, ": absent\n"),
-        Err(RunFault::TooLong(file)) => say_of_file(err, file, ": longer than 16777216 bytes\n"),
-        Err(RunFault::NotInGrammar { file, offset }) => say_of_grammar(err, file, *offset),
+        Err(RunFault::Load(fault)) => say_cause(err, &fault.file, &fault.cause),
         Err(RunFault::NotBuilt) => say_ascii(err, true, "not built yet\n"),
-        Err(RunFault::ReadFault(file)) => say_of_file(err, file, ": read fault\n"),
         Err(RunFault::WriteFault) => say_ascii(err, true, "write fault\n"),
         Err(RunFault::Memory) => say_ascii(err, true, "out of memory\n"),
     }

@@ -1,11 +1,11 @@
-// Why an input is not read.
+// Why an input is not played.
 ghost use Rattle.std.specs.Prelude.{◌≡◌};
 ghost use Rattle.gl_run.specs.declared.fault.FormFault.TheVariants.{Memory};
 
 use std::alloc::{AllocError, AllocFailed};
 use thiserror::Error;
 
-/// Why a manifest, a template or a script is not read: it is not of the small form, or memory is wanting.
+/// Why an application and its script are not played: they are not of the form that is built so far, or memory is wanting.
 #[derive(Clone, Copy, Debug, PartialEq, Eq, Error)]
 pub enum FormFault {
     #[error("not built yet")]

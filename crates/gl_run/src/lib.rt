@@ -4,11 +4,9 @@
 mod command;
 mod ending;
 mod fault;
-mod known;
+mod form;
 mod line;
 mod load;
-mod manifest;
-mod names;
 mod page;
 mod session;
 mod show;
@@ -17,7 +15,6 @@ mod top;
 
 pub use ending::RunFault;
 pub use fault::FormFault;
-pub use load::LoadFault;
 pub use session::PlayFault;
 pub use status::Status;
 pub use top::{Last, run};

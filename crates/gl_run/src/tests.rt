@@ -132,7 +132,7 @@ const ROWS: [Row; 16] = [
         [ONE, "", "[{\"set\":\"n\",\"to\":9007199254740992}]"],
         Status::Refused,
         "",
-        "not built yet\n",
+        "\"s.json\": bad shape at \"/0/to\"\n",
     ),
     (
         "an unknown field is set",
@@ -140,7 +140,7 @@ const ROWS: [Row; 16] = [
         [ONE, "", "[{\"set\":\"m\",\"to\":1}]"],
         Status::Refused,
         "",
-        "not built yet\n",
+        "\"s.json\": event 0: unknown field \"m\"\n",
     ),
     (
         "no manifest",
@@ -202,6 +202,144 @@ fn check_row(rt: &impl Abort, alloc: Global, row: &Row) -> Result<(), Fail> {
 #[test]
 fn rows(rt: HostRuntime) -> Result<(), Fail> {
     for row in &ROWS {
+        check_row(&rt, rt.alloc(), row)?;
+    }
+    Ok(())
+}
+
+// Manifests with faults.
+const OF_TWO: &str = "{\"classes\":{\"App\":{\"getters\":{\"a\":\"this.b\",\"b\":\"this.a\"},\"template\":\"app.hbs\"}},\"root\":\"App\"}";
+
+const UNTAKEN: &str = "{\"classes\":{\"App\":{\"getters\":{\"c\":\"(if false this.c 1)\"},\"template\":\"app.hbs\"}},\"root\":\"App\"}";
+
+const BAD_GETTER: &str = "{\"classes\":{\"App\":{\"getters\":{\"g\":\"(add 1\"},\"template\":\"app.hbs\"}},\"root\":\"App\"}";
+
+const BAD_MEMBER: &str =
+    "{\"classes\":{\"App\":{\"template\":\"app.hbs\",\"x\":1}},\"root\":\"App\"}";
+
+const NO_ROOT: &str = "{\"classes\":{\"App\":{\"template\":\"app.hbs\"}},\"root\":\"Other\"}";
+
+const LISTS: &str = "{\"classes\":{\"App\":{\"fields\":{\"n\":[1,{\"a\":2},null]},\"template\":\"app.hbs\"}},\"root\":\"App\"}";
+
+// What is refused of a manifest.
+const MANIFESTS: [Row; 7] = [
+    (
+        "two getters that lead to each other",
+        RUN,
+        [OF_TWO, "", "[]"],
+        Status::Refused,
+        "",
+        "\"m.json\": getter cycle through App.a\n",
+    ),
+    (
+        "a cycle in an untaken branch",
+        RUN,
+        [UNTAKEN, "", "["],
+        Status::Refused,
+        "",
+        "\"m.json\": getter cycle through App.c\n",
+    ),
+    (
+        "a member that is none",
+        RUN,
+        [BAD_MEMBER, "a", "[]"],
+        Status::Refused,
+        "",
+        "\"m.json\": bad shape at \"/classes/App/x\"\n",
+    ),
+    (
+        "no classes",
+        RUN,
+        ["{\"root\":\"App\"}", "", "[]"],
+        Status::Refused,
+        "",
+        "\"m.json\": bad shape at \"\"\n",
+    ),
+    (
+        "a getter that spells no expression",
+        RUN,
+        [BAD_GETTER, "", "[]"],
+        Status::Refused,
+        "",
+        "\"m.json\": bad expression at \"/classes/App/getters/g\"\n",
+    ),
+    (
+        "no JSON",
+        RUN,
+        [" ", "", "[]"],
+        Status::Refused,
+        "",
+        "\"m.json\": not JSON\n",
+    ),
+    (
+        "a root that names no class",
+        RUN,
+        [NO_ROOT, "", "["],
+        Status::Refused,
+        "",
+        "not built yet\n",
+    ),
+];
+
+#[test]
+fn manifests(rt: HostRuntime) -> Result<(), Fail> {
+    for row in &MANIFESTS {
+        check_row(&rt, rt.alloc(), row)?;
+    }
+    Ok(())
+}
+
+// What is refused of a script, and values that are lists and records.
+const SCRIPTS: [Row; 5] = [
+    (
+        "a list of values",
+        RUN,
+        [LISTS, "{{this.n}}", "[{\"set\":\"n\",\"to\":{\"a\":[]}}]"],
+        Status::Done,
+        "= 0 start\n#1 \"1,[object Object],\"\n= 1 set n\n#1 \"[object Object]\"\n",
+        "",
+    ),
+    (
+        "a node with the number 0",
+        RUN,
+        [ONE, "", "[{\"fire\":0,\"event\":\"x\"}]"],
+        Status::Refused,
+        "",
+        "\"s.json\": bad shape at \"/0/fire\"\n",
+    ),
+    (
+        "no JSON",
+        RUN,
+        [ONE, "", "["],
+        Status::Refused,
+        "",
+        "\"s.json\": not JSON\n",
+    ),
+    (
+        "the second event sets what is no field",
+        RUN,
+        [
+            ONE,
+            "",
+            "[{\"set\":\"n\",\"to\":1},{\"set\":\"zz\",\"to\":1},{\"set\":\"y\",\"to\":1}]",
+        ],
+        Status::Refused,
+        "",
+        "\"s.json\": event 1: unknown field \"zz\"\n",
+    ),
+    (
+        "events at once",
+        RUN,
+        [ONE, "", "[{\"batch\":[{\"set\":\"n\",\"to\":1}]}]"],
+        Status::Refused,
+        "",
+        "not built yet\n",
+    ),
+];
+
+#[test]
+fn scripts(rt: HostRuntime) -> Result<(), Fail> {
+    for row in &SCRIPTS {
         check_row(&rt, rt.alloc(), row)?;
     }
     Ok(())

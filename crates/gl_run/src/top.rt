@@ -11,7 +11,7 @@ ghost use Rattle.gl_run.specs.Run.{Ending, status_of, line_of, HasCause, Tells, 
 use crate::Status;
 use crate::command::{Command, command_of};
 use crate::ending::{RunFault, say_line, status_of};
-use crate::load::{load, template_in};
+use crate::load::{load, tree_in};
 use crate::session::play;
 use crate::show::write_shown;
 use gl_outside::{Shelf, Sink};
@@ -64,7 +64,7 @@ fn show_template<S: Shelf, K: Sink>(
     ensures untouched { Untouched result (K.took out.old) (K.took out.new) }
     ensures used { IsErrOf result RunFault.Usage → ⊥ }
 {
-    let tree = template_in(alloc, shelf, template)?;
+    let tree = tree_in(alloc, shelf, template)?;
     write_shown(alloc, &tree, out)?;
     Ok(())
 }
@@ -94,9 +94,9 @@ fn attempt<S: Shelf, K: Sink>(
 /// Does what the words say, over a shelf of files and two sinks, and gives the status.
 ///
 /// The words are `run MANIFEST SCRIPT` or `show TEMPLATE`; all else is [`Status::Usage`]. For `run` the manifest is
-/// fetched and read, then its template, then the script, before anything is written. Then `out` gets the text of
-/// the first turn and of the turn of each event, one put each. A file that is not of the small form is refused as
-/// not built yet. For `show` the template is fetched and read, and `out` gets its canonical spelling and a line feed,
+/// fetched and read, then the template of each class, then the cycles of getters are sought, then the script is fetched and
+/// read, before anything is written. Then `out` gets the text of the first turn and of the turn of each event, one put
+/// each. What is refused for nothing else and is not of the small form is refused as not built yet. For `show` the template is fetched and read, and `out` gets its canonical spelling and a line feed,
 /// in one put. `err` gets the line of the status, which is none at [`Status::Done`].
 pub fn run<S: Shelf, K: Sink, E: Sink>(
     alloc: Global,

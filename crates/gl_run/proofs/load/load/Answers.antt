@@ -1,20 +1,21 @@
-use Rattle.std.proofs.Common.{◌∙◌}
+use Rattle.std.proofs.Common.{◌≡◌, Some, rules}
 use Rattle.std.specs.Str.{chars}
 use Rattle.std.proofs.lemmas.Result.{err_from_is_err_and}
-use Rattle.gl_run.proofs.Fetched.{manifest_fails, template_fails, script_fails}
+use Rattle.gl_meaning.specs.View.{class_view}
+use Rattle.gl_load.specs.View.{app_view}
+use Rattle.gl_load.proofs.Faults.{among_more}
+use Rattle.gl_run.specs.Load.{root_of}
+use Rattle.gl_run.proofs.Files.{app_fails, script_fails}
 use Rattle.gl_run.proofs.load.load.Goals as goal
 
-pub returns-in_err-found-clause-named : goal.returns-in_err-found-clause-named
-returns-in_err-found-clause-named g c = λ files e.
+pub returns-in_err-loaded-clause-named : goal.returns-in_err-loaded-clause-named
+returns-in_err-loaded-clause-named g c = λ files e.
     let p = err_from_is_err_and c.from_residual.result c.from_residual.ensures.1 in
-    rw (p.1, p.2) (manifest_fails _ files (chars c.args.manifest.now) (chars c.args.script.now) c.in_err-found.ensures.named)
+    rw (p.1, p.2) (among_more _ _ _ _ (λ n h. app_fails files (chars c.args.manifest.now) (chars c.args.script.now) n h) (c.in_err-loaded.ensures.named files e))
 
-pub returns-in_err-tree-clause-named : goal.returns-in_err-tree-clause-named
-returns-in_err-tree-clause-named g c = λ files e.
-    let p = err_from_is_err_and c.from_residual-in_err-tree.result c.from_residual-in_err-tree.ensures.1 in
-    rw (p.1, p.2) (template_fails _ files (chars c.args.manifest.now) (chars c.args.script.now) _ (c.in_ok-found.ensures.told files e) (rw c.as_str.ensures.value at c.in_err-tree.ensures.named))
-
-pub returns-in_err-events-clause-named : goal.returns-in_err-events-clause-named
-returns-in_err-events-clause-named g c = λ files e.
-    let p = err_from_is_err_and c.from_residual-in_err-events.result c.from_residual-in_err-events.ensures.1 in
-    rw (p.1, p.2) (script_fails _ files (chars c.args.manifest.now) (chars c.args.script.now) _ _ (c.in_ok-found.ensures.told files e) (rw c.as_str.ensures.value at (c.in_ok-tree.ensures.told files (c.in_ok-found.ensures.keeps ∙ e))) c.in_err-events.ensures.named)
+pub returns-in_err-script-clause-named : goal.returns-in_err-script-clause-named
+returns-in_err-script-clause-named g c = λ files e.
+    let p = err_from_is_err_and c.from_residual-in_err-script.result c.from_residual-in_err-script.ensures.1 in
+    let parts = app_view c.in_ok-loaded.loaded in
+    let root : root_of (app_view c.in_ok-loaded.loaded) ≡ Some (class_view c.in_ok-root.root.now) = search rules in
+    rw (p.1, p.2) (among_more _ _ _ _ (λ n h. script_fails files (chars c.args.manifest.now) (chars c.args.script.now) n parts (class_view c.in_ok-root.root.now) (c.in_ok-loaded.ensures.told files e) root h) c.in_err-script.ensures.named)

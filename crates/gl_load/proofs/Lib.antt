@@ -1,0 +1,5 @@
+pub mod Faults
+pub mod Fetch
+pub mod Limits
+pub mod Spelled
+pub mod Trees

@@ -1,0 +1,52 @@
+-- Templates that are loaded one after another.
+use Rattle.std.proofs.Common.{◌≡◌, List, [], ◌∷◌, ◌++◌, Result, Ok, Err, inl, inr, refl, sym, ap, append_assoc, append-nil}
+use Rattle.gl_base.specs.Texts.{Text}
+use Rattle.gl_ast.specs.Template.{Body}
+use Rattle.gl_outside.specs.Shelf.{Entry}
+use Rattle.gl_meaning.specs.Manifest.{ClassEntry, Manifest}
+use Rattle.gl_load.specs.Load.{manifest_in, template_in, templates_in, templates_fetched, app_fetched}
+use Rattle.gl_load.specs.Loads.{StopsIn, FailsAmong, IsAmong}
+use Rattle.gl_load.specs.Refusal.{Cause, Refusal, ◌>>=◌, in_file}
+use Rattle.gl_load.specs.Trees.{after_trees}
+use Rattle.gl_load.specs.declared.fault.LoadFault.{LoadFault}
+use Rattle.gl_load.proofs.Faults.{stops_then, among_more}
+
+one_more : (front : List Body) (t : Body) (rest : Result (List Body) Refusal) → after_trees front (rest >>= λ ts. Ok (t ∷ ts)) ≡ after_trees (front ++ t ∷ []) rest
+one_more front t (Ok ts) = ap Ok (sym (append_assoc front (t ∷ []) ts))
+one_more front t (Err r) = refl
+
+pub templates_step : (files : List Entry) (front : List Body) (c : ClassEntry) (cs : List ClassEntry) (t : Body) → in_file c.file (template_in files c.file) ≡ Ok t → after_trees front (templates_in files (c ∷ cs)) ≡ after_trees (front ++ t ∷ []) (templates_in files cs)
+unfolding templates_in
+templates_step files front c cs t is = rw is (one_more front t (templates_in files cs))
+
+pub templates_stop : (files : List Entry) (front : List Body) (c : ClassEntry) (cs : List ClassEntry) (f : LoadFault) → StopsIn f.file f.cause (in_file c.file (template_in files c.file)) → StopsIn f.file f.cause (after_trees front (templates_in files (c ∷ cs)))
+unfolding templates_in
+templates_stop files front c cs f h = stops_then f.file f.cause _ _ (stops_then f.file f.cause _ _ h)
+
+pub templates_end : (files : List Entry) (front : List Body) → after_trees front (templates_in files []) ≡ Ok front
+unfolding templates_in
+templates_end files front = ap Ok (append-nil front)
+
+was_ok : {A : Type 0} (name : Text) (out : Result A Cause) (x : A) → in_file name out ≡ Ok x → out ≡ Ok x
+was_ok name (Ok y) x is = cc
+was_ok name (Err e) x is = cc
+
+pub fetched_step : (files : List Entry) (c : ClassEntry) (cs : List ClassEntry) (t : Body) (n : Text) → in_file c.file (template_in files c.file) ≡ Ok t → IsAmong n (templates_fetched files cs) → IsAmong n (templates_fetched files (c ∷ cs))
+unfolding templates_fetched
+fetched_step files c cs t n is h = rw (was_ok c.file (template_in files c.file) t is) (inr h)
+
+only_one : (n name : Text) → IsAmong n (name ∷ []) → n ≡ name
+only_one n name (inl e) = e
+only_one n name (inr e) = absurd e
+
+pub fetched_here : (files : List Entry) (c : ClassEntry) (cs : List ClassEntry) (n : Text) → IsAmong n (c.file ∷ []) → IsAmong n (templates_fetched files (c ∷ cs))
+unfolding templates_fetched
+fetched_here files c cs n h = inl (only_one n c.file h)
+
+pub app_here : (files : List Entry) (name n : Text) → IsAmong n (name ∷ []) → IsAmong n (app_fetched files name)
+unfolding app_fetched
+app_here files name n h = inl (only_one n name h)
+
+pub app_templates : (files : List Entry) (name n : Text) (m : Manifest) → in_file name (manifest_in files name) ≡ Ok m → IsAmong n (templates_fetched files m.classes) → IsAmong n (app_fetched files name)
+unfolding app_fetched
+app_templates files name n m is h = rw (was_ok name (manifest_in files name) m is) (inr h)

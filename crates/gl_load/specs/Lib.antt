@@ -1,0 +1,5 @@
+pub mod Load
+pub mod Loads
+pub mod Refusal
+pub mod Trees
+pub mod View

@@ -1,0 +1,70 @@
+-- What the calls that load say.
+use Rattle.std.specs.Prelude.{◌≡◌, ◌<◌, ◌≤◌, ◌⊎◌, ℕ, List, [], ◌∷◌, Result, Ok, Err}
+use Rattle.gl_base.specs.Texts.{Text}
+use Rattle.gl_load.specs.Refusal.{Cause, absent, too_long, not_json, bad_shape, bad_expression, not_in_grammar, getter_cycle, unknown_field, Refusal}
+use Rattle.gl_load.specs.declared.fault.LoadCause.{LoadCause}
+use Rattle.gl_load.specs.declared.fault.LoadCause.TheVariants as v
+use Rattle.gl_load.specs.declared.fault.LoadFault.{LoadFault}
+
+-- so many bytes are taken of a file that is too long
+abbrev pub one_too_many : ℕ
+one_too_many = 16777217
+
+-- The cause is that of the file; the place in a template that is not in the grammar is within it. Want of memory and a
+-- read fault may come at any point.
+abbrev pub Stops : {X : Type 0} → LoadCause → Result X Cause → Type 0
+Stops v.Absent out = out ≡ Err absent
+Stops (v.TooLong taken) out = (out ≡ Err too_long) × (taken ≡ one_too_many)
+Stops v.BadJson out = out ≡ Err not_json
+Stops (v.BadShape pointer) out = out ≡ Err (bad_shape pointer)
+Stops (v.BadExpression pointer) out = out ≡ Err (bad_expression pointer)
+Stops (v.NotInGrammar offset) out = (size : ℕ) × (out ≡ Err (not_in_grammar size)) × (offset ≤ size)
+Stops (v.GetterCycle class getter) out = out ≡ Err (getter_cycle class getter)
+Stops (v.UnknownField index name) out = out ≡ Err (unknown_field index name)
+Stops v.ReadFault out = Unit {0}
+Stops v.Memory out = Unit {0}
+
+-- What a call gave of a file, seen by view, is what the file gives.
+abbrev pub Gives : {X Y : Type 0} → (X → Y) → Result X LoadCause → Result Y Cause → Type 0
+Gives view (Ok x) out = out ≡ Ok (view x)
+Gives view (Err cause) out = Stops cause out
+
+abbrev pub refusal : Text → Cause → Refusal
+refusal name cause = record { file = name; cause = cause }
+
+-- the same of a file with its name
+abbrev pub StopsIn : {X : Type 0} → Text → LoadCause → Result X Refusal → Type 0
+StopsIn name v.Absent out = out ≡ Err (refusal name absent)
+StopsIn name (v.TooLong taken) out = (out ≡ Err (refusal name too_long)) × (taken ≡ one_too_many)
+StopsIn name v.BadJson out = out ≡ Err (refusal name not_json)
+StopsIn name (v.BadShape pointer) out = out ≡ Err (refusal name (bad_shape pointer))
+StopsIn name (v.BadExpression pointer) out = out ≡ Err (refusal name (bad_expression pointer))
+StopsIn name (v.NotInGrammar offset) out = (size : ℕ) × (out ≡ Err (refusal name (not_in_grammar size))) × (offset ≤ size)
+StopsIn name (v.GetterCycle class getter) out = out ≡ Err (refusal name (getter_cycle class getter))
+StopsIn name (v.UnknownField index field) out = out ≡ Err (refusal name (unknown_field index field))
+StopsIn name v.ReadFault out = Unit {0}
+StopsIn name v.Memory out = Unit {0}
+
+-- What a call loaded, seen by view, is what the files give.
+abbrev pub Loads : {X Y : Type 0} → (X → Y) → Result X LoadFault → Result Y Refusal → Type 0
+Loads view (Ok x) out = out ≡ Ok (view x)
+Loads view (Err fault) out = StopsIn fault.file fault.cause out
+
+-- the fault has the cause, and the file has the name; or memory is wanting
+abbrev pub IsFaultIn : Text → LoadCause → LoadFault → Type 0
+IsFaultIn name cause fault = ((fault.file ≡ name) × (fault.cause ≡ cause)) ⊎ (fault.cause ≡ v.Memory)
+
+-- a file is absent only where misses rose, and can't be read only where faults rose
+abbrev pub HasCause : LoadCause → ℕ → ℕ → ℕ → ℕ → Type 0
+HasCause v.Absent misses misses_now faults faults_now = misses < misses_now
+HasCause v.ReadFault misses misses_now faults faults_now = faults < faults_now
+HasCause _ misses misses_now faults faults_now = Unit {0}
+
+abbrev pub IsAmong : Text → List Text → Type 0
+IsAmong name [] = ⊥
+IsAmong name (n ∷ ns) = (name ≡ n) ⊎ IsAmong name ns
+
+-- a file that can't be read is one of these
+abbrev pub FailsAmong : LoadCause → Text → List Text → Type 0
+FailsAmong v.ReadFault name names = IsAmong name names
+FailsAmong _ name names = Unit {0}

@@ -1,0 +1,82 @@
+// The templates of an application's classes.
+ghost use Rattle.std.specs.Prelude.{◌≡◌, ◌↔◌, [], ◌∷◌, ◌++◌, IsTrue, OnOk, OnErr, length, option_map, slice_get};
+ghost use Rattle.gl_ast.specs.Template.{body_of};
+ghost use Rattle.gl_load.specs.Trees.{seen_templates, lone_tree};
+
+use gl_ast::Body;
+use std::alloc::{AllocError, Global};
+use std::marker::Model;
+
+/// A list of templates. Contracts see their trees.
+#[derive(Drop)]
+pub struct Templates {
+    list: Vec<Body>,
+}
+
+impl Model for Templates {
+    ghost use Rattle.std.specs.Prelude.{List};
+    ghost use Rattle.std.specs.Coded.{coded_list};
+    ghost use Rattle.gl_ast.specs.Template as t;
+    ghost use Rattle.gl_ast.specs.StmtCode.{body_code};
+
+    ghost Value = { List t.Body };
+
+    ghost coded = { coded_list body_code };
+
+    ghost use Rattle.gl_load.specs.Trees.{seen_templates};
+
+    ghost view = { λ a. seen_templates a.list.items };
+}
+
+impl Templates {
+    /// The empty list. It takes no memory.
+    pub fn new(alloc: Global) -> Templates
+        ensures { result ≡ [] }
+    {
+        Templates {
+            list: Vec::new(alloc),
+        }
+    }
+
+    pub fn as_slice(&self) -> &[Body]
+        ensures { seen_templates result.now ≡ self.now }
+    {
+        self.list.as_slice()
+    }
+
+    pub fn len(&self) -> usize
+        ensures { result ≡ length self.now }
+    {
+        self.list.len()
+    }
+
+    pub fn is_empty(&self) -> bool
+        ensures { IsTrue result ↔ (self.now ≡ []) }
+    {
+        self.list.is_empty()
+    }
+
+    /// The template at a place, counted from 0.
+    pub fn get(&self, at: usize) -> Option<&Body>
+        ensures { option_map (λ v. body_of v.now) result ≡ slice_get self.now at }
+    {
+        self.list.as_slice().get(at)
+    }
+
+    /// Adds a template at the end.
+    pub fn push(&mut self, item: Body) -> Result<(), AllocError>
+        ensures ok { OnOk result (self.new ≡ self.old ++ body_of item ∷ []) }
+        ensures err { OnErr result (self.new ≡ self.old) }
+    {
+        self.list.push(item)?;
+        Ok(())
+    }
+
+    /// The template that is alone in the list. It takes no memory.
+    pub fn into_only(self) -> Option<Body>
+        ensures { option_map (λ b. body_of b) result ≡ lone_tree self }
+    {
+        let mut list = self.list;
+        if list.len() == 1 { list.pop() } else { None }
+    }
+}
