@@ -26,7 +26,7 @@ fn class_template<S: Shelf>(alloc: Global, shelf: &mut S, name: &str) -> Result<
     ensures faults_stay { S.faults shelf.old ≤ S.faults shelf.new }
 {
     match template_in(alloc, shelf, name) {
-        Ok(tree) => Ok(tree),
+        Ok(template) => Ok(template.into_body()),
         Err(cause) => Err(fault_in(alloc, name, cause)),
     }
 }

@@ -9,7 +9,7 @@ ghost use Rattle.gl_load.specs.Load.{small_file, spelled, template_in};
 ghost use Rattle.gl_load.specs.Loads.{Gives, HasCause};
 
 use crate::LoadCause;
-use gl_ast::Body;
+use gl_ast::Template;
 use gl_outside::{Shelf, ShelfFault};
 use gl_parse::{ParseFault, template};
 use std::alloc::Global;
@@ -41,23 +41,27 @@ pub fn fetch_small<S: Shelf>(alloc: Global, shelf: &mut S, name: &str) -> Result
     }
 }
 
-// The tree that the bytes of a template spell.
-fn spelled(alloc: Global, bytes: &[u8]) -> Result<Body, LoadCause>
-    ensures told { Gives (λ b. body_of b) result (spelled (length bytes.now) (template_of bytes.now)) }
+// The template that the bytes spell.
+fn spelled(alloc: Global, bytes: &[u8]) -> Result<Template, LoadCause>
+    ensures told { Gives (λ t. body_of t.body) result (spelled (length bytes.now) (template_of bytes.now)) }
     ensures causes { IfErr result (λ e. (misses misses_now faults faults_now : ℕ) → HasCause e misses misses_now faults faults_now) }
 {
     match template(alloc, bytes) {
-        Ok(template) => Ok(template.into_body()),
+        Ok(template) => Ok(template),
         Err(ParseFault::NotInGrammar { offset }) => Err(LoadCause::NotInGrammar { offset }),
         Err(ParseFault::Memory) => Err(LoadCause::Memory),
     }
 }
 
-/// The tree that the file of a template spells, or why there is none.
+/// The template that a file spells, or why there is none. Contracts see its tree.
 #[tactic(auto, unfolding(crate::specs::Load::template_in))]
-pub fn template_in<S: Shelf>(alloc: Global, shelf: &mut S, name: &str) -> Result<Body, LoadCause>
+pub fn template_in<S: Shelf>(
+    alloc: Global,
+    shelf: &mut S,
+    name: &str,
+) -> Result<Template, LoadCause>
     ensures keeps { S.holds shelf.new ≡ S.holds shelf.old }
-    ensures told { (files : List Entry) → S.holds shelf.old ≡ Some files → Gives (λ b. body_of b) result (template_in files (chars name.now)) }
+    ensures told { (files : List Entry) → S.holds shelf.old ≡ Some files → Gives (λ t. body_of t.body) result (template_in files (chars name.now)) }
     ensures causes { IfErr result (λ e. HasCause e (S.misses shelf.old) (S.misses shelf.new) (S.faults shelf.old) (S.faults shelf.new)) }
     ensures misses_stay { S.misses shelf.old ≤ S.misses shelf.new }
     ensures faults_stay { S.faults shelf.old ≤ S.faults shelf.new }

@@ -10,10 +10,17 @@ pub data Command : Type 0 where
   run_command : Text → Text → Command
   -- shows the canonical spelling of a template
   show_command : Text → Command
+  -- writes the wire of a template
+  wire_command : Text → Command
+
+abbrev pub template_command : Text → Text → Option Command
+template_command word template =
+    if bytes_eq word (codes "show") then Some (show_command template)
+    else (if bytes_eq word (codes "wire") then Some (wire_command template) else None)
 
 -- A command stands at the first place, and its files at the next ones.
 unfoldable pub command_of : List Text → Option Command
-command_of (word ∷ template ∷ []) = if bytes_eq word (codes "show") then Some (show_command template) else None
+command_of (word ∷ template ∷ []) = template_command word template
 command_of (word ∷ manifest ∷ script ∷ []) = if bytes_eq word (codes "run") then Some (run_command manifest script) else None
 command_of _ = None
 
@@ -21,3 +28,4 @@ command_of _ = None
 abbrev pub seen_command : code.Command → Command
 seen_command (v.Run manifest script) = run_command (chars manifest.now) (chars script.now)
 seen_command (v.Show template) = show_command (chars template.now)
+seen_command (v.Wire template) = wire_command (chars template.now)

@@ -24,7 +24,6 @@ abbrev pub lone_cells : List ClassEntry → Option Cells
 lone_cells (c ∷ []) = if c.teardown then None else Some (cells_of c.fields)
 lone_cells _ = None
 
-
 -- each `{{this.x}}` names a field
 abbrev pub is_field : Cells → Expr → Bool
 is_field cells (this x []) = is_some (named x cells)

@@ -4,9 +4,11 @@ use Rattle.gl_base.specs.Texts.{Text, bytes_of, joined}
 use Rattle.gl_base.specs.Taking.{Takes, TakesFront, TakesSome}
 use Rattle.gl_value.specs.Quote.{quoted}
 use Rattle.gl_outside.specs.Shelf.{Entry}
+use Rattle.gl_wire.specs.Json.{wire_text}
+use Rattle.gl_wire.specs.WireOf.{wire_of}
 use Rattle.gl_ast.specs.Canon.{canonical}
 use Rattle.gl_ast.specs.Template.{Body}
-use Rattle.gl_run.specs.Command.{Command, run_command, show_command, command_of}
+use Rattle.gl_run.specs.Command.{Command, run_command, show_command, wire_command, command_of}
 use Rattle.gl_load.specs.Refusal.{Cause, absent, too_long, not_json, bad_shape, bad_expression, not_in_grammar, getter_cycle, unknown_field, ◌>>=◌}
 use Rattle.gl_run.specs.Load.{Refusal, refused_file, not_built, load_of, tree_in}
 use Rattle.gl_run.specs.Session.{session}
@@ -82,10 +84,15 @@ IsLine (refused not_built) line = line ≡ not_built_line
 abbrev pub shown_text : Body → Text
 shown_text tree = canonical tree ++ codes "\n"
 
--- what a command writes, where nothing is refused: `run` the texts of all turns, `show` one text
+-- the text of the JSON of the wire, and a line feed
+abbrev pub wire_line : Body → Text
+wire_line tree = wire_text (wire_of tree) ++ codes "\n"
+
+-- what a command writes, where nothing is refused: `run` the texts of all turns, `show` and `wire` one text
 abbrev pub texts_of : Command → List Entry → Result (List Text) Refusal
 texts_of (run_command manifest script) files = load_of files manifest script >>= λ app. Ok (session app)
 texts_of (show_command template) files = tree_in files template >>= λ tree. Ok (shown_text tree ∷ [])
+texts_of (wire_command template) files = tree_in files template >>= λ tree. Ok (wire_line tree ∷ [])
 
 -- where a command is refused, nothing is written
 abbrev pub texts_output : Result (List Text) Refusal → Output

@@ -3,7 +3,7 @@ use Rattle.std.specs.Prelude.{◌≡◌, ◌<◌, ◌⊎◌, ℕ, List, [], ◌�
 use Rattle.gl_base.specs.Texts.{Text, bytes_of, joined}
 use Rattle.gl_base.specs.Taking.{Takes}
 use Rattle.gl_outside.specs.Shelf.{Entry}
-use Rattle.gl_run.specs.Command.{Command, run_command, show_command}
+use Rattle.gl_run.specs.Command.{Command, run_command, show_command, wire_command}
 use Rattle.gl_run.specs.Load.{fetched}
 use Rattle.gl_load.specs.Loads as l
 use Rattle.gl_load.specs.Loads.{IsAmong}
@@ -74,6 +74,7 @@ abbrev pub fetched_by : Option Command → List Entry → List Text
 fetched_by None files = []
 fetched_by (Some (run_command manifest script)) files = fetched files manifest script
 fetched_by (Some (show_command template)) files = template ∷ []
+fetched_by (Some (wire_command template)) files = template ∷ []
 
 -- Over a shelf that tells its files: the line on a file is the output's, where no device and no memory failed; a file that
 -- can't be read is one that is fetched, where no step before it refuses.

@@ -10,6 +10,8 @@ pub enum Command<'a> {
     Run { manifest: &'a str, script: &'a str },
     /// Shows the canonical spelling of a template.
     Show { template: &'a str },
+    /// Writes the wire of a template.
+    Wire { template: &'a str },
 }
 
 // Whether the word is the command `run`.
@@ -28,6 +30,14 @@ fn is_show(word: &str) -> bool
     word == "show"
 }
 
+// Whether the word is the command `wire`.
+#[tactic(auto, using(crate::proofs::Words::word_is))]
+fn is_wire(word: &str) -> bool
+    ensures { result ≡ bytes_eq (chars word.now) (codes "wire") }
+{
+    word == "wire"
+}
+
 /// The command that the words give, if they give one. It takes no memory.
 #[tactic(auto, unfolding(crate::specs::Command::command_of))]
 pub fn command_of<'a>(words: &[&'a str]) -> Option<Command<'a>>
@@ -35,6 +45,9 @@ pub fn command_of<'a>(words: &[&'a str]) -> Option<Command<'a>>
 {
     match words {
         [word, template] if is_show(word) => Some(Command::Show {
+            template: *template,
+        }),
+        [word, template] if is_wire(word) => Some(Command::Wire {
             template: *template,
         }),
         [word, manifest, script] if is_run(word) => Some(Command::Run {

@@ -149,7 +149,12 @@ fn say_cause<E: Sink>(err: &mut E, file: &Text, cause: &LoadCause) -> bool
         LoadCause::Absent => say_of_file(err, file, ": absent\n"),
         LoadCause::TooLong { taken: _ } => say_of_file(err, file, ": longer than 16777216 bytes\n"),
         LoadCause::BadJson => say_of_file(err, file, ": not JSON\n"),
-        LoadCause::BadShape { pointer } => say_quoted_of_file(err, file, ": bad shape at ", pointer),
+        LoadCause::BadShape { pointer } => say_quoted_of_file(
+            err,
+            file,
+            ": bad shape at ",
+            pointer,
+        ),
         LoadCause::BadExpression { pointer } => {
             say_quoted_of_file(err, file, ": bad expression at ", pointer)
         }

@@ -9,22 +9,22 @@ ghost use Rattle.gl_run.specs.Loads.{seen_app, Loads, Causes, FailsAmong};
 
 use crate::RunFault;
 use crate::form::form_of;
-use gl_ast::Body;
+use gl_ast::{Body, Template};
 use gl_load::{fault_in, load_app, load_script, template_in};
 use gl_meaning::{Class, Manifest};
 use gl_outside::Shelf;
 use gl_value::NamedValues;
 use std::alloc::Global;
 
-/// The tree that the file of a template spells, or why there is none.
+/// The template that a file spells, or why there is none. Contracts see its tree.
 #[tactic(auto, unfolding(crate::specs::Load::tree_in))]
-pub fn tree_in<S: Shelf>(alloc: Global, shelf: &mut S, name: &str) -> Result<Body, RunFault>
-    ensures told { (files : List Entry) → S.holds shelf.old ≡ Some files → Loads (λ b. body_of b) result (tree_in files (chars name.now)) }
+pub fn template_of<S: Shelf>(alloc: Global, shelf: &mut S, name: &str) -> Result<Template, RunFault>
+    ensures told { (files : List Entry) → S.holds shelf.old ≡ Some files → Loads (λ t. body_of t.body) result (tree_in files (chars name.now)) }
     ensures causes { IfErr result (λ e. Causes e (S.misses shelf.old) (S.misses shelf.new) (S.faults shelf.old) (S.faults shelf.new)) }
     ensures named { IfErr result (λ e. FailsAmong e (chars name.now ∷ [])) }
 {
     match template_in(alloc, shelf, name) {
-        Ok(tree) => Ok(tree),
+        Ok(template) => Ok(template),
         Err(cause) => Err(RunFault::Load(fault_in(alloc, name, cause))),
     }
 }

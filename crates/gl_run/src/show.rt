@@ -1,14 +1,16 @@
-// Writes the canonical spelling of a template.
+// Writes the canonical spelling and the wire of a template.
 ghost use Rattle.std.specs.Prelude.{◌≡◌, ◌<◌, ◌∷◌, [], IfOk, IsErrOf};
 ghost use Rattle.gl_ast.specs.Template.{body_of};
-ghost use Rattle.gl_run.specs.Output.{shown_text};
+ghost use Rattle.gl_run.specs.Output.{shown_text, wire_line};
 ghost use Rattle.gl_run.specs.Plays.{Plays};
 
 use crate::session::{PlayFault, put_text};
-use gl_ast::Body;
+use gl_ast::{Body, Template};
 use gl_outside::Sink;
 use gl_show::show_body;
 use gl_value::Text;
+use gl_wire::to_text;
+use gl_wirec::compile;
 use std::alloc::{AllocError, Global};
 
 // The canonical spelling of a tree and a line feed.
@@ -26,5 +28,24 @@ pub fn write_shown<K: Sink>(alloc: Global, tree: &Body, out: &mut K) -> Result<(
     ensures failed { IsErrOf result PlayFault.WriteFault → K.faults out.old < K.faults out.new }
 {
     let text = shown_text(alloc, tree)?;
+    put_text(out, &text)
+}
+
+// The text of a template's wire and a line feed.
+fn wire_line(alloc: Global, template: &Template) -> Result<Text, AllocError>
+    ensures { IfOk result (λ t. t ≡ wire_line (body_of template.now.body)) }
+{
+    let wire = compile(alloc, template)?;
+    let mut text = to_text(alloc, &wire)?;
+    text.push_ascii("\n")?;
+    Ok(text)
+}
+
+/// Writes the text of a template's wire and a line feed, in one put.
+pub fn write_wire<K: Sink>(alloc: Global, template: &Template, out: &mut K) -> Result<(), PlayFault>
+    ensures plays { Plays result (K.took out.old) (K.took out.new) (wire_line (body_of template.now.body) ∷ []) }
+    ensures failed { IsErrOf result PlayFault.WriteFault → K.faults out.old < K.faults out.new }
+{
+    let text = wire_line(alloc, template)?;
     put_text(out, &text)
 }

@@ -208,18 +208,22 @@ fn rows(rt: HostRuntime) -> Result<(), Fail> {
 }
 
 // Manifests with faults.
-const OF_TWO: &str = "{\"classes\":{\"App\":{\"getters\":{\"a\":\"this.b\",\"b\":\"this.a\"},\"template\":\"app.hbs\"}},\"root\":\"App\"}";
+const OF_TWO: &str =
+    "{\"classes\":{\"App\":{\"getters\":{\"a\":\"this.b\",\"b\":\"this.a\"},\"template\":\"app.hbs\"}},\"root\":\"App\"}";
 
-const UNTAKEN: &str = "{\"classes\":{\"App\":{\"getters\":{\"c\":\"(if false this.c 1)\"},\"template\":\"app.hbs\"}},\"root\":\"App\"}";
+const UNTAKEN: &str =
+    "{\"classes\":{\"App\":{\"getters\":{\"c\":\"(if false this.c 1)\"},\"template\":\"app.hbs\"}},\"root\":\"App\"}";
 
-const BAD_GETTER: &str = "{\"classes\":{\"App\":{\"getters\":{\"g\":\"(add 1\"},\"template\":\"app.hbs\"}},\"root\":\"App\"}";
+const BAD_GETTER: &str =
+    "{\"classes\":{\"App\":{\"getters\":{\"g\":\"(add 1\"},\"template\":\"app.hbs\"}},\"root\":\"App\"}";
 
 const BAD_MEMBER: &str =
     "{\"classes\":{\"App\":{\"template\":\"app.hbs\",\"x\":1}},\"root\":\"App\"}";
 
 const NO_ROOT: &str = "{\"classes\":{\"App\":{\"template\":\"app.hbs\"}},\"root\":\"Other\"}";
 
-const LISTS: &str = "{\"classes\":{\"App\":{\"fields\":{\"n\":[1,{\"a\":2},null]},\"template\":\"app.hbs\"}},\"root\":\"App\"}";
+const LISTS: &str =
+    "{\"classes\":{\"App\":{\"fields\":{\"n\":[1,{\"a\":2},null]},\"template\":\"app.hbs\"}},\"root\":\"App\"}";
 
 // What is refused of a manifest.
 const MANIFESTS: [Row; 7] = [
@@ -401,6 +405,51 @@ const SHOWN: [Row; 6] = [
         "bad command line\n",
     ),
 ];
+
+const WIRE: &[&str] = &["wire", "app.hbs"];
+
+const WIRES: [Row; 4] = [
+    (
+        "an attribute with an argument",
+        WIRE,
+        [NONE, "<p title={{@t}}>a</p>", ""],
+        Status::Done,
+        "{\"body\":[[\"el\",\"p\",[[\"dyn\",\"title\",[\"sym\",0]]]],[\"text\",\"a\"],[\"end\"]],\"symbols\":[\"@t\"],\"v\":1}\n",
+        "",
+    ),
+    (
+        "a parameter",
+        WIRE,
+        [NONE, "{{#let 1 as |a|}}{{a}}{{/let}}", ""],
+        Status::Done,
+        "{\"body\":[[\"let\",[[\"lit\",1]],[0]],[\"put\",[\"sym\",0]],[\"end\"]],\"symbols\":[\"a\"],\"v\":1}\n",
+        "",
+    ),
+    (
+        "nothing is spelled",
+        WIRE,
+        [NONE, "<p></b>", ""],
+        Status::Refused,
+        "",
+        "\"app.hbs\": not in the grammar at byte 3\n",
+    ),
+    (
+        "no template",
+        WIRE,
+        ["", "", ""],
+        Status::Refused,
+        "",
+        "\"app.hbs\": absent\n",
+    ),
+];
+
+#[test]
+fn wires(rt: HostRuntime) -> Result<(), Fail> {
+    for row in &WIRES {
+        check_row(&rt, rt.alloc(), row)?;
+    }
+    Ok(())
+}
 
 #[test]
 fn shown(rt: HostRuntime) -> Result<(), Fail> {

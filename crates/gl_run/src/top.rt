@@ -3,7 +3,7 @@ ghost use Rattle.std.specs.Prelude.{◌≡◌, ◌<◌, ◌↔◌, ◌∷◌, []
 ghost use Rattle.std.specs.Str.{chars};
 ghost use Rattle.gl_outside.specs.Shelf.{Entry};
 ghost use Rattle.gl_run.specs.Lines.{Says};
-ghost use Rattle.gl_run.specs.Command.{run_command, show_command, command_of};
+ghost use Rattle.gl_run.specs.Command.{run_command, show_command, wire_command, command_of};
 ghost use Rattle.gl_run.specs.Load.{fetched};
 ghost use Rattle.gl_run.specs.Output.{texts_of, texts_output, output_of, Answers};
 ghost use Rattle.gl_run.specs.Run.{Ending, status_of, line_of, HasCause, Tells, Completes, Untouched, fetched_by};
@@ -11,9 +11,9 @@ ghost use Rattle.gl_run.specs.Run.{Ending, status_of, line_of, HasCause, Tells, 
 use crate::Status;
 use crate::command::{Command, command_of};
 use crate::ending::{RunFault, say_line, status_of};
-use crate::load::{load, tree_in};
+use crate::load::{load, template_of};
 use crate::session::play;
-use crate::show::write_shown;
+use crate::show::{write_shown, write_wire};
 use gl_outside::{Shelf, Sink};
 use std::alloc::Global;
 
@@ -64,8 +64,28 @@ fn show_template<S: Shelf, K: Sink>(
     ensures untouched { Untouched result (K.took out.old) (K.took out.new) }
     ensures used { IsErrOf result RunFault.Usage → ⊥ }
 {
-    let tree = tree_in(alloc, shelf, template)?;
-    write_shown(alloc, &tree, out)?;
+    let spelled = template_of(alloc, shelf, template)?;
+    write_shown(alloc, spelled.body(), out)?;
+    Ok(())
+}
+
+// Writes the wire of a template.
+fn wire_template<S: Shelf, K: Sink>(
+    alloc: Global,
+    template: &str,
+    shelf: &mut S,
+    out: &mut K,
+) -> Result<(), RunFault>
+    ensures told { (files : List Entry) → S.holds shelf.old ≡ Some files
+        → Answers (status_of result) (K.took out.old) (K.took out.new) (texts_output (texts_of (wire_command (chars template.now)) files)) }
+    ensures tells { (files : List Entry) → S.holds shelf.old ≡ Some files
+        → Tells result (texts_output (texts_of (wire_command (chars template.now)) files)) (chars template.now ∷ []) }
+    ensures causes { HasCause result (S.misses shelf.old) (S.misses shelf.new) (S.faults shelf.old) (S.faults shelf.new) (K.faults out.old) (K.faults out.new) }
+    ensures untouched { Untouched result (K.took out.old) (K.took out.new) }
+    ensures used { IsErrOf result RunFault.Usage → ⊥ }
+{
+    let spelled = template_of(alloc, shelf, template)?;
+    write_wire(alloc, &spelled, out)?;
     Ok(())
 }
 
@@ -87,17 +107,18 @@ fn attempt<S: Shelf, K: Sink>(
     match command_of(words) {
         Some(Command::Run { manifest, script }) => play_app(alloc, manifest, script, shelf, out),
         Some(Command::Show { template }) => show_template(alloc, template, shelf, out),
+        Some(Command::Wire { template }) => wire_template(alloc, template, shelf, out),
         None => Err(RunFault::Usage),
     }
 }
 
 /// Does what the words say, over a shelf of files and two sinks, and gives the status.
 ///
-/// The words are `run MANIFEST SCRIPT` or `show TEMPLATE`; all else is [`Status::Usage`]. For `run` the manifest is
+/// The words are `run MANIFEST SCRIPT`, `show TEMPLATE` or `wire TEMPLATE`; all else is [`Status::Usage`]. For `run` the manifest is
 /// fetched and read, then the template of each class, then the cycles of getters are sought, then the script is fetched and
 /// read, before anything is written. Then `out` gets the text of the first turn and of the turn of each event, one put
-/// each. What is refused for nothing else and is not of the small form is refused as not built yet. For `show` the template is fetched and read, and `out` gets its canonical spelling and a line feed,
-/// in one put. `err` gets the line of the status, which is none at [`Status::Done`].
+/// each. What is refused for nothing else and is not of the small form is refused as not built yet. For `show` and `wire` the template is fetched and read, and `out` gets its canonical spelling, or the text of its
+/// wire, and a line feed, in one put. `err` gets the line of the status, which is none at [`Status::Done`].
 pub fn run<S: Shelf, K: Sink, E: Sink>(
     alloc: Global,
     words: &[&str],

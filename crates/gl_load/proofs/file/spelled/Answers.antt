@@ -10,7 +10,7 @@ pub returns-in-Ok-clause-told : goal.returns-in-Ok-clause-told
 returns-in-Ok-clause-told c =
     let spells : Spells c.args.bytes.now (body_of c.in-Ok.template.body) = search rules in
     let is = spells_read c.args.bytes.now (body_of c.in-Ok.template.body) spells in
-    rw (is, c.into_body.ensures) refl
+    rw is refl
 
 pub returns-in-Err-NotInGrammar-clause-told : goal.returns-in-Err-NotInGrammar-clause-told
 returns-in-Err-NotInGrammar-clause-told c =
