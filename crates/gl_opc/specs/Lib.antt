@@ -1,0 +1,6 @@
+pub mod Lowers
+pub mod Numbers
+pub mod Program
+pub mod Programs
+pub mod Spans
+pub mod View
