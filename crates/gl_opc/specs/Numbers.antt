@@ -1,5 +1,5 @@
 -- The numbers that operands have in place of names: those of a manifest, of its class, of the helpers and of the symbols.
-use Rattle.std.specs.Prelude.{ℕ, suc, List, [], ◌∷◌, map, Option, Some, None, codes, position, option_map, slice_get}
+use Rattle.std.specs.Prelude.{ℕ, suc, List, ◌∷◌, map, Option, Some, None, codes, position, option_map, slice_get}
 use Rattle.std.specs.Str.{bytes_eq}
 use Rattle.gl_base.specs.Names.{named, or_else}
 use Rattle.gl_base.specs.Texts.{Text}

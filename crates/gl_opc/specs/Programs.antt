@@ -1,5 +1,5 @@
 -- The programs of an application: those of each class, in the manifest's order.
-use Rattle.std.specs.Prelude.{List, [], ◌∷◌, ◌++◌, map, flat_map, Option, ⊤}
+use Rattle.std.specs.Prelude.{List, [], ◌∷◌, ◌++◌, map, flat_map, ⊤}
 use Rattle.std.specs.Option.{option_to_list}
 use Rattle.gl_base.specs.Texts.{Text}
 use Rattle.gl_ast.specs.Template.{Expr, Exprs, no_exprs, expr, Body}

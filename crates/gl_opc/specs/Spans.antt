@@ -1,5 +1,5 @@
 -- Which words of a program stand for which expression and which statement: those from an address up to a later one.
-use Rattle.std.specs.Prelude.{◌≡◌, ℕ, suc, ◌+◌, List, [], ◌∷◌, ◌++◌, map, Bool, true, false, Option, Some, length, if◌then◌else◌}
+use Rattle.std.specs.Prelude.{◌≡◌, ℕ, suc, ◌+◌, List, [], ◌∷◌, ◌++◌, Bool, true, false, Some, if◌then◌else◌}
 use Rattle.gl_base.specs.Names.{has_text}
 use Rattle.gl_base.specs.Texts.{Text}
 use Rattle.gl_value.specs.Value as v
