@@ -1,6 +1,8 @@
 pub mod CaseApp
 mod CasesBlocks
 mod CasesComponents
+mod CasesFaults
 mod CasesPrograms
 mod CasesTags
 mod CasesWrong
+pub mod LinkFault

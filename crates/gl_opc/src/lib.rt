@@ -1,13 +1,19 @@
 //! Programs: what templates and expressions are compiled to.
 //!
 //! A [`Program`] is the words of opcodes with the pools that their operands are places in. What its words stand for is a
-//! relation between programs and trees, `specs/Spans`.
+//! relation between programs and trees, `specs/Spans`; what a whole program is of, `specs/Lowers`.
 #![tactic(auto)]
 
+mod class_program;
 mod ints;
 mod program;
+mod program_list;
+mod programs;
 mod words;
 
+pub use class_program::ClassProgram;
 pub use ints::Ints;
 pub use program::Program;
+pub use program_list::ProgramList;
+pub use programs::Programs;
 pub use words::Words;
