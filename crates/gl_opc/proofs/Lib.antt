@@ -6,3 +6,5 @@ mod CasesPrograms
 mod CasesTags
 mod CasesWrong
 pub mod LinkFault
+pub mod Extended
+pub mod Growing

@@ -27,3 +27,12 @@ HasName p place n = slice_get p.names place ≡ Some n
 
 abbrev pub HasInt : Program → ℕ → ℤ → Type 0
 HasInt p place z = slice_get p.ints place ≡ Some z
+
+-- The second program has each opcode of the first at its address, and each entry of its pools at its place. A word that is
+-- no opcode's may have become one.
+abbrev pub Extends : Program → Program → Type 0
+Extends p q =
+    ((i : ℕ) (op : Op) → op_at p i ≡ Some op → op_at q i ≡ Some op)
+    × ((i : ℕ) (s : Text) → HasText p i s → HasText q i s)
+    × ((i : ℕ) (n : Text) → HasName p i n → HasName q i n)
+    × ((i : ℕ) (z : ℤ) → HasInt p i z → HasInt q i z)
