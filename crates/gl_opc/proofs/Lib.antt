@@ -8,3 +8,4 @@ mod CasesWrong
 pub mod LinkFault
 pub mod Extended
 pub mod Growing
+pub mod Known
