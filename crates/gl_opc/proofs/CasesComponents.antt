@@ -1,7 +1,7 @@
 -- Worked programs: components and their blocks.
 use Rattle.std.specs.Prelude.{pos, [], ◌∷◌, codes, refl}
 use Rattle.gl_value.specs.Value.{integer}
-use Rattle.gl_ast.specs.Template.{literal, this, argument, bare, no_exprs, expr, fixed, live, attribute, Body, put, component_stmt, yield, end, stmt, no_slots, block}
+use Rattle.gl_ast.specs.Template.{literal, this, argument, bare, no_exprs, expr, fixed, live, attribute, Body, text_stmt, put, component_stmt, yield, end, stmt, no_slots, block}
 use Rattle.gl_ops.specs.declared.op.Op.TheVariants as op
 use Rattle.gl_opc.specs.Lowers.{Lowers}
 use Rattle.gl_opc.specs.Program.{Program}
@@ -63,3 +63,23 @@ shown_program = record {
 shown : Lowers shown_program shown_tree manifest app
 unfolding on_literals
 shown = (3, (3, (0, 2, (1, (0, refl, (refl, refl)), (2, (op.Field 0, refl, (2, (refl, refl), refl)), refl)), refl, (refl, refl)), refl), (refl, refl))
+
+-- a component with two blocks, `default` and `side`, of which the second has a parameter
+abbrev two_blocks_tree : Body
+two_blocks_tree = stmt (component_stmt (codes "Row") [] [] (block (codes "default") [] (stmt (text_stmt (codes "a")) end) (block (codes "side") (codes "x" ∷ []) (stmt (put (bare (codes "x") [])) end) no_slots))) end
+
+abbrev two_blocks_program : Program
+two_blocks_program = record {
+  words = (
+      0x16_000001_00000000 ∷ 0x18_000000_00000004 ∷ 0x01_000000_00000000 ∷ 0x1A_000000_00000000
+      ∷ 0x18_000001_00000009 ∷ 0x19_000000_00000000 ∷ 0x24_000000_00000000 ∷ 0x0A_000000_00000000
+      ∷ 0x1A_000000_00000000 ∷ 0x1C_000000_00000000 ∷ 0x2D_000000_00000000 ∷ []
+      );
+  texts = codes "a" ∷ [];
+  names = codes "default" ∷ codes "side" ∷ [];
+  ints = [];
+}
+
+two_blocks : Lowers two_blocks_program two_blocks_tree manifest app
+unfolding on_literals
+two_blocks = (10, (10, (1, 1, 1, 1, 9, 9, refl, (refl, refl), refl, refl, (0, 2, 2, 3, 4, refl, (refl, refl), refl, (3, (0, refl, (refl, refl)), refl), (refl, refl), (1, 5, 6, 8, 9, refl, (refl, refl), (6, (refl, refl), refl), (8, (7, (7, (refl, refl), refl), (refl, refl)), refl), (refl, refl), refl)), refl, (refl, refl)), refl), (refl, refl))

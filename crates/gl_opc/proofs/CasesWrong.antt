@@ -1,5 +1,5 @@
 -- Programs that do not lower the template: in each, one word is another than it must be.
-use Rattle.std.specs.Prelude.{◌≡◌, ℕ, suc, List, [], ◌∷◌, Option, Some, None, codes, pos, true, false}
+use Rattle.std.specs.Prelude.{◌≡◌, ℕ, suc, List, [], ◌∷◌, Option, Some, codes, pos, true, false}
 use Rattle.std.proofs.Common.{sym, ap, subst, arith}
 use Rattle.gl_value.specs.Value.{null, boolean, integer}
 use Rattle.gl_ast.specs.Template.{literal, bare, call, no_exprs, expr, no_named, Body, text_stmt, put, component_stmt, if_stmt, let_stmt, end, stmt, no_slots, block}
@@ -162,11 +162,3 @@ short_block h =
     let no_body = b.8 in
     let after_end = b.9.1 in
     omega (arith, to, second, after_block, no_params, no_body, after_end)
-
--- <Other />: there is no such class
-no_class : (p : Program) → Lowers p (stmt (component_stmt (codes "Other") [] [] no_slots) end) manifest app → ⊥
-no_class p h = let s = h.1.1 in let none : None ≡ Some s.0 = s.6 in cc
-
--- {{not concat}}: a name that is not the whole of a mustache is no helper
-no_name : (p : Program) → Lowers p (stmt (put (call (codes "not") (expr (bare (codes "concat") []) no_exprs) no_named)) end) manifest app → ⊥
-no_name p h = h.1.1.1.2.1

@@ -2,10 +2,12 @@ pub mod CaseApp
 mod CasesBlocks
 mod CasesComponents
 mod CasesFaults
+mod CasesNone
 mod CasesPrograms
+mod CasesReads
 mod CasesTags
 mod CasesWrong
-pub mod LinkFault
 pub mod Extended
 pub mod Growing
 pub mod Known
+pub mod LinkFault
