@@ -4,7 +4,7 @@ use Rattle.gl_base.specs.Texts.{Text}
 use Rattle.gl_value.specs.Value.{integer}
 use Rattle.gl_ast.specs.Template.{literal, this, bare, call, no_exprs, expr, no_named, live, attribute, modifier, text_stmt, put, element, component_stmt, if_stmt, each, let_stmt, end, stmt, no_slots, block}
 use Rattle.gl_meaning.specs.Known.{Kind, component_kind, helper_kind, modifier_kind, member_kind, local_kind}
-use Rattle.gl_opc.specs.LinkFault.{Fault, first_fault, first_expr_fault}
+use Rattle.gl_opc.specs.TreeFaults.{Fault, first_fault, first_expr_fault}
 use Rattle.gl_opc.proofs.CaseApp.{manifest, app}
 
 abbrev fault : Kind → Text → ℕ → Option Fault

@@ -10,4 +10,4 @@ mod CasesWrong
 pub mod Extended
 pub mod Growing
 pub mod Known
-pub mod LinkFault
+pub mod TreeFaults

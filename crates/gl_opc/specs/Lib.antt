@@ -1,8 +1,12 @@
-pub mod LinkFault
+pub mod Coding
+pub mod Links
 pub mod Lowers
 pub mod Numbers
+pub mod Piece
 pub mod Program
 pub mod ProgramCode
 pub mod Programs
 pub mod Spans
+pub mod TreeFaults
 pub mod View
+pub mod WireFaults

@@ -1,18 +1,23 @@
 //! Programs: what templates and expressions are compiled to.
 //!
 //! A [`Program`] is the words of opcodes with the pools that their operands are places in. What its words stand for is a
-//! relation between programs and trees, `specs/Spans`; what a whole program is of, `specs/Lowers`.
+//! relation between programs and trees, `specs/Spans`; what a whole program is of, `specs/Lowers`. [`link`] makes the program of a
+//! wire.
 #![tactic(auto)]
 
 mod class_program;
+mod fault;
 mod ints;
+mod linking;
 mod program;
 mod program_list;
 mod programs;
 mod words;
 
 pub use class_program::ClassProgram;
+pub use fault::LinkFault;
 pub use ints::Ints;
+pub use linking::{link, link_expression};
 pub use program::Program;
 pub use program_list::ProgramList;
 pub use programs::Programs;

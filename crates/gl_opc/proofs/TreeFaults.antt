@@ -5,7 +5,7 @@ use Rattle.gl_base.specs.Texts.{Text}
 use Rattle.gl_ast.specs.Template.{Stmt, text_stmt, comment_stmt, put, element, component_stmt, if_stmt, each, let_stmt, yield, Body, end, stmt, Slots, no_slots, block}
 use Rattle.gl_meaning.specs.App.{Class, App}
 use Rattle.gl_meaning.specs.Known.{Unknown, stmt_unknowns, body_unknowns, slots_unknowns}
-use Rattle.gl_opc.specs.LinkFault.{Fault, at_stmt, stmt_faults, body_faults, slots_faults, own_unknowns}
+use Rattle.gl_opc.specs.TreeFaults.{Fault, at_stmt, stmt_faults, body_faults, slots_faults, own_unknowns}
 
 abbrev pub unknowns_of : List Fault → List Unknown
 unknowns_of fs = map (λ f. f.unknown) fs
