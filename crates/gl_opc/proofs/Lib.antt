@@ -7,7 +7,9 @@ mod CasesPrograms
 mod CasesReads
 mod CasesTags
 mod CasesWrong
+pub mod Counts
 pub mod Extended
 pub mod Growing
 pub mod Known
+pub mod Lookups
 pub mod TreeFaults

@@ -1,4 +1,5 @@
 pub mod Coding
+pub mod Linked
 pub mod Links
 pub mod Lowers
 pub mod Numbers
@@ -7,6 +8,7 @@ pub mod Program
 pub mod ProgramCode
 pub mod Programs
 pub mod Spans
+pub mod State
 pub mod TreeFaults
 pub mod View
 pub mod WireFaults

@@ -6,8 +6,11 @@
 #![tactic(auto)]
 
 mod class_program;
+mod context;
 mod fault;
 mod ints;
+mod link_expr;
+mod linker;
 mod linking;
 mod program;
 mod program_list;
