@@ -1,3 +1,4 @@
+pub mod Blocks
 pub mod CaseApp
 mod CasesBlocks
 mod CasesComponents
@@ -10,6 +11,9 @@ mod CasesWrong
 pub mod Counts
 pub mod Extended
 pub mod Growing
+pub mod Joins
+pub mod Jumps
 pub mod Known
+pub mod LinkedExprs
 pub mod Lookups
 pub mod TreeFaults

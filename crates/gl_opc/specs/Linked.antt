@@ -201,9 +201,8 @@ module _ (context : Context) where
         >>= λ u. body_linked c (turned (if_op unless) (here t) u) >>= λ x. Ok (op_added op.EndIf (met (here u) x))
     stmt_linked (w.each e key is b c) s =
         expr_linked s.begun e (started s)
-        >>= λ t. body_linked b (item_added is (gap_added (name_added key t)))
-        >>= λ u. body_linked c (turned (op.Each (length t.code.names)) (here t) (op_added op.EndItem u))
-        >>= λ x. Ok (op_added op.EndEach (met (here (op_added op.EndItem u)) x))
+        >>= λ t. (body_linked b (item_added is (gap_added (name_added key t))) >>= λ y. Ok (op_added op.EndItem y))
+        >>= λ u. body_linked c (turned (op.Each (length t.code.names)) (here t) u) >>= λ x. Ok (op_added op.EndEach (met (here u) x))
     stmt_linked (w.let_stmt es is b) s =
         exprs_linked s.begun es (started s)
         >>= λ t. body_linked b (params_linked op.Bind is (op_added (op.Let (count_exprs es)) t)) >>= λ u. Ok (op_added op.EndLet u)
@@ -216,8 +215,19 @@ module _ (context : Context) where
     pub slots_linked : w.Slots → State → Step State
     slots_linked w.no_slots s = Ok s
     slots_linked (w.block name is b ss) s =
-        body_linked b (params_linked op.Param is (gap_added (name_added name s)))
-        >>= λ t. slots_linked ss (skipped_over (op.Block (length s.code.names)) (here s) (op_added op.EndBlock t))
+        (body_linked b (params_linked op.Param is (gap_added (name_added name s)))
+        >>= λ y. Ok (skipped_over (op.Block (length s.code.names)) (here s) (op_added op.EndBlock y)))
+        >>= λ t. slots_linked ss t
+
+  -- the first branch of an `each`, up to its end
+  abbrev pub item_linked : List ℕ → w.Body → State → Step State
+  item_linked is b s = body_linked b (item_added is s) >>= λ t. Ok (op_added op.EndItem t)
+
+  -- one block that is passed to a component
+  abbrev pub slot_linked : Text → List ℕ → w.Body → State → Step State
+  slot_linked name is b s =
+      body_linked b (params_linked op.Param is (gap_added (name_added name s)))
+      >>= λ t. Ok (skipped_over (op.Block (length s.code.names)) (here s) (op_added op.EndBlock t))
 
   abbrev pub template_linked : w.Body → State → Step State
   template_linked b s = body_linked b s >>= λ t. Ok (op_added op.Done t)

@@ -83,8 +83,8 @@ pub fn class_number(manifest: &Manifest, name: &Text) -> Result<Option<u32>, All
     number(class_place(manifest.classes.as_slice(), name))
 }
 
-// The number after another.
-fn next(number: u32) -> Result<u32, AllocError>
+/// The number after another.
+pub fn next(number: u32) -> Result<u32, AllocError>
     ensures { IfOk result (λ n. n ≡ suc number) }
 {
     number.checked_add(1).ok_or(AllocError)

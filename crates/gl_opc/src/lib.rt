@@ -10,6 +10,8 @@ mod context;
 mod fault;
 mod ints;
 mod link_expr;
+mod link_part;
+mod link_stmt;
 mod linker;
 mod linking;
 mod program;

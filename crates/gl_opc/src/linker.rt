@@ -1,5 +1,5 @@
 // What is linked so far.
-ghost use Rattle.std.specs.Prelude.{◌≡◌,  IfOk, OnOk, length, map, Some};
+ghost use Rattle.std.specs.Prelude.{◌≡◌, IfOk, OnOk, length, map, Some};
 ghost use Rattle.gl_ops.specs.Opcodes.{row_of};
 ghost use Rattle.gl_ops.specs.Words.{decoded, operand, IsWordOf};
 ghost use Rattle.gl_opc.specs.Linked.{op_added, text_added, name_added, int_added, text_op_added, name_op_added, filled, started};
