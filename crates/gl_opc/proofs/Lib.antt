@@ -15,5 +15,6 @@ pub mod Joins
 pub mod Jumps
 pub mod Known
 pub mod LinkedExprs
+pub mod LinkedStmts
 pub mod Lookups
 pub mod TreeFaults
