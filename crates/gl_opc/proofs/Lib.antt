@@ -10,4 +10,6 @@ mod CasesWrong
 pub mod Extended
 pub mod Growing
 pub mod Known
+pub mod SameNames
 pub mod TreeFaults
+pub mod WireUnknowns
