@@ -10,6 +10,7 @@ mod CasesWrong
 pub mod Extended
 pub mod Growing
 pub mod Known
+pub mod Places
 pub mod SameNames
 pub mod TreeFaults
 pub mod WireUnknowns
