@@ -7,6 +7,7 @@ mod CasesPrograms
 mod CasesReads
 mod CasesTags
 mod CasesWrong
+pub mod Codable
 pub mod Extended
 pub mod Growing
 pub mod Known
