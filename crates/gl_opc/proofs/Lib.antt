@@ -12,6 +12,7 @@ pub mod Extended
 pub mod Growing
 pub mod Known
 pub mod LoweredExprs
+pub mod LoweredStmts
 pub mod Places
 pub mod SameNames
 pub mod TreeFaults
