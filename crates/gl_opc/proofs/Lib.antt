@@ -11,6 +11,7 @@ pub mod Codable
 pub mod Extended
 pub mod Growing
 pub mod Known
+pub mod Lowered
 pub mod LoweredExprs
 pub mod LoweredStmts
 pub mod Places
