@@ -17,14 +17,13 @@ use Rattle.gl_wire.specs.WireOf.{body_wire, expr_wire, wire_of, expr_wire_of}
 use Rattle.gl_opc.specs.Coding.{body_code, expr_code, template_code, expression_code}
 use Rattle.gl_opc.specs.IsProgram.{IsProgramOf}
 use Rattle.gl_opc.specs.Lowers.{Lowers, LowersExpr}
-use Rattle.gl_opc.specs.Piece.{Code, Place, Piece, start, after, op_piece}
+use Rattle.gl_opc.specs.Piece.{Code, start, after, op_piece}
 use Rattle.gl_opc.specs.Program.{Program, Stands}
-use Rattle.gl_opc.specs.TreeFaults.{template_faults}
 use Rattle.gl_opc.specs.WireFaults as wire
 use Rattle.gl_opc.proofs.Codable.{CodableBody, CodableExpr, template_codable, expression_codable}
 use Rattle.gl_opc.proofs.LoweredExprs.{expr_lowered}
 use Rattle.gl_opc.proofs.LoweredStmts.{body_lowered}
-use Rattle.gl_opc.proofs.Places.{StandsIn, Has, From, in_turn, one}
+use Rattle.gl_opc.proofs.Places.{StandsIn, Has, in_turn, one}
 use Rattle.gl_opc.proofs.SameNames.{once_among}
 use Rattle.gl_opc.proofs.TreeFaults.{unknowns_of, body_faults-unknowns}
 use Rattle.gl_opc.proofs.WireUnknowns.{body_wire_faults, expr_wire_unknowns}
@@ -63,8 +62,7 @@ module _ (p : Program) (m : Manifest) (c : ClassEntry) where
       let to = after start x in
       let a = in_turn p start to code (op_piece Done) (has_whole p x h, refl) in
       let none : k.body_unknowns (app_of m []) (class_of c t.end) [] b ≡ [] =
-          sym (body_faults-unknowns (app_of m []) (class_of c t.end) [] 0 b) ∙ ap unknowns_of (sym (body_wire_faults m c (symbols_of b) [] [] (λ n. refl) 0 b) ∙ e) in
-      (
+      sym (body_faults-unknowns (app_of m []) (class_of c t.end) [] 0 b) ∙ ap unknowns_of (sym (body_wire_faults m c (symbols_of b) [] [] (λ n. refl) 0 b) ∙ e) in (
         a.0.address,
         body_lowered p m c (symbols_of b) [] [] (λ n. refl) b start a.0 u (once_among (body_mentions b)) none a.1,
         subst (λ i. Stands p a.0.address Done i) (all_words p x h) (one p a.0 to Done a.2),
@@ -77,11 +75,10 @@ module _ (p : Program) (m : Manifest) (c : ClassEntry) where
       let code = expr_code m c symbols (expr_wire symbols params false e) in
       let x = expression_code m c symbols (expr_wire symbols params false e) start in
       let to = after start x in
-      let a = in_turn p start to code (op_piece Done) (has_whole p x h, refl) in
-      (
+      let a = in_turn p start to code (op_piece Done) (has_whole p x h, refl) in (
         a.0.address,
         expr_lowered p m c symbols params params params (λ n. refl) false e start a.0 u (once_among (expr_mentions params e))
-        (sym (expr_wire_unknowns m c symbols params params (λ n. refl) false e) ∙ f) a.1,
+            (sym (expr_wire_unknowns m c symbols params params (λ n. refl) false e) ∙ f) a.1,
         subst (λ i. Stands p a.0.address Done i) (all_words p x h) (one p a.0 to Done a.2),
       )
 

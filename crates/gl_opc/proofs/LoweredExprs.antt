@@ -1,5 +1,5 @@
 -- The words that the code of an expression's wire has in a program stand for the expression.
-use Rattle.std.proofs.Common.{◌≡◌, ℕ, suc, ◌+◌, List, [], ◌∷◌, ◌++◌, Bool, true, false, ◌||◌, ◌&&◌, ◌==◌, Option, Some, None, slice_get, is_some, refl, sym, ap, subst, ◌∙◌}
+use Rattle.std.proofs.Common.{◌≡◌, ℕ, suc, List, [], ◌∷◌, ◌++◌, Bool, true, false, ◌||◌, ◌&&◌, Option, Some, slice_get, refl, sym, ap, subst, ◌∙◌}
 use Rattle.std.specs.Prelude.{if◌then◌else◌}
 use Rattle.std.specs.Str.{bytes_eq}
 use Rattle.std.proofs.lemmas.Slice.Eq.{bytes_eq-Decides}
@@ -153,8 +153,7 @@ module _ (p : Program) (m : Manifest) (c : ClassEntry) (symbols : List Text) whe
           let a = in_turn p at to (code.exprs_code m c symbols es') (code.named_code m c symbols ns' ⨾ last) h in
           let b = in_turn p a.0 to (code.named_code m c symbols ns') last a.2 in
           let f = both_none _ _ e in
-          let g = both_none _ _ f.1 in
-          (
+          let g = both_none _ _ f.1 in (
             a.0.address,
             b.0.address,
             exprs_lowered false es at a.0 u.0 (front_among symbols (exprs_mentions known es) (named_mentions known ns) s) g.0 a.1,
@@ -163,8 +162,7 @@ module _ (p : Program) (m : Manifest) (c : ClassEntry) (symbols : List Text) whe
           )
       expr_lowered whole (t.cat es) at to u s e h =
           let es' = exprs_wire symbols scope true es in
-          let a = in_turn p at to (code.exprs_code m c symbols es') (op_piece (op.Cat (code.count_exprs es'))) h in
-          (
+          let a = in_turn p at to (code.exprs_code m c symbols es') (op_piece (op.Cat (code.count_exprs es'))) h in (
             a.0.address,
             exprs_lowered true es at a.0 u s e a.1,
             subst (λ i. Stands p a.0.address (op.Cat i) to.address) (exprs_counted symbols scope true es) (one p a.0 to _ a.2),
@@ -176,8 +174,7 @@ module _ (p : Program) (m : Manifest) (c : ClassEntry) (symbols : List Text) whe
       exprs_lowered whole t.no_exprs at to u s e h = none p at to h
       exprs_lowered whole (t.expr x es) at to u s e h =
           let a = in_turn p at to (code.expr_code m c symbols (expr_wire symbols scope whole x)) (code.exprs_code m c symbols (exprs_wire symbols scope whole es)) h in
-          let f = both_none _ _ e in
-          (
+          let f = both_none _ _ e in (
             a.0.address,
             expr_lowered whole x at a.0 u.0 (front_among symbols (expr_mentions known x) (exprs_mentions known es) s) f.0 a.1,
             exprs_lowered whole es a.0 to u.1 (back_among symbols (expr_mentions known x) (exprs_mentions known es) s) f.1 a.2,
@@ -192,8 +189,7 @@ module _ (p : Program) (m : Manifest) (c : ClassEntry) (symbols : List Text) whe
           let a = in_turn p at to (code.expr_code m c symbols (expr_wire symbols scope false x)) (text_op op.Named n ⨾ rest) h in
           let b = in_turn p a.0 to (text_op op.Named n) rest a.2 in
           let d = text_one p a.0 b.0 op.Named n b.1 in
-          let f = both_none _ _ e in
-          (
+          let f = both_none _ _ e in (
             d.0,
             a.0.address,
             b.0.address,

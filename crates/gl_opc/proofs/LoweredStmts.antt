@@ -1,5 +1,5 @@
 -- The words that the code of a body's wire has in a program stand for the body.
-use Rattle.std.proofs.Common.{◌≡◌, ℕ, zero, suc, List, [], ◌∷◌, ◌++◌, Bool, true, false, Option, slice_get, is_some, refl, sym, ap, subst, ◌∙◌}
+use Rattle.std.proofs.Common.{◌≡◌, ℕ, zero, suc, List, [], ◌∷◌, ◌++◌, true, false, slice_get, refl, subst, ◌∙◌}
 use Rattle.std.specs.Prelude.{flat_map}
 use Rattle.gl_base.specs.Texts.{Text}
 use Rattle.gl_ast.specs.Template as t
@@ -13,7 +13,7 @@ use Rattle.gl_opc.specs.Coding as code
 use Rattle.gl_opc.specs.Numbers.{class_number, modifier_number, parameter_symbol, item_op}
 use Rattle.gl_opc.specs.Piece.{Place, Piece, ◌⨾◌, op_piece, with_text, with_name, text_op, name_op, op_where, skipping, forked}
 use Rattle.gl_opc.specs.Program.{Program, Stands}
-use Rattle.gl_opc.specs.Spans.{if_op, count_exprs, ValueAt, PartAt, PartsAt, ArgumentsAt, ParametersAt, BareAt, StmtAt, BodyAt, BlocksAt}
+use Rattle.gl_opc.specs.Spans.{if_op, ValueAt, PartAt, PartsAt, ArgumentsAt, ParametersAt, BareAt, StmtAt, BodyAt, BlocksAt}
 use Rattle.gl_opc.proofs.Codable.{CodableValue, CodablePart, CodableParts, CodableArguments, CodableStmt, CodableBody, CodableSlots}
 use Rattle.gl_opc.proofs.LoweredExprs.{both_none, is_known, exprs_counted, both_counted, expr_lowered, exprs_lowered, named_lowered}
 use Rattle.gl_opc.proofs.Places.{From, in_turn, none, one, at_address, text_first, name_first, text_one, name_one, number_one, skips, forks}
@@ -59,8 +59,7 @@ module _ (p : Program) (m : Manifest) (c : ClassEntry) (symbols : List Text) whe
         let g = in_turn p f.0 to (code.named_code m c symbols ns') last f.2 in
         let d = both_none _ _ e in
         let r = both_none _ _ d.1 in
-        let o = number_one p g.0 to kind (modifier_number m n) (modifier_alike m n ∙ is_known _ _ n d.0) g.2 in
-        (
+        let o = number_one p g.0 to kind (modifier_number m n) (modifier_alike m n ∙ is_known _ _ n d.0) g.2 in (
           o.0,
           f.0.address,
           g.0.address,
@@ -89,8 +88,7 @@ module _ (p : Program) (m : Manifest) (c : ClassEntry) (symbols : List Text) whe
         let f = in_turn p at to (code.expr_code m c symbols (value_wire symbols scope x.1)) (name_op op.Arg x.0 ⨾ rest) h in
         let g = in_turn p f.0 to (name_op op.Arg x.0) rest f.2 in
         let o = name_one p f.0 g.0 op.Arg x.0 g.1 in
-        let d = both_none _ _ e in
-        (
+        let d = both_none _ _ e in (
           o.0,
           f.0.address,
           g.0.address,
@@ -133,8 +131,7 @@ module _ (p : Program) (m : Manifest) (c : ClassEntry) (symbols : List Text) whe
         let i = in_turn p g.0 to (op_piece op.Flush) (body ⨾ op_piece op.Close) g.2 in
         let j = in_turn p i.0 to body (op_piece op.Close) i.2 in
         let o = text_one p at f.0 op.Open tag f.1 in
-        let d = both_none _ _ e in
-        (
+        let d = both_none _ _ e in (
           o.0,
           f.0.address,
           g.0.address,
@@ -162,8 +159,7 @@ module _ (p : Program) (m : Manifest) (c : ClassEntry) (symbols : List Text) whe
         let q = both_none _ _ d.1 in
         let r = both_none _ _ q.1 in
         let o = number_one p at f.0 op.Comp (class_number m n) (class_alike m n ∙ is_known _ _ n d.0) f.1 in
-        let later = back_among symbols (arguments_mentions given) (parts_mentions ps ++ slots_mentions ss) a in
-        (
+        let later = back_among symbols (arguments_mentions given) (parts_mentions ps ++ slots_mentions ss) a in (
           o.0,
           f.0.address,
           g.0.address,
@@ -187,8 +183,7 @@ module _ (p : Program) (m : Manifest) (c : ClassEntry) (symbols : List Text) whe
         let i = forks p f.0 g.0 (if_op unless) body body' g.1 in
         let d = both_none _ _ e in
         let q = both_none _ _ d.1 in
-        let later = back_among symbols _ (body_mentions b ++ body_mentions other) a in
-        (
+        let later = back_among symbols _ (body_mentions b ++ body_mentions other) a in (
           f.0.address,
           i.0.address,
           i.1.address,
@@ -216,8 +211,7 @@ module _ (p : Program) (m : Manifest) (c : ClassEntry) (symbols : List Text) whe
         let d = both_none _ _ e in
         let q = both_none _ _ d.1 in
         let later = back_among symbols _ (ns ++ (body_mentions b ++ body_mentions other)) a in
-        let bodies = back_among symbols ns (body_mentions b ++ body_mentions other) later in
-        (
+        let bodies = back_among symbols ns (body_mentions b ++ body_mentions other) later in (
           o.0,
           f.0.address,
           i.0.address,
@@ -246,8 +240,7 @@ module _ (p : Program) (m : Manifest) (c : ClassEntry) (symbols : List Text) whe
         let i = in_turn p g.0 to binds (body ⨾ op_piece op.EndLet) g.2 in
         let j = in_turn p i.0 to body (op_piece op.EndLet) i.2 in
         let d = both_none _ _ e in
-        let later = back_among symbols _ (ns ++ body_mentions b) a in
-        (
+        let later = back_among symbols _ (ns ++ body_mentions b) a in (
           f.0.address,
           g.0.address,
           i.0.address,
@@ -262,8 +255,7 @@ module _ (p : Program) (m : Manifest) (c : ClassEntry) (symbols : List Text) whe
         let es' = exprs_wire symbols scope false es in
         let kind : ℕ → Op = λ n. op.Yield (code.count_exprs es') n in
         let f = in_turn p at to (code.exprs_code m c symbols es') (name_op kind name) h in
-        let o = name_one p f.0 to kind name f.2 in
-        (
+        let o = name_one p f.0 to kind name f.2 in (
           o.0,
           f.0.address,
           exprs_lowered p m c symbols [] scope params same false es at f.0 u a e f.1,
@@ -277,8 +269,7 @@ module _ (p : Program) (m : Manifest) (c : ClassEntry) (symbols : List Text) whe
     body_lowered scope params same t.end at to u a e h = none p at to h
     body_lowered scope params same (t.stmt s b) at to u a e h =
         let f = in_turn p at to (code.stmt_code m c symbols (stmt_wire symbols scope s)) (code.body_code m c symbols (body_wire symbols scope b)) h in
-        let d = both_none _ _ e in
-        (
+        let d = both_none _ _ e in (
           f.0.address,
           stmt_lowered scope params same s at f.0 u.0 (front_among _ _ _ a) d.0 f.1,
           body_lowered scope params same b f.0 to u.1 (back_among _ _ _ a) d.1 f.2,
@@ -299,8 +290,7 @@ module _ (p : Program) (m : Manifest) (c : ClassEntry) (symbols : List Text) whe
         let i = in_turn p g.0 f.0 takes (body ⨾ op_piece op.EndBlock) g.2 in
         let j = in_turn p i.0 f.0 body (op_piece op.EndBlock) i.2 in
         let d = both_none _ _ e in
-        let later = back_among symbols ns (body_mentions b ++ slots_mentions ss) a in
-        (
+        let later = back_among symbols ns (body_mentions b ++ slots_mentions ss) a in (
           o.0,
           g.0.address,
           i.0.address,

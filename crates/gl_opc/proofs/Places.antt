@@ -176,8 +176,7 @@ module _ (p : Program) where
       let rest = has_back at head (x ⊕ (other ⊕ y)) h.0 in
       let last = has_back first x (other ⊕ y) rest in
       let ends : after second y ≡ to =
-          sym (after_both jump other y) ∙ (sym (after_both first x (other ⊕ y)) ∙ (sym (after_both at head (x ⊕ (other ⊕ y))) ∙ h.1)) in
-      (
+      sym (after_both jump other y) ∙ (sym (after_both first x (other ⊕ y)) ∙ (sym (after_both at head (x ⊕ (other ⊕ y))) ∙ h.1)) in (
         first,
         jump,
         second,

@@ -226,7 +226,7 @@ module _ (m : Manifest) (c : ClassEntry) where
         → wire.body_faults m c i (body_wire symbols scope b) ≡ tree.body_faults (app_of m []) (class_of c t.end) params i b
     body_wire_faults symbols scope params same i t.end = refl
     body_wire_faults symbols scope params same i (t.stmt s b) =
-        joined _ _ _ _ (stmt_wire_faults symbols scope params same i s) 
+        joined _ _ _ _ (stmt_wire_faults symbols scope params same i s)
         (counted (λ h. wire.body_faults m c (i + h) (body_wire symbols scope b)) _ _ _ (stmt_count symbols scope s) (body_wire_faults symbols scope params same _ b))
 
     slots_wire_faults : (symbols scope params : List Text) → SameNames scope params → (i : ℕ) (ss : t.Slots)
