@@ -8,6 +8,7 @@ mod CasesPrograms
 mod CasesReads
 mod CasesTags
 mod CasesWrong
+pub mod Codable
 pub mod Counts
 pub mod Extended
 pub mod Growing
@@ -17,4 +18,10 @@ pub mod Known
 pub mod LinkedExprs
 pub mod LinkedStmts
 pub mod Lookups
+pub mod Lowered
+pub mod LoweredExprs
+pub mod LoweredStmts
+pub mod Places
+pub mod SameNames
 pub mod TreeFaults
+pub mod WireUnknowns
