@@ -21,7 +21,9 @@ pub mod Lookups
 pub mod Lowered
 pub mod LoweredExprs
 pub mod LoweredStmts
+pub mod Lowering
 pub mod Places
 pub mod SameNames
 pub mod TreeFaults
+pub mod Whole
 pub mod WireUnknowns

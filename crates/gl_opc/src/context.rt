@@ -15,6 +15,7 @@ use gl_value::{Text, Texts, Value};
 use std::alloc::{AllocError, Global};
 
 /// What the names of a wire are looked up in.
+#[derive(Clone, Copy, Drop)]
 pub struct Context<'a> {
     pub alloc: Global,
     pub manifest: &'a Manifest,
