@@ -1,5 +1,5 @@
 -- A component that is passed a block is not bare.
-use Rattle.std.proofs.Common.{◌≡◌, ◌≤◌, ℕ, List, [], ◌∷◌, length, refl, ap, arith}
+use Rattle.std.proofs.Common.{◌≡◌, ◌≤◌, ℕ, List, [], ◌∷◌, length, ap, arith}
 use Rattle.gl_base.specs.Texts.{Text}
 use Rattle.gl_wire.specs.View.{seen_slots}
 use Rattle.gl_wire.specs.Wire.{Body, slots_of}

@@ -7,7 +7,7 @@ use Rattle.gl_base.specs.Texts.{Text}
 use Rattle.gl_ops.specs.declared.op.Op.{Op}
 use Rattle.gl_meaning.specs.Known.{Kind, Unknown, unless_known}
 use Rattle.gl_opc.specs.Linked.{State, Step, ◌>>=◌, known, op_added, text_op_added, name_op_added, int_op_added, name_added, started}
-use Rattle.gl_opc.specs.Piece.{Code, Place, Piece, ◌⊕◌, start, after, nothing, ◌⨾◌, op_piece, text_op, name_op, int_op, with_name, one_op}
+use Rattle.gl_opc.specs.Piece.{Code, Place, Piece, ◌⊕◌, start, after, nothing, ◌⨾◌, op_piece, text_op, name_op, int_op, with_name}
 use Rattle.gl_opc.specs.TreeFaults.{Fault, at_stmt}
 
 -- the first unknown name, or else what is linked
@@ -127,7 +127,7 @@ pub join_both : (i : ℕ) (o : Op) (x : Step State) (k : State → Step State) (
 join_both i o x k us vs f g s e h =
     bind_assoc x k _
     ∙ join_at i x (λ t. k t >>= λ u. Ok (op_added o u)) us vs f (g ⨾ op_piece o) s e
-      (join_added (k (behind 0 f s)) (op_added o) (map (at_stmt i) vs) 0 g (op_piece o) (behind 0 f s) h (added_op o _))
+    (join_added (k (behind 0 f s)) (op_added o) (map (at_stmt i) vs) 0 g (op_piece o) (behind 0 f s) h (added_op o _))
 
 -- a name that is looked up first; the piece is by what is found
 pub join_known : {A : Type 0} (piece : Option A → Piece) (found : Option A) (i : ℕ) (kind : Kind) (n : Text) (k : A → Step State) (gs : List Fault) (m : ℕ) (s : State)

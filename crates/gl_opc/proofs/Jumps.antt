@@ -1,5 +1,5 @@
 -- Gaps that are filled are jumps whose addresses are known.
-use Rattle.std.proofs.Common.{◌≡◌, ◌+◌, ℕ, suc, List, [], ◌∷◌, ◌++◌, Ok, Err, length, refl, sym, ap, ◌∙◌, arith, append_assoc, length-append}
+use Rattle.std.proofs.Common.{◌≡◌, ◌+◌, ℕ, List, [], ◌∷◌, ◌++◌, Ok, length, refl, sym, ap, ◌∙◌, arith, append_assoc, length-append}
 use Rattle.std.specs.Prelude.{slice_set}
 use Rattle.std.proofs.lemmas.List.{set_at}
 use Rattle.gl_ops.specs.declared.op.Op.{Op}
@@ -48,12 +48,12 @@ turned_with kind n x t =
     let os = t.code.ops in
     let d = op.Done ∷ [] in
     state_eq
-      (code_eq
-        (ap (λ l. slice_set l (length os) (kind (length (((os ++ d) ++ x.ops) ++ d)))) (append_assoc (os ++ d) x.ops d)
-        ∙ (set_first os (x.ops ++ d) op.Done _
-        ∙ (ap (λ k. os ++ kind k ∷ (x.ops ++ d)) (length_two os x.ops op.Done) ∙ sym (append_assoc os (kind (other x t) ∷ x.ops) d))))
-        refl refl refl)
-      refl
+    (code_eq
+    (ap (λ l. slice_set l (length os) (kind (length (((os ++ d) ++ x.ops) ++ d)))) (append_assoc (os ++ d) x.ops d)
+    ∙ (set_first os (x.ops ++ d) op.Done _
+    ∙ (ap (λ k. os ++ kind k ∷ (x.ops ++ d)) (length_two os x.ops op.Done) ∙ sym (append_assoc os (kind (other x t) ∷ x.ops) d))))
+    refl refl refl)
+    refl
 
 same_here : (x : Code) (o : Op) (t : State) → length ((gap_added t).code.ops ++ x.ops) ≡ length (t.code.ops ++ o ∷ x.ops)
 same_here x o t = omega (arith, length_gap t.code.ops x.ops op.Done, length-append t.code.ops (o ∷ x.ops))

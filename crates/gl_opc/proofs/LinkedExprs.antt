@@ -1,17 +1,17 @@
 -- What is linked of expressions is their code, and ends at the first of their unknown names.
-use Rattle.std.proofs.Common.{◌≡◌, ◌+◌, ℕ, suc, List, [], ◌∷◌, ◌++◌, Bool, true, false, Option, Some, None, Ok, Err, map, refl, sym, ap, ◌∙◌, append-nil}
+use Rattle.std.proofs.Common.{◌≡◌, ◌+◌, ℕ, List, [], ◌∷◌, ◌++◌, Bool, true, false, Option, Some, None, Ok, refl, sym, ap, ◌∙◌, append-nil}
 use Rattle.std.proofs.Math.Nat.{zero-add, add-zero}
-use Rattle.std.specs.Prelude.{◌==◌, length, if◌then◌else◌, is_some, slice_get}
+use Rattle.std.specs.Prelude.{◌==◌, length, if◌then◌else◌, slice_get}
 use Rattle.gl_base.specs.Texts.{Text}
 use Rattle.gl_value.specs.Value as v
 use Rattle.gl_ast.specs.Template.{Plain}
 use Rattle.gl_ops.specs.declared.op.Op.TheVariants as op
 use Rattle.gl_meaning.specs.Known.{helper_kind, member_kind, modifier_kind}
 use Rattle.gl_wire.specs.Wire as w
-use Rattle.gl_opc.specs.Coding.{count_exprs, count_both, literal_code, segments_code, symbol_code, helper_code, expr_code, exprs_code, named_code, part_code, parts_code, arguments_code}
-use Rattle.gl_opc.specs.Linked.{Context, State, Step, ◌>>=◌, op_added, text_added, name_added, text_op_added, name_op_added, literal_linked, segments_linked, argument_name, symbol_added, symbol_linked, expr_linked, exprs_linked, named_linked, part_linked, parts_linked, arguments_linked}
+use Rattle.gl_opc.specs.Coding.{count_exprs, count_both, literal_code, segments_code, symbol_code, expr_code, exprs_code, named_code, part_code, parts_code, arguments_code}
+use Rattle.gl_opc.specs.Linked.{Context, State, op_added, text_added, name_added, text_op_added, name_op_added, literal_linked, segments_linked, symbol_added, symbol_linked, expr_linked, exprs_linked, named_linked, part_linked, parts_linked, arguments_linked}
 use Rattle.gl_opc.specs.Numbers.{helper_number, member_op, modifier_number}
-use Rattle.gl_opc.specs.Piece.{Piece, nothing, ◌⨾◌, op_piece, op_if, op_where, text_op, name_op}
+use Rattle.gl_opc.specs.Piece.{Piece, ◌⨾◌, op_piece, op_if, op_where, text_op, name_op}
 use Rattle.gl_opc.specs.WireFaults.{expr_unknowns, exprs_unknowns, named_unknowns, part_unknowns, parts_unknowns}
 use Rattle.gl_opc.proofs.Joins.{ended_at, behind, behind-behind, behind-nothing, added_op, added_text_op, added_name_op, added_int_op, code_eq, state_eq, join_added, join_after, join_at, join_both, join_known_at}
 

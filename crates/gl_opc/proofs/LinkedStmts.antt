@@ -1,17 +1,17 @@
 -- What is linked of statements is their code, and ends at the first of their unknown names.
-use Rattle.std.proofs.Common.{◌≡◌, ◌+◌, ℕ, suc, List, [], ◌∷◌, ◌++◌, Bool, Option, Some, None, Ok, Err, length, map, refl, sym, ap, subst, ◌∙◌, arith, append-nil}
+use Rattle.std.proofs.Common.{◌≡◌, ◌+◌, ℕ, suc, List, [], ◌∷◌, ◌++◌, Bool, Ok, Err, length, refl, sym, ap, subst, ◌∙◌, arith}
 use Rattle.gl_base.specs.Texts.{Text}
 use Rattle.gl_ops.specs.declared.op.Op.{Op}
 use Rattle.gl_ops.specs.declared.op.Op.TheVariants as op
 use Rattle.gl_meaning.specs.Known.{component_kind}
 use Rattle.gl_wire.specs.Wire as w
 use Rattle.gl_opc.specs.Coding.{count_exprs, expr_code, exprs_code, parts_code, arguments_code, item_code, params_code, bare_code, stmt_code, body_code, slots_code}
-use Rattle.gl_opc.specs.Linked.{Context, State, Step, ◌>>=◌, started, here, op_added, name_added, text_op_added, name_op_added, gap_added, skipped_over, turned, met, item_added, params_linked, bare_linked, expr_linked, exprs_linked, parts_linked, arguments_linked, stmt_linked, body_linked, slots_linked}
+use Rattle.gl_opc.specs.Linked.{Context, State, Step, ◌>>=◌, started, here, op_added, name_added, name_op_added, gap_added, skipped_over, turned, met, item_added, params_linked, bare_linked, expr_linked, exprs_linked, parts_linked, arguments_linked, stmt_linked, body_linked, slots_linked}
 use Rattle.gl_opc.specs.Numbers.{class_number}
-use Rattle.gl_opc.specs.Piece.{Piece, nothing, ◌⨾◌, op_piece, op_where, text_op, name_op, with_name, skipping, forked}
+use Rattle.gl_opc.specs.Piece.{Piece, ◌⨾◌, op_piece, op_where, text_op, name_op, with_name, skipping, forked}
 use Rattle.gl_opc.specs.Spans.{if_op}
-use Rattle.gl_opc.specs.TreeFaults.{Fault, at_stmt}
-use Rattle.gl_opc.specs.WireFaults.{count_stmt, count_body, count_slots, expr_unknowns, exprs_unknowns, named_unknowns, parts_unknowns, stmt_faults, body_faults, slots_faults}
+use Rattle.gl_opc.specs.TreeFaults.{Fault}
+use Rattle.gl_opc.specs.WireFaults.{count_stmt, count_body, count_slots, stmt_faults, body_faults, slots_faults}
 use Rattle.gl_opc.proofs.Joins.{ended, behind, behind-behind, behind-nothing, named_behind, added_op, added_text_op, added_name_op, bind_assoc, join, join_added, join_after, join_first, join_known, begins}
 use Rattle.gl_opc.proofs.Jumps.{join_skipped, join_forked}
 use Rattle.gl_opc.proofs.LinkedExprs.{linked_expr, linked_exprs, linked_parts, linked_arguments}
@@ -87,7 +87,7 @@ module _ (context : Context) where
   linked_yield es to s =
       begins _ _ 0 (of_exprs es ⨾ name_op (λ n. op.Yield (count_exprs es) n) to) s
       (join_added (exprs_linked context s.begun es (started s)) (name_op_added (λ n. op.Yield (count_exprs es) n) to) _ 0 (of_exprs es) (name_op (λ n. op.Yield (count_exprs es) n) to) (started s)
-        (linked_exprs context s.begun es (started s)) (added_name_op (λ n. op.Yield (count_exprs es) n) to _))
+      (linked_exprs context s.begun es (started s)) (added_name_op (λ n. op.Yield (count_exprs es) n) to _))
 
   linked_element : (tag : Text) (ps : List w.Part) (b : w.Body) → BodyLinks b → (s : State)
       → stmt_linked context (w.element tag ps b) s
@@ -136,7 +136,7 @@ module _ (context : Context) where
       let forks = join_forked (if_op unless) x (body_linked context c) _ _ n m (of_body b) (of_body c) t first second in
       begins _ _ (n + m) (of_stmt (w.if_stmt e unless b c)) s
       (join_first (expr_linked context s.begun e (started s)) (λ t. body_linked context b (gap_added t) >>= λ u. body_linked context c (turned (if_op unless) (here t) u) >>= λ v. Ok (op_added op.EndIf (met (here u) v)))
-        _ faults (n + m) (of_expr e) (fork ⨾ op_piece op.EndIf) (started s) (linked_expr context s.begun e (started s))
+      _ faults (n + m) (of_expr e) (fork ⨾ op_piece op.EndIf) (started s) (linked_expr context s.begun e (started s))
       (last x (λ u. body_linked context c (turned (if_op unless) (here t) u)) (λ u v. met (here u) v) (op_added op.EndIf)
       ∙ join_added _ (op_added op.EndIf) faults (n + m) fork (op_piece op.EndIf) t forks (added_op op.EndIf _)))
 
@@ -156,14 +156,14 @@ module _ (context : Context) where
       let u = behind n item (gap_added t') in
       let faults : List Fault = body_faults_at b (suc s.begun) ++ body_faults_at c (suc s.begun + n) in
       let first : x ≡ ended (body_faults_at b (suc s.begun)) u =
-        join_after inner (item_added is (gap_added t')) (body_faults_at b (suc s.begun)) n (item_code is) (of_body b ⨾ op_piece op.EndItem) (gap_added t') (added_op _ (gap_added t'))
-          (body_then b links op.EndItem (suc s.begun) (behind 0 (item_code is) (gap_added t')) (omega arith)) in
+      join_after inner (item_added is (gap_added t')) (body_faults_at b (suc s.begun)) n (item_code is) (of_body b ⨾ op_piece op.EndItem) (gap_added t') (added_op _ (gap_added t'))
+      (body_then b links op.EndItem (suc s.begun) (behind 0 (item_code is) (gap_added t')) (omega arith)) in
       let second = renumbered _ (body_faults_at c) _ (suc s.begun + n) _ (links' (turned (op.Each k) (here t') u)) (omega arith) in
       let forks = join_forked (op.Each k) x (body_linked context c) _ _ n m item (of_body c) t' first second ∙ ap (λ y. ended faults y) (named_behind key (n + m) fork t) in
       begins _ _ (n + m) (of_stmt (w.each e key is b c)) s
       (join_first (expr_linked context s.begun e (started s))
-        (λ t. inner (item_added is (gap_added (name_added key t))) >>= λ u. body_linked context c (turned (op.Each (length t.code.names)) (here t) u) >>= λ v. Ok (op_added op.EndEach (met (here u) v)))
-        _ faults (n + m) (of_expr e) (with_name key fork ⨾ op_piece op.EndEach) (started s) (linked_expr context s.begun e (started s))
+      (λ t. inner (item_added is (gap_added (name_added key t))) >>= λ u. body_linked context c (turned (op.Each (length t.code.names)) (here t) u) >>= λ v. Ok (op_added op.EndEach (met (here u) v)))
+      _ faults (n + m) (of_expr e) (with_name key fork ⨾ op_piece op.EndEach) (started s) (linked_expr context s.begun e (started s))
       (last x (λ u. body_linked context c (turned (op.Each k) (here t') u)) (λ u v. met (here u) v) (op_added op.EndEach)
       ∙ join_added _ (op_added op.EndEach) faults (n + m) (with_name key fork) (op_piece op.EndEach) t forks (added_op op.EndEach _)))
 
@@ -183,19 +183,19 @@ module _ (context : Context) where
       let after_given : State → Step State = λ t. parts_linked context i ps t >>= after_parts in
       let after_class : State → Step State = λ t. arguments_linked context i given t >>= after_given in
       let invokes : (t : State) → invoked t ≡ behind 0 end t =
-        λ t. ap (op_added op.Invoke) (linked_bare ss t) ∙ (added_op op.Invoke _ ∙ behind-behind 0 0 (bare_code ss) (op_piece op.Invoke) t) in
+      λ t. ap (op_added op.Invoke) (linked_bare ss t) ∙ (added_op op.Invoke _ ∙ behind-behind 0 0 (bare_code ss) (op_piece op.Invoke) t) in
       let slots_then : (t : State) → t.begun ≡ suc i → after_parts t ≡ ended (slots_faults_at ss (suc i)) (behind m (of_slots ss ⨾ end) t) =
-        λ t h. renumbered (after_parts t) (slots_faults_at ss) t.begun (suc i) _ (join_added (slots_linked context ss t) invoked _ m (of_slots ss) end t (links t) (invokes _)) h in
+      λ t h. renumbered (after_parts t) (slots_faults_at ss) t.begun (suc i) _ (join_added (slots_linked context ss t) invoked _ m (of_slots ss) end t (links t) (invokes _)) h in
       let rest : Piece = of_arguments given ⨾ (of_parts ps ⨾ (of_slots ss ⨾ end)) in
       begins _ _ m (of_stmt (w.component_stmt n ps given ss)) s
       (join_known (λ q. op_where op.Comp q ⨾ rest) (class_number context.manifest n) i component_kind n (λ q. after_class (op_added (op.Comp q) (started s))) _ m (started s)
-        (λ q.
-          let s0 = behind 0 (op_piece (op.Comp q)) (started s) in
-          let s1 = behind 0 (of_arguments given) s0 in
-          let s2 = behind 0 (of_parts ps) s1 in
-          join_after after_class (op_added (op.Comp q) (started s)) _ m (op_piece (op.Comp q)) rest (started s) (added_op (op.Comp q) (started s))
-          (join_first (arguments_linked context i given s0) after_given _ _ m (of_arguments given) (of_parts ps ⨾ (of_slots ss ⨾ end)) s0 (linked_arguments context i given s0)
-          (join_first (parts_linked context i ps s1) after_parts _ _ m (of_parts ps) (of_slots ss ⨾ end) s1 (linked_parts context i ps s1) (slots_then s2 (omega arith))))))
+      (λ q.
+      let s0 = behind 0 (op_piece (op.Comp q)) (started s) in
+      let s1 = behind 0 (of_arguments given) s0 in
+      let s2 = behind 0 (of_parts ps) s1 in
+      join_after after_class (op_added (op.Comp q) (started s)) _ m (op_piece (op.Comp q)) rest (started s) (added_op (op.Comp q) (started s))
+      (join_first (arguments_linked context i given s0) after_given _ _ m (of_arguments given) (of_parts ps ⨾ (of_slots ss ⨾ end)) s0 (linked_arguments context i given s0)
+      (join_first (parts_linked context i ps s1) after_parts _ _ m (of_parts ps) (of_slots ss ⨾ end) s1 (linked_parts context i ps s1) (slots_then s2 (omega arith))))))
 
   -- a block, with the word that leads behind it
   abbrev of_block : Text → List ℕ → w.Body → Piece
@@ -212,7 +212,7 @@ module _ (context : Context) where
       let inner : State → Step State = λ y. body_linked context b y >>= λ z. Ok (op_added op.EndBlock z) in
       let x = inner (params_linked op.Param is (gap_added t)) in
       let within = join_after inner (params_linked op.Param is (gap_added t)) _ m (params_code op.Param is) (of_body b ⨾ op_piece op.EndBlock) (gap_added t) (linked_params op.Param is (gap_added t))
-          (body_then b links op.EndBlock s.begun (behind 0 (params_code op.Param is) (gap_added t)) (omega arith)) in
+      (body_then b links op.EndBlock s.begun (behind 0 (params_code op.Param is) (gap_added t)) (omega arith)) in
       sym (bind_assoc (body_linked context b (params_linked op.Param is (gap_added t))) (λ z. Ok (op_added op.EndBlock z)) (λ y. Ok (skipped_over kind (here t) y)))
       ∙ (join_skipped kind x (body_faults_at b s.begun) m inside t within
       ∙ ap (λ y. ended (body_faults_at b s.begun) y) (named_behind name m (λ n. skipping (op.Block n) inside) s))

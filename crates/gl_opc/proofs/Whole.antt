@@ -1,8 +1,7 @@
 -- What is linked of a whole template, and of a whole expression.
-use Rattle.std.proofs.Common.{◌≡◌, ◌+◌, ℕ, suc, List, [], ◌∷◌, ◌++◌, Option, Some, None, Ok, Err, length, map, refl, sym, ap, subst, ◌∙◌}
+use Rattle.std.proofs.Common.{◌≡◌, ℕ, List, [], ◌∷◌, Option, Some, Ok, Err, map, refl, sym, ap, subst, ◌∙◌}
 use Rattle.std.specs.Prelude.{Result, IfErr, IsErrAnd}
 use Rattle.gl_meaning.specs.Known.{Unknown, first_of}
-use Rattle.gl_meaning.specs.View.{kind_view}
 use Rattle.gl_ops.specs.declared.op.Op.TheVariants.{Done}
 use Rattle.gl_ops.specs.Words.{decoded}
 use Rattle.gl_wire.specs.Wire as w

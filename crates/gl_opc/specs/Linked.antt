@@ -1,5 +1,5 @@
 -- Linking step by step: each step adds to what is linked, or ends at the first name that is not known.
-use Rattle.std.specs.Prelude.{◌==◌, ◌≡◌, ℕ, suc, ◌+◌, ℤ, List, [], ◌∷◌, ◌++◌, Option, Some, None, Result, Ok, Err, if◌then◌else◌, length, slice_get, slice_set}
+use Rattle.std.specs.Prelude.{◌==◌, ◌≡◌, ℕ, suc, ℤ, List, [], ◌∷◌, ◌++◌, Option, Some, None, Result, Ok, Err, if◌then◌else◌, length, slice_get, slice_set}
 use Rattle.gl_base.specs.Texts.{Text}
 use Rattle.gl_value.specs.Value as v
 use Rattle.gl_ast.specs.Template.{Plain}

@@ -19,14 +19,14 @@ returns-clause-lowers c =
     let k = class_view c.args.class.now in
     let r = c.body_program.result in
     let body = ap body_of c.body.ensures in
-    lowers_all m k r (wire_view c.args.wire.now)
-      (subst (λ b. IfOk r (λ p. IsProgramOf (program_view p) (template_code m k c.args.wire.now.symbols b start))) body
-        (subst (λ ns. IfOk r (λ p. IsProgramOf (program_view p) (template_code m k ns (body_of c.body.result.now) start))) c.symbols-symbols.ensures c.body_program.ensures.made))
-      (subst (λ b. IfOk r (λ p. body_faults m k 0 b ≡ [])) body c.body_program.ensures.known)
+    lowers_all m k (wire_view c.args.wire.now) r
+    (subst (λ b. IfOk r (λ p. IsProgramOf (program_view p) (template_code m k c.args.wire.now.symbols b start))) body
+    (subst (λ ns. IfOk r (λ p. IsProgramOf (program_view p) (template_code m k ns (body_of c.body.result.now) start))) c.symbols-symbols.ensures c.body_program.ensures.made))
+    (subst (λ b. IfOk r (λ p. body_faults m k 0 b ≡ [])) body c.body_program.ensures.known)
 
 pub returns-clause-unknown : goal.returns-clause-unknown
 returns-clause-unknown c =
     let m = manifest_view c.args.manifest.now in
     let k = class_view c.args.class.now in
     let r = c.body_program.result in
-    first_all m k r (wire_view c.args.wire.now) (subst (λ b. IfErr r (λ e. IsFirst e (first_of (body_faults m k 0 b)))) (ap body_of c.body.ensures) c.body_program.ensures.unknown)
+    first_all m k (wire_view c.args.wire.now) r (subst (λ b. IfErr r (λ e. IsFirst e (first_of (body_faults m k 0 b)))) (ap body_of c.body.ensures) c.body_program.ensures.unknown)

@@ -5,9 +5,9 @@ use Rattle.gl_opc.proofs.linking.link_expression.Goals as goal
 
 pub returns-clause-lowers : goal.returns-clause-lowers
 returns-clause-lowers c =
-    lowers_each (manifest_view c.args.manifest.now) (class_view c.args.class.now) c.expression_program.result (expr_wire_view c.args.wire.now)
-      c.expression_program.ensures.made c.expression_program.ensures.known
+    lowers_each (manifest_view c.args.manifest.now) (class_view c.args.class.now) (expr_wire_view c.args.wire.now) c.expression_program.result
+    c.expression_program.ensures.made c.expression_program.ensures.known
 
 pub returns-clause-unknown : goal.returns-clause-unknown
 returns-clause-unknown c =
-    first_each (manifest_view c.args.manifest.now) (class_view c.args.class.now) c.expression_program.result (expr_wire_view c.args.wire.now) c.expression_program.ensures.unknown
+    first_each (manifest_view c.args.manifest.now) (class_view c.args.class.now) (expr_wire_view c.args.wire.now) c.expression_program.result c.expression_program.ensures.unknown
