@@ -17,6 +17,8 @@ mod linking;
 mod program;
 mod program_list;
 mod programs;
+#[cfg(test)]
+mod tests;
 mod words;
 
 pub use class_program::ClassProgram;
