@@ -1,8 +1,10 @@
 -- The faults of files.
-use Rattle.std.proofs.Common.{◌≡◌, ℕ, List, [], ◌∷◌, Result, Ok, Err, inl, inr, refl}
+use Rattle.std.proofs.Common.{◌≡◌, ℕ, List, [], ◌∷◌, ◌++◌, Result, Ok, Err, inl, inr, refl, sym, ap, ◌∙◌}
+use Rattle.std.specs.Prelude.{⊤}
 use Rattle.gl_base.specs.Texts.{Text}
 use Rattle.gl_load.specs.Refusal.{Cause, Refusal, ◌>>=◌, in_file}
 use Rattle.gl_load.specs.Loads.{Stops, StopsIn, IsFaultIn, HasCause, IsAmong, FailsAmong}
+use Rattle.gl_load.specs.Names.{Knows, IsTold}
 use Rattle.gl_load.specs.declared.fault.LoadCause.{LoadCause}
 use Rattle.gl_load.specs.declared.fault.LoadCause.TheVariants as v
 use Rattle.gl_load.specs.declared.fault.LoadFault.{LoadFault}
@@ -73,3 +75,43 @@ among_more (v.GetterCycle class getter) name ns ms more h = tt
 among_more (v.UnknownField index field) name ns ms more h = tt
 among_more v.ReadFault name ns ms more h = more name h
 among_more v.Memory name ns ms more h = tt
+
+-- a reading that gave nothing but that it may go on
+pub passes : {X E : Type 0} (r : Result ⊤ E) (s t : Result X E) → r ≡ Ok tt → (r >>= λ u. s) ≡ t → s ≡ t
+passes r s t e h = sym (ap (λ q. q >>= λ u. s) e) ∙ h
+
+pub knows_then : {X Y : Type 0} (cause : LoadCause) (out rest : Result ⊤ Cause) → (let r : Result X LoadCause = Err cause in Knows r out) → (let r : Result Y LoadCause = Err cause in Knows r (out >>= λ u. rest))
+knows_then (v.UnknownName kind name) out rest h = rw h refl
+knows_then v.Memory out rest h = tt
+knows_then v.Absent out rest h = absurd h
+knows_then (v.TooLong taken) out rest h = absurd h
+knows_then v.BadJson out rest h = absurd h
+knows_then (v.BadShape pointer) out rest h = absurd h
+knows_then (v.BadExpression pointer) out rest h = absurd h
+knows_then (v.NotInGrammar offset) out rest h = absurd h
+knows_then (v.GetterCycle class getter) out rest h = absurd h
+knows_then (v.UnknownField index field) out rest h = absurd h
+knows_then v.ReadFault out rest h = absurd h
+
+pub told_then : (cause : LoadCause) (file : Text) (out rest : Result ⊤ Refusal) → IsTold cause file out → IsTold cause file (out >>= λ u. rest)
+told_then (v.UnknownName kind name) file out rest h = rw h refl
+told_then v.Memory file out rest h = tt
+told_then v.Absent file out rest h = absurd h
+told_then (v.TooLong taken) file out rest h = absurd h
+told_then v.BadJson file out rest h = absurd h
+told_then (v.BadShape pointer) file out rest h = absurd h
+told_then (v.BadExpression pointer) file out rest h = absurd h
+told_then (v.NotInGrammar offset) file out rest h = absurd h
+told_then (v.GetterCycle class getter) file out rest h = absurd h
+told_then (v.UnknownField index field) file out rest h = absurd h
+told_then v.ReadFault file out rest h = absurd h
+
+-- among the files that are fetched
+pub in_front : (n : Text) (ns ms : List Text) → IsAmong n ns → IsAmong n (ns ++ ms)
+in_front n [] ms h = absurd h
+in_front n (x ∷ ns) ms (inl e) = inl e
+in_front n (x ∷ ns) ms (inr h) = inr (in_front n ns ms h)
+
+pub behind : (n : Text) (ns ms : List Text) → IsAmong n ms → IsAmong n (ns ++ ms)
+behind n [] ms h = h
+behind n (x ∷ ns) ms h = inr (behind n ns ms h)

@@ -11,9 +11,9 @@ use Rattle.json.specs.Token as t
 use Rattle.json.specs.Lex.{tokens}
 use Rattle.json.specs.Json as j
 use Rattle.serde_json.specs.Data as d
-use Rattle.serde_json.specs.Find.{get_member}
+use Rattle.serde_json.specs.Find.{get, get_member}
 use Rattle.serde_json.specs.Read.{number_of, of_json, of_items, of_members, max_depth, read}
-use Rattle.gl_meaning.specs.JsonText.{read_json, members_at, items_at, text_in, text_at}
+use Rattle.gl_meaning.specs.JsonText.{read_json, members_in, items_in, members_at, items_at, text_in, text_at}
 use Rattle.gl_meaning.specs.ManifestRules.{Each}
 use Rattle.gl_load.proofs.JsonTokens.{IsTextToken, tokens_text}
 
@@ -141,16 +141,16 @@ abbrev mutual
   HaveTextData d.no_members = Unit {0}
   HaveTextData (d.member k x ms) = IsTextData x × HaveTextData ms
 
+by_order : (a b c : d.Members) (o : Ordering) → HaveTextData a → HaveTextData b → HaveTextData c → HaveTextData (match_ordering o a b c)
+by_order a b c Less p q r = p
+by_order a b c Equal p q r = q
+by_order a b c Greater p q r = r
+
 put_text : (k : List ℕ) (x : d.Data) (ms : d.Members) → IsTextData x → HaveTextData ms → HaveTextData (d.put k x ms)
 put_text k x d.no_members h g = (h, tt)
-put_text k x (d.member l e ms) h g = by_order (slice_cmp nat_cmp k l) (h, g) (h, g.1) (g.0, put_text k x ms h g.1)
-  where
-    by_order : {a b c : d.Members} (o : Ordering) → HaveTextData a → HaveTextData b → HaveTextData c → HaveTextData (match_ordering o a b c)
-    by_order Less p q r = p
-    by_order Equal p q r = q
-    by_order Greater p q r = r
+put_text k x (d.member l e ms) h g = by_order _ _ _ (slice_cmp nat_cmp k l) (h, g) (h, g.1) (g.0, put_text k x ms h g.1)
 
-abbrev Gives : {A : Type 0} → (A → Type 0) → Option A → Type 0
+abbrev pub Gives : {A : Type 0} → (A → Type 0) → Option A → Type 0
 Gives P None = Unit {0}
 Gives P (Some x) = P x
 
@@ -209,11 +209,58 @@ json_text bytes x e = if_text (is_utf8 bytes) (read bytes) x (λ u. read_text by
 
 -- Looking into it
 
+found_text : (a b : Option d.Data) (o : Ordering) → Gives IsTextData a → Gives IsTextData b → Gives IsTextData (match_ordering o a b a)
+found_text a b Less p q = p
+found_text a b Equal p q = q
+found_text a b Greater p q = p
+
 member_text : (k : List ℕ) (ms : d.Members) → HaveTextData ms → Gives IsTextData (get_member k ms)
 member_text k d.no_members h = tt
-member_text k (d.member l e ms) h = by_order (slice_cmp nat_cmp k l) (get_member k ms) (Some e) (member_text k ms h.1) h.0
-  where
-    by_order : (o : Ordering) (a b : Option d.Data) → Gives IsTextData a → Gives IsTextData b → Gives IsTextData (match_ordering o a b a)
-    by_order Less a b p q = p
-    by_order Equal a b p q = q
-    by_order Greater a b p q = p
+member_text k (d.member l e ms) h = found_text (get_member k ms) (Some e) (slice_cmp nat_cmp k l) (member_text k ms h.1) h.0
+
+get_text : (k : List ℕ) (x : d.Data) → IsTextData x → Gives IsTextData (get k x)
+get_text k d.null h = tt
+get_text k (d.boolean b) h = tt
+get_text k (d.number n) h = tt
+get_text k (d.string s) h = tt
+get_text k (d.array ds) h = tt
+get_text k (d.object ms) h = member_text k ms h
+
+text_is : (x : d.Data) → IsTextData x → IsUtf8 (text_in (Some x))
+text_is d.null h = IsUtf8-nil
+text_is (d.boolean b) h = IsUtf8-nil
+text_is (d.number n) h = IsUtf8-nil
+text_is (d.string s) h = h
+text_is (d.array ds) h = IsUtf8-nil
+text_is (d.object ms) h = IsUtf8-nil
+
+pub text_in_text : (o : Option d.Data) → Gives IsTextData o → IsUtf8 (text_in o)
+text_in_text None g = IsUtf8-nil
+text_in_text (Some x) g = text_is x g
+
+members_are : (o : Option d.Data) → Gives IsTextData o → HaveTextData (members_in o)
+members_are None g = tt
+members_are (Some d.null) g = tt
+members_are (Some (d.boolean b)) g = tt
+members_are (Some (d.number n)) g = tt
+members_are (Some (d.string s)) g = tt
+members_are (Some (d.array ds)) g = tt
+members_are (Some (d.object ms)) g = g
+
+items_are : (o : Option d.Data) → Gives IsTextData o → AreTextData (items_in o)
+items_are None g = tt
+items_are (Some d.null) g = tt
+items_are (Some (d.boolean b)) g = tt
+items_are (Some (d.number n)) g = tt
+items_are (Some (d.string s)) g = tt
+items_are (Some (d.array ds)) g = g
+items_are (Some (d.object ms)) g = tt
+
+pub text_at_text : (k : List ℕ) (x : d.Data) → IsTextData x → IsUtf8 (text_at k x)
+text_at_text k x h = text_in_text (get k x) (get_text k x h)
+
+pub members_at_text : (k : List ℕ) (x : d.Data) → IsTextData x → HaveTextData (members_at k x)
+members_at_text k x h = members_are (get k x) (get_text k x h)
+
+pub items_at_text : (k : List ℕ) (x : d.Data) → IsTextData x → AreTextData (items_at k x)
+items_at_text k x h = items_are (get k x) (get_text k x h)

@@ -1,10 +1,12 @@
 -- The keys and strings of JSON that is read from UTF-8 are UTF-8: tokens.
-use Rattle.std.proofs.Common.{◌≡◌, ◌<◌, ℕ, List, [], ◌∷◌, ◌++◌, Bool, true, false, cond, ◌==◌, Option, Some, None, refl, sym, ap, ◌∙◌, subst, arith, append_assoc}
+use Rattle.std.proofs.Common.{◌≡◌, ◌<◌, ℕ, ◌-◌, List, [], ◌∷◌, ◌++◌, Bool, true, false, cond, ◌==◌, ◌&&◌, length, take, drop, nat_eq, Option, Some, None, refl, sym, ap, ◌∙◌, subst, arith, append_assoc}
 use Rattle.std.specs.Str.{IsUtf8}
 use Rattle.std.proofs.lemmas.Bool.Decides.{nat_tests}
 use Rattle.json.specs.Token.{Token, begin_object, end_object, begin_array, end_array, key, string, number, boolean, null, bad}
 use Rattle.json.specs.Text.{content, plain}
-use Rattle.json.specs.Word.{number_before, literal, word}
+use Rattle.json.specs.Ascii as ascii
+use Rattle.json.specs.Word.{head, ends_word, after_number, number_before, literal, word}
+use Rattle.std.specs.List.{starts_with}
 use Rattle.json.specs.Lex.{Lexeme, token, comma, colon, Class, quote, backslash, operator, space, other, class, operator_lexeme, string_token, Mode, between, in_word, in_string, in_escape, lex_byte, lex, Place, fresh, after_value, after_comma, after_key, begins_colon, if_allowed, place_token, punctuate, tokens}
 use Rattle.gl_meaning.specs.ManifestRules.{Each}
 use Rattle.gl_load.proofs.JsonContent.{beside_ascii, string_text}
@@ -23,9 +25,19 @@ if_lexeme : (b : Bool) (x y : Lexeme) → IsTextLexeme x → IsTextLexeme y → 
 if_lexeme true x y p q = p
 if_lexeme false x y p q = q
 
+abbrev last_operator : ℕ → Lexeme
+last_operator x = cond (x == 44) comma colon
+
+abbrev array_operator : ℕ → Lexeme
+array_operator x = cond (x == 91) (token begin_array) (cond (x == 93) (token end_array) (last_operator x))
+
 operator_text : (x : ℕ) → IsTextLexeme (operator_lexeme x)
 operator_text x =
-    if_lexeme _ _ _ tt (if_lexeme _ _ _ tt (if_lexeme _ _ _ tt (if_lexeme _ _ _ tt (if_lexeme _ comma colon tt tt))))
+    if_lexeme (x == 123) (token begin_object) (cond (x == 125) (token end_object) (array_operator x)) tt
+    (if_lexeme (x == 125) (token end_object) (array_operator x) tt
+    (if_lexeme (x == 91) (token begin_array) (cond (x == 93) (token end_array) (last_operator x)) tt
+    (if_lexeme (x == 93) (token end_array) (last_operator x) tt
+    (if_lexeme (x == 44) comma colon tt tt))))
 
 if_token : (b : Bool) (x y : Token) → IsTextToken x → IsTextToken y → IsTextToken (cond b x y)
 if_token true x y p q = p
@@ -33,12 +45,24 @@ if_token false x y p q = q
 
 number_text : (t : List ℕ) (o : Option (List ℕ)) → IsTextToken (number_before t o)
 number_text t None = tt
-number_text t (Some rest) = if_token _ (number _) bad tt tt
+number_text t (Some rest) = if_token (ends_word rest) (number (take (length t - length rest) t)) bad tt tt
+
+literal_text : (name : List ℕ) (k : Token) (t : List ℕ) → IsTextToken k → IsTextToken (literal name k t)
+literal_text name k t h = if_token (starts_with nat_eq t name && ends_word (drop (length name) t)) k bad h tt
+
+abbrev null_word : List ℕ → Token
+null_word t = cond (head t == ascii.lower_n) (literal ascii.null_text null t) (number_before t (after_number t))
+
+abbrev false_word : List ℕ → Token
+false_word t = cond (head t == ascii.lower_f) (literal ascii.false_text (boolean false) t) (null_word t)
 
 word_text : (t : List ℕ) → IsTextToken (word t)
 unfolding word
 word_text t =
-    if_token _ _ _ (if_token _ (boolean true) bad tt tt) (if_token _ _ _ (if_token _ (boolean false) bad tt tt) (if_token _ _ _ (if_token _ null bad tt tt) (number_text t _)))
+    if_token (head t == ascii.lower_t) (literal ascii.true_text (boolean true) t) (false_word t) (literal_text ascii.true_text (boolean true) t tt)
+    (if_token (head t == ascii.lower_f) (literal ascii.false_text (boolean false) t) (null_word t) (literal_text ascii.false_text (boolean false) t tt)
+    (if_token (head t == ascii.lower_n) (literal ascii.null_text null t) (number_before t (after_number t)) (literal_text ascii.null_text null t tt)
+    (number_text t (after_number t))))
 
 string_token_text : (o : Option (List ℕ)) → ((s : List ℕ) → o ≡ Some s → IsUtf8 s) → IsTextToken (string_token o)
 string_token_text None h = tt

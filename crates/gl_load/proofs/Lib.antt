@@ -5,6 +5,7 @@ pub mod JsonContent
 pub mod JsonTexts
 pub mod JsonTokens
 pub mod Linked
+pub mod ManifestSpelled
 pub mod Spelled
 pub mod Trees
 pub mod Unknowns

@@ -6,9 +6,12 @@ use Rattle.gl_meaning.specs.Known.{Unknown, first_of}
 use Rattle.gl_meaning.specs.Manifest.{ClassEntry, Manifest, app_of, class_of}
 use Rattle.gl_meaning.specs.View.{kind_view}
 use Rattle.gl_meaning.specs.declared.kind.Kind.{Kind}
+use Rattle.gl_opc.specs.Links.{IsFirst}
 use Rattle.gl_opc.specs.Lowers.{Lowers, LowersExpr}
 use Rattle.gl_opc.specs.Program.{Program}
 use Rattle.gl_opc.specs.TreeFaults.{Fault, at_stmt, first_fault, first_expr_fault, template_faults, expr_faults}
+use Rattle.gl_opc.specs.declared.fault.LinkFault.{LinkFault}
+use Rattle.gl_opc.specs.declared.fault.LinkFault.TheVariants as v
 use Rattle.gl_opc.proofs.Known as opc
 use Rattle.gl_opc.proofs.TreeFaults.{unknowns_of, body_faults-unknowns}
 use Rattle.gl_load.specs.Names.{known, expr_known, template_known}
@@ -29,12 +32,15 @@ pub template_lowered : (p : Program) (b : Body) (m : Manifest) (c : ClassEntry) 
 template_lowered p b m c h =
     faults_known (template_faults m c b) _ (body_faults-unknowns (app_of m []) (class_of c end) [] 0 b) (opc.template_known p b m c h)
 
-pub template_refused : (m : Manifest) (c : ClassEntry) (b : Body) (f : Fault) → first_fault m c b ≡ Some f → template_known m c b ≡ Err (unknown_name f.unknown.kind f.unknown.name)
-template_refused m c b f e =
-    ap known (sym (body_faults-unknowns (app_of m []) (class_of c end) [] 0 b)) ∙ first_of_faults (template_faults m c b) f e
+pub template_refused : (m : Manifest) (c : ClassEntry) (b : Body) (f : LinkFault) (k : Kind) (n : Text) (i : ℕ) → f ≡ v.UnknownName k n i → IsFirst f (first_fault m c b) → template_known m c b ≡ Err (unknown_name (kind_view k) n)
+template_refused m c b f k n i is h =
+    let e : IsFirst (v.UnknownName k n i) (first_fault m c b) = rw is at h in
+    ap known (sym (body_faults-unknowns (app_of m []) (class_of c end) [] 0 b)) ∙ first_of_faults (template_faults m c b) _ e
 
 pub expr_lowered : (p : Program) (e : Expr) (params : List Text) (m : Manifest) (c : ClassEntry) → LowersExpr p e params m c → expr_known m c params e ≡ Ok tt
 expr_lowered p e params m c h = faults_known (expr_faults m c params e) _ (unknowns_at 0 _) (opc.expression_known p e params m c h)
 
-pub expr_refused : (m : Manifest) (c : ClassEntry) (params : List Text) (e : Expr) (f : Fault) → first_expr_fault m c params e ≡ Some f → expr_known m c params e ≡ Err (unknown_name f.unknown.kind f.unknown.name)
-expr_refused m c params e f is = ap known (sym (unknowns_at 0 _)) ∙ first_of_faults (expr_faults m c params e) f is
+pub expr_refused : (m : Manifest) (c : ClassEntry) (params : List Text) (e : Expr) (f : LinkFault) (k : Kind) (n : Text) (i : ℕ) → f ≡ v.UnknownName k n i → IsFirst f (first_expr_fault m c params e) → expr_known m c params e ≡ Err (unknown_name (kind_view k) n)
+expr_refused m c params e f k n i is h =
+    let first : IsFirst (v.UnknownName k n i) (first_expr_fault m c params e) = rw is at h in
+    ap known (sym (unknowns_at 0 _)) ∙ first_of_faults (expr_faults m c params e) _ first

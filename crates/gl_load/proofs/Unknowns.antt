@@ -1,15 +1,16 @@
 -- Which names are unknown: the order in which loading looks for them, and that templates play no part in it.
 use Rattle.std.proofs.Common.{◌≡◌, ℕ, List, [], ◌∷◌, ◌++◌, Bool, true, false, ◌||◌, cond, if◌then◌else◌, Option, Some, None, Result, Ok, Err, map, is_some, refl, sym, ap, ap₂, ◌∙◌}
-use Rattle.std.specs.Prelude.{⊤, flat_map}
+use Rattle.std.specs.Prelude.{⊤, flat_map, IfOk}
 use Rattle.std.specs.Str.{bytes_eq}
 use Rattle.gl_base.specs.Texts.{Text}
 use Rattle.gl_ast.specs.Template.{Expr, Exprs, no_exprs, expr, Stmt, text_stmt, comment_stmt, put, element, component_stmt, if_stmt, each, let_stmt, yield, Body, end, stmt, Slots, no_slots, block}
 use Rattle.gl_meaning.specs.App.{Step, set_step, call_step, Action}
-use Rattle.gl_meaning.specs.Known.{Unknown, Place, component_kind, unless_known, has_class, expr_unknowns, exprs_unknowns, value_unknowns, part_unknowns, stmt_unknowns, body_unknowns, slots_unknowns, when_unknowns, step_unknowns, manifest_unknowns, in_manifest, in_template, class_unknowns, unknowns, first_of, first_unknown}
+use Rattle.gl_meaning.specs.Known.{Unknown, Place, component_kind, unless_known, has_class, expr_unknowns, exprs_unknowns, value_unknowns, part_unknowns, stmt_unknowns, body_unknowns, slots_unknowns, when_unknowns, step_unknowns, manifest_unknowns, in_manifest, in_template, class_unknowns, unknowns, first_of, first_unknown, Known}
 use Rattle.gl_meaning.specs.Manifest.{ClassEntry, Manifest, app_of, class_of, classes_of}
 use Rattle.gl_load.specs.Load.{all_known, class_named}
-use Rattle.gl_load.specs.Names.{known, each_known, expr_known, exprs_known, when_known, field_known, step_known, action_known, getters_known, actions_known, entry_known, template_known, class_known, classes_known, root_known, names_known}
+use Rattle.gl_load.specs.Names.{known, each_known, expr_known, exprs_known, when_known, field_known, step_known, action_known, getters_known, actions_known, entry_known, template_known, class_known, classes_known, root_known, names_known, KnowsIn}
 use Rattle.gl_load.specs.Refusal.{Cause, Refusal, ◌>>=◌, in_file}
+use Rattle.gl_load.specs.declared.fault.LoadFault.{LoadFault}
 
 -- The list of unknown names, read in turn
 
@@ -129,3 +130,15 @@ first_told name m trees =
 pub none_unknown : (name : Text) (ps : List Place) → all_known name (first_of ps) ≡ Ok tt → ps ≡ []
 none_unknown name [] e = refl
 none_unknown name (p ∷ ps) e = let r : ⊥ = cc in absurd r
+
+-- where a call found none, there is none
+pub known_if : {X : Type 0} (name : Text) (ps : List Place) (r : Result X LoadFault) → KnowsIn r (all_known name (first_of ps)) → IfOk r (λ x. ps ≡ [])
+known_if name ps (Ok x) h = none_unknown name ps h
+known_if name ps (Err f) h = tt
+
+-- the root of an application whose names are known is a class
+pub root_there : (m : Manifest) (trees : List Body) → Known (app_of m trees) → class_named m.root m.classes ≡ None → ⊥
+root_there m trees h none =
+    let told = sym (ap (λ ps. all_known [] (first_of ps)) h) ∙ first_told [] m trees in
+    let never = rw none at told in
+    cc

@@ -82,6 +82,7 @@ impl Templates {
     pub fn spelled(&self)
         ensures { ∥ Each IsTemplate self.now ∥₁ }
     {
+        let _ = &self.list;
     }
 
     /// The template that is alone in the list. It takes no memory.
