@@ -4,7 +4,7 @@ use Rattle.std.specs.Prelude.{⊤}
 use Rattle.gl_base.specs.Texts.{Text}
 use Rattle.gl_load.specs.Refusal.{Cause, Refusal, ◌>>=◌, in_file}
 use Rattle.gl_load.specs.Loads.{Stops, StopsIn, IsFaultIn, HasCause, IsAmong, FailsAmong}
-use Rattle.gl_load.specs.Names.{Knows, IsTold}
+use Rattle.gl_load.specs.Names.{IsTold, IsToldIn}
 use Rattle.gl_load.specs.declared.fault.LoadCause.{LoadCause}
 use Rattle.gl_load.specs.declared.fault.LoadCause.TheVariants as v
 use Rattle.gl_load.specs.declared.fault.LoadFault.{LoadFault}
@@ -80,31 +80,32 @@ among_more v.Memory name ns ms more h = tt
 pub passes : {X E : Type 0} (r : Result ⊤ E) (s t : Result X E) → r ≡ Ok tt → (r >>= λ u. s) ≡ t → s ≡ t
 passes r s t e h = sym (ap (λ q. q >>= λ u. s) e) ∙ h
 
-pub knows_then : {X Y : Type 0} (cause : LoadCause) (out rest : Result ⊤ Cause) → (let r : Result X LoadCause = Err cause in Knows r out) → (let r : Result Y LoadCause = Err cause in Knows r (out >>= λ u. rest))
-knows_then (v.UnknownName kind name) out rest h = rw h refl
-knows_then v.Memory out rest h = tt
-knows_then v.Absent out rest h = absurd h
-knows_then (v.TooLong taken) out rest h = absurd h
-knows_then v.BadJson out rest h = absurd h
-knows_then (v.BadShape pointer) out rest h = absurd h
-knows_then (v.BadExpression pointer) out rest h = absurd h
-knows_then (v.NotInGrammar offset) out rest h = absurd h
-knows_then (v.GetterCycle class getter) out rest h = absurd h
-knows_then (v.UnknownField index field) out rest h = absurd h
-knows_then v.ReadFault out rest h = absurd h
+-- what is told is told of what goes on too
+pub stays_told : (cause : LoadCause) (out rest : Result ⊤ Cause) → IsTold cause out → IsTold cause (out >>= λ u. rest)
+stays_told (v.UnknownName kind name) out rest h = rw h refl
+stays_told v.Memory out rest h = tt
+stays_told v.Absent out rest h = absurd h
+stays_told (v.TooLong taken) out rest h = absurd h
+stays_told v.BadJson out rest h = absurd h
+stays_told (v.BadShape pointer) out rest h = absurd h
+stays_told (v.BadExpression pointer) out rest h = absurd h
+stays_told (v.NotInGrammar offset) out rest h = absurd h
+stays_told (v.GetterCycle class getter) out rest h = absurd h
+stays_told (v.UnknownField index field) out rest h = absurd h
+stays_told v.ReadFault out rest h = absurd h
 
-pub told_then : (cause : LoadCause) (file : Text) (out rest : Result ⊤ Refusal) → IsTold cause file out → IsTold cause file (out >>= λ u. rest)
-told_then (v.UnknownName kind name) file out rest h = rw h refl
-told_then v.Memory file out rest h = tt
-told_then v.Absent file out rest h = absurd h
-told_then (v.TooLong taken) file out rest h = absurd h
-told_then v.BadJson file out rest h = absurd h
-told_then (v.BadShape pointer) file out rest h = absurd h
-told_then (v.BadExpression pointer) file out rest h = absurd h
-told_then (v.NotInGrammar offset) file out rest h = absurd h
-told_then (v.GetterCycle class getter) file out rest h = absurd h
-told_then (v.UnknownField index field) file out rest h = absurd h
-told_then v.ReadFault file out rest h = absurd h
+pub stays_told_in : (cause : LoadCause) (file : Text) (out rest : Result ⊤ Refusal) → IsToldIn cause file out → IsToldIn cause file (out >>= λ u. rest)
+stays_told_in (v.UnknownName kind name) file out rest h = rw h refl
+stays_told_in v.Memory file out rest h = tt
+stays_told_in v.Absent file out rest h = absurd h
+stays_told_in (v.TooLong taken) file out rest h = absurd h
+stays_told_in v.BadJson file out rest h = absurd h
+stays_told_in (v.BadShape pointer) file out rest h = absurd h
+stays_told_in (v.BadExpression pointer) file out rest h = absurd h
+stays_told_in (v.NotInGrammar offset) file out rest h = absurd h
+stays_told_in (v.GetterCycle class getter) file out rest h = absurd h
+stays_told_in (v.UnknownField index field) file out rest h = absurd h
+stays_told_in v.ReadFault file out rest h = absurd h
 
 -- among the files that are fetched
 pub in_front : (n : Text) (ns ms : List Text) → IsAmong n ns → IsAmong n (ns ++ ms)

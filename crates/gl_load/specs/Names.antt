@@ -79,18 +79,21 @@ abbrev pub names_known : Text → Manifest → List Body → Result ⊤ Refusal
 names_known name m trees = in_file name (root_known m) >>= λ u. classes_known name m m.classes trees
 
 -- A call that looks for unknown names tells the first, and fails for nothing else but want of memory.
+abbrev pub IsTold : LoadCause → Result ⊤ Cause → Type 0
+IsTold (v.UnknownName kind name) out = out ≡ Err (unknown_name (kind_view kind) name)
+IsTold v.Memory out = Unit {0}
+IsTold _ out = ⊥
+
 abbrev pub Knows : {X : Type 0} → Result X LoadCause → Result ⊤ Cause → Type 0
 Knows (Ok x) out = out ≡ Ok tt
-Knows (Err (v.UnknownName kind name)) out = out ≡ Err (unknown_name (kind_view kind) name)
-Knows (Err v.Memory) out = Unit {0}
-Knows (Err _) out = ⊥
+Knows (Err cause) out = IsTold cause out
 
 -- the same with the files
-abbrev pub IsTold : LoadCause → Text → Result ⊤ Refusal → Type 0
-IsTold (v.UnknownName kind name) file out = out ≡ Err (refusal file (unknown_name (kind_view kind) name))
-IsTold v.Memory file out = Unit {0}
-IsTold _ file out = ⊥
+abbrev pub IsToldIn : LoadCause → Text → Result ⊤ Refusal → Type 0
+IsToldIn (v.UnknownName kind name) file out = out ≡ Err (refusal file (unknown_name (kind_view kind) name))
+IsToldIn v.Memory file out = Unit {0}
+IsToldIn _ file out = ⊥
 
 abbrev pub KnowsIn : {X : Type 0} → Result X LoadFault → Result ⊤ Refusal → Type 0
 KnowsIn (Ok x) out = out ≡ Ok tt
-KnowsIn (Err fault) out = IsTold fault.cause fault.file out
+KnowsIn (Err fault) out = IsToldIn fault.cause fault.file out

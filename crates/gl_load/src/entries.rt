@@ -1,15 +1,16 @@
 // The programs of what a manifest says of a class.
-ghost use Rattle.std.specs.Prelude.{◌≡◌, OnOk, IfOk};
+ghost use Rattle.std.specs.Prelude.{◌≡◌, ◌∷◌, [], OnOk, IfOk};
 ghost use Rattle.gl_ast.specs.View.{expr_view};
 ghost use Rattle.gl_meaning.specs.ManifestRules.{Each};
 ghost use Rattle.gl_meaning.specs.View.{manifest_view, class_view, action_view};
 ghost use Rattle.gl_opc.specs.Programs.{action_exprs, getters_exprs, actions_exprs, LowerEach};
 ghost use Rattle.gl_load.specs.Adds.{Adds};
-ghost use Rattle.gl_load.specs.Names.{action_known, getters_known, actions_known, entry_known, Knows};
-ghost use Rattle.gl_load.specs.Spelled.{IsSpelledGetter, IsSpelledAction, IsSpelledClass};
+ghost use Rattle.gl_load.specs.Names.{expr_known, action_known, getters_known, actions_known, entry_known, Knows};
+ghost use Rattle.gl_load.specs.Spelled.{IsExpression, IsSpelledGetter, IsSpelledAction, IsSpelledClass};
 
 use crate::LoadCause;
 use crate::exprs::{push_expr, push_step};
+use gl_ast::NamedExpr;
 use gl_meaning::{Action, Class, Manifest};
 use gl_opc::ProgramList;
 use gl_value::Texts;
@@ -22,6 +23,22 @@ pub struct EntryPrograms {
     pub actions: ProgramList,
 }
 
+// Adds the program of a getter. It has no parameters.
+fn push_getter(
+    alloc: Global,
+    manifest: &Manifest,
+    class: &Class,
+    getter: &NamedExpr,
+    programs: &mut ProgramList,
+) -> Result<(), LoadCause>
+    requires { IsExpression (expr_view getter.now.value) }
+    ensures told { Knows result (expr_known (manifest_view manifest.now) (class_view class.now) [] (expr_view getter.now.value)) }
+    ensures adds { OnOk result (Adds (manifest_view manifest.now) (class_view class.now) (([], expr_view getter.now.value) ∷ []) programs.old programs.new) }
+{
+    let params = Texts::new(alloc);
+    push_expr(alloc, manifest, class, &params, &getter.value, programs)
+}
+
 // The programs of the getters.
 fn getter_programs(
     alloc: Global,
@@ -32,17 +49,9 @@ fn getter_programs(
     ensures told { Knows result (getters_known (manifest_view manifest.now) (class_view class.now)) }
     ensures lowers { IfOk result (λ p. LowerEach (manifest_view manifest.now) (class_view class.now) (getters_exprs (class_view class.now)) p) }
 {
-    let params = Texts::new(alloc);
     let mut programs = ProgramList::new(alloc);
     for getter in class.getters.as_slice() {
-        push_expr(
-            alloc,
-            manifest,
-            class,
-            &params,
-            &getter.value,
-            &mut programs,
-        )?;
+        push_getter(alloc, manifest, class, getter, &mut programs)?;
     }
     Ok(programs)
 }

@@ -138,14 +138,13 @@ fn programs_of_classes(
     ensures lowers { IfOk result (λ p. LowersApp (manifest_view manifest.now) templates.now p) }
 {
     let mut programs = Programs::new(alloc);
-    let mut left = templates.as_slice();
-    for class in manifest.classes.as_slice() {
-        if let [template, rest @ ..] = left {
-            let program = class_programs(alloc, name, manifest, class, template)?;
-            if programs.push(program).is_err() {
-                return Err(no_memory(alloc));
-            }
-            left = rest;
+    for (place, class) in manifest.classes.as_slice().iter().enumerate() {
+        let Some(template) = templates.get(place) else {
+            unreachable!()
+        };
+        let program = class_programs(alloc, name, manifest, class, template)?;
+        if programs.push(program).is_err() {
+            return Err(no_memory(alloc));
         }
     }
     Ok(programs)

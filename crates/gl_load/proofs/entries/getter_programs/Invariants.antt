@@ -14,7 +14,6 @@ invariant-loop-getter l =
     let m = manifest_view l.manifest in
     let c = class_view l.class in
     record {
-      empty : l.params-inside.list.items ≡ [];
       told : each_known (λ g. expr_known m c [] g.1) left ≡ getters_known m c;
       spelled : Each IsSpelledGetter left;
       goes : Goes m c (map (λ g. ([], g.1)) left) (getters_exprs c) [] l.programs;

@@ -7,7 +7,7 @@ use Rattle.gl_meaning.specs.View.{manifest_view}
 use Rattle.gl_load.specs.Load.{all_known}
 use Rattle.gl_load.specs.Names.{KnowsIn, names_known, root_known, classes_known}
 use Rattle.gl_load.specs.Refusal.{◌>>=◌, in_file}
-use Rattle.gl_load.proofs.Faults.{told_then}
+use Rattle.gl_load.proofs.Faults.{stays_told_in}
 use Rattle.gl_load.proofs.Unknowns.{first_told, known_if}
 use Rattle.gl_load.proofs.programs.programs_of.Goals as goal
 
@@ -16,7 +16,7 @@ returns-in_err-find_root_in-clause-told c =
     let p = err_from_is_err_and c.from_residual.result c.from_residual.ensures.1 in
     let m = manifest_view c.args.manifest.now in
     let trees = c.args.templates.now in
-    rw (p.1, p.2, first_told (chars c.args.name.now) m trees) (told_then _ _ _ (classes_known (chars c.args.name.now) m m.classes trees) c.in_err-find_root_in.ensures)
+    rw (p.1, p.2, first_told (chars c.args.name.now) m trees) (stays_told_in _ _ _ (classes_known (chars c.args.name.now) m m.classes trees) c.in_err-find_root_in.ensures)
 
 pub returns-clause-told : goal.returns-clause-told
 returns-clause-told c =
