@@ -1,6 +1,9 @@
 -- Templates that are loaded one after another.
-use Rattle.std.proofs.Common.{◌≡◌, List, [], ◌∷◌, ◌++◌, Result, Ok, Err, inl, inr, refl, sym, ap, append_assoc, append-nil}
+use Rattle.std.proofs.Common.{◌≡◌, ◌+◌, ℕ, Some, drop, List, [], ◌∷◌, ◌++◌, Result, Ok, Err, inl, inr, refl, sym, ap, append_assoc, append-nil}
+use Rattle.std.specs.List.{slice_get}
+use Rattle.std.proofs.lemmas.Option.{slice_get_within, get_or_from_slice_get}
 use Rattle.gl_base.specs.Texts.{Text}
+use Rattle.gl_base.proofs.Lists.{drop_item}
 use Rattle.gl_ast.specs.Grammar.{IsTemplate}
 use Rattle.gl_ast.specs.Template.{Body}
 use Rattle.gl_ast.specs.declared.template.Template.{Template}
@@ -66,3 +69,7 @@ whole_app files manifest script n h = in_front n (app_fetched files manifest) _ 
 pub whole_script : (files : List Entry) (manifest script n : Text) (parts : Parts) → app_in files manifest ≡ Ok parts → IsAmong n (script ∷ []) → IsAmong n (whole_fetched files manifest script)
 unfolding whole_fetched
 whole_script files manifest script n parts is h = behind n (app_fetched files manifest) (after_ok (app_in files manifest) (λ p. script ∷ [])) (rw is h)
+
+-- what is left at the place of a template
+pub got_tree : (trees : List Body) (i : ℕ) (t : Body) → Some t ≡ slice_get trees i → drop i trees ≡ t ∷ drop (i + 1) trees
+got_tree trees i t e = drop_item trees i t (slice_get_within trees i t (sym e)) (sym (get_or_from_slice_get trees i t t (sym e)))
