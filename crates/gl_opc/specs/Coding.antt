@@ -1,5 +1,5 @@
 -- The code of a wire: what linking makes of it.
-use Rattle.std.specs.Prelude.{◌==◌, ℕ, suc, ◌+◌, List, [], ◌∷◌, Bool, Option, Some, None, if◌then◌else◌, slice_get}
+use Rattle.std.specs.Prelude.{◌==◌, ℕ, suc, ◌+◌, List, [], ◌∷◌, Option, Some, None, if◌then◌else◌, slice_get}
 use Rattle.gl_base.specs.Texts.{Text}
 use Rattle.gl_value.specs.Value as v
 use Rattle.gl_ast.specs.Template.{Plain}

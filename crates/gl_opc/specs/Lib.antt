@@ -1,5 +1,7 @@
 pub mod Coding
 pub mod IsApp
+pub mod IsProgram
+pub mod Linked
 pub mod Links
 pub mod Lowers
 pub mod Numbers
@@ -8,6 +10,7 @@ pub mod Program
 pub mod ProgramCode
 pub mod Programs
 pub mod Spans
+pub mod State
 pub mod TreeFaults
 pub mod View
 pub mod WireFaults

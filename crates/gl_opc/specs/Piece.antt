@@ -1,5 +1,5 @@
 -- What linking adds to a program, as lists: opcodes, and entries of the pools.
-use Rattle.std.specs.Prelude.{ℕ, suc, ◌+◌, ℤ, List, [], ◌∷◌, ◌++◌, Option, Some, None, length}
+use Rattle.std.specs.Prelude.{ℕ, ◌+◌, ℤ, List, [], ◌∷◌, ◌++◌, Option, Some, None, length}
 use Rattle.gl_base.specs.Texts.{Text}
 use Rattle.gl_ops.specs.declared.op.Op.{Op}
 use Rattle.gl_ops.specs.declared.op.Op.TheVariants as op

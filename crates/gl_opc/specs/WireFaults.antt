@@ -1,6 +1,5 @@
 -- The unknown names of a wire, each with the number of the statement in which it stands.
-use Rattle.std.specs.Prelude.{ℕ, suc, ◌+◌, List, [], ◌∷◌, ◌++◌, map, flat_map, is_some}
-use Rattle.gl_base.specs.Texts.{Text}
+use Rattle.std.specs.Prelude.{ℕ, suc, ◌+◌, List, [], ◌∷◌, ◌++◌, map, is_some}
 use Rattle.gl_wire.specs.Wire.{Expr, literal, symbol, this, get, free, call, cat, Exprs, no_exprs, expr, NamedExprs, no_named, named_expr, Part, attribute, live, modifier, spread, Stmt, text_stmt, comment_stmt, put, element, component_stmt, if_stmt, each, let_stmt, yield, Body, end, stmt, Slots, no_slots, block}
 use Rattle.gl_meaning.specs.Known.{Unknown, unless_known, component_kind, helper_kind, modifier_kind, member_kind, local_kind}
 use Rattle.gl_meaning.specs.Manifest.{Manifest, ClassEntry}

@@ -12,11 +12,7 @@ pub enum LinkFault {
     /// The first name that is not known, with the statement of the wire in which it stands: statements are counted from 0 in
     /// the order in which they are written, each before those in it. An expression by itself is in statement 0.
     #[error("unknown name")]
-    UnknownName {
-        kind: Kind,
-        name: Text,
-        place: u64,
-    },
+    UnknownName { kind: Kind, name: Text, place: u64 },
     #[error("out of memory")]
     Memory,
 }

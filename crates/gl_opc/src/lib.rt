@@ -7,12 +7,19 @@
 
 mod app;
 mod class_program;
+mod context;
 mod fault;
 mod ints;
+mod link_expr;
+mod link_part;
+mod link_stmt;
+mod linker;
 mod linking;
 mod program;
 mod program_list;
 mod programs;
+#[cfg(test)]
+mod tests;
 mod words;
 
 pub use app::App;

@@ -1,20 +1,56 @@
 // Linking: programs of wires.
-ghost use Rattle.std.specs.Prelude.{◌≡◌, ℕ, List, IfOk, IfErr};
+ghost use Rattle.std.specs.Prelude.{◌≡◌, ℕ, List, [], map, IfOk, IfErr};
 ghost use Rattle.gl_base.specs.Texts.{Text};
 ghost use Rattle.gl_ast.specs.Grammar.{IsTemplate, SpellsExpr};
 ghost use Rattle.gl_ast.specs.Template.{Body, Expr};
+ghost use Rattle.gl_meaning.specs.Known.{first_of};
 ghost use Rattle.gl_meaning.specs.View.{manifest_view, class_view};
-ghost use Rattle.gl_opc.specs.TreeFaults.{first_fault, first_expr_fault};
+ghost use Rattle.gl_opc.specs.Coding.{template_code, expression_code};
+ghost use Rattle.gl_opc.specs.IsProgram.{IsProgramOf};
+ghost use Rattle.gl_opc.specs.TreeFaults.{at_stmt, first_fault, first_expr_fault};
 ghost use Rattle.gl_opc.specs.Links.{IsFirst};
 ghost use Rattle.gl_opc.specs.Lowers.{Lowers, LowersExpr};
+ghost use Rattle.gl_opc.specs.Piece.{start};
+ghost use Rattle.gl_opc.specs.State.{context_view};
 ghost use Rattle.gl_opc.specs.View.{program_view};
-ghost use Rattle.gl_wire.specs.View.{wire_view, expr_wire_view};
+ghost use Rattle.gl_opc.specs.WireFaults.{body_faults, expr_unknowns};
+ghost use Rattle.gl_wire.specs.View.{expr_view, wire_view, expr_wire_view};
+ghost use Rattle.gl_wire.specs.Wire.{body_of};
 ghost use Rattle.gl_wire.specs.WireOf.{wire_of, expr_wire_of};
 
+use crate::context::Context;
+use crate::link_expr::link_expr;
+use crate::link_stmt::link_body;
+use crate::linker::Linker;
 use crate::{LinkFault, Program};
 use gl_meaning::{Class, Manifest};
-use gl_wire::{ExprWire, Wire};
+use gl_ops::Op;
+use gl_wire::{ExprWire, Wire, WireBody, WireExpr};
 use std::alloc::Global;
+
+// The program of the statements of a template.
+fn body_program(context: &Context, body: &WireBody) -> Result<Program, LinkFault>
+    ensures made { IfOk result (λ p. IsProgramOf (program_view p) (template_code (context_view context.now).manifest (context_view context.now).class (context_view context.now).symbols (body_of body.now) start)) }
+    ensures known { IfOk result (λ p. body_faults (context_view context.now).manifest (context_view context.now).class 0 (body_of body.now) ≡ []) }
+    ensures unknown { IfErr result (λ e. IsFirst e (first_of (body_faults (context_view context.now).manifest (context_view context.now).class 0 (body_of body.now)))) }
+{
+    let mut out = Linker::new(context.alloc);
+    link_body(context, body, &mut out)?;
+    out.push_op(Op::Done)?;
+    Ok(out.finish(context.alloc)?)
+}
+
+// The program of an expression by itself.
+fn expression_program(context: &Context, expr: &WireExpr) -> Result<Program, LinkFault>
+    ensures made { IfOk result (λ p. IsProgramOf (program_view p) (expression_code (context_view context.now).manifest (context_view context.now).class (context_view context.now).symbols (expr_view expr.now) start)) }
+    ensures known { IfOk result (λ p. expr_unknowns (context_view context.now).manifest (context_view context.now).class (expr_view expr.now) ≡ []) }
+    ensures unknown { IfErr result (λ e. IsFirst e (first_of (map (at_stmt 0) (expr_unknowns (context_view context.now).manifest (context_view context.now).class (expr_view expr.now))))) }
+{
+    let mut out = Linker::new(context.alloc);
+    link_expr(context, 0, expr, &mut out)?;
+    out.push_op(Op::Done)?;
+    Ok(out.finish(context.alloc)?)
+}
 
 /// The program of a template, for a class of a manifest: it lowers each template that has the wire. Fails exactly where a name
 /// of the wire is not known, with the first one and its statement; and for want of memory, also where a number has no room in a
@@ -30,7 +66,14 @@ pub fn link(
     ensures unknown { IfErr result (λ e. (b : Body) → IsTemplate b → wire_of b ≡ wire_view wire.now
         → IsFirst e (first_fault (manifest_view manifest.now) (class_view class.now) b)) }
 {
-    Err(LinkFault::Memory)
+    let symbols = wire.symbols();
+    let context = Context {
+        alloc,
+        manifest,
+        class,
+        symbols,
+    };
+    body_program(&context, wire.body())
 }
 
 /// The program of an expression by itself, for a class of a manifest: it lowers each expression with parameters in scope that
@@ -46,5 +89,12 @@ pub fn link_expression(
     ensures unknown { IfErr result (λ f. (bytes : List ℕ) (e : Expr) (params : List Text) → SpellsExpr bytes e → expr_wire_of params e ≡ expr_wire_view wire.now
         → IsFirst f (first_expr_fault (manifest_view manifest.now) (class_view class.now) params e)) }
 {
-    Err(LinkFault::Memory)
+    let symbols = &wire.symbols;
+    let context = Context {
+        alloc,
+        manifest,
+        class,
+        symbols,
+    };
+    expression_program(&context, &wire.value)
 }
