@@ -1,15 +1,21 @@
 -- Templates that are loaded one after another.
-use Rattle.std.proofs.Common.{◌≡◌, List, [], ◌∷◌, ◌++◌, Result, Ok, Err, inl, inr, refl, sym, ap, append_assoc, append-nil}
+use Rattle.std.proofs.Common.{◌≡◌, ◌+◌, ℕ, Some, drop, List, [], ◌∷◌, ◌++◌, Result, Ok, Err, inl, inr, refl, sym, ap, append_assoc, append-nil}
+use Rattle.std.specs.List.{slice_get}
+use Rattle.std.proofs.lemmas.Option.{slice_get_within, get_or_from_slice_get}
 use Rattle.gl_base.specs.Texts.{Text}
+use Rattle.gl_base.proofs.Lists.{drop_item}
+use Rattle.gl_ast.specs.Grammar.{IsTemplate}
 use Rattle.gl_ast.specs.Template.{Body}
+use Rattle.gl_ast.specs.declared.template.Template.{Template}
 use Rattle.gl_outside.specs.Shelf.{Entry}
 use Rattle.gl_meaning.specs.Manifest.{ClassEntry, Manifest}
-use Rattle.gl_load.specs.Load.{manifest_in, template_in, templates_in, templates_fetched, app_fetched}
+use Rattle.gl_meaning.specs.ManifestRules.{Each}
+use Rattle.gl_load.specs.Load.{Parts, manifest_in, template_in, templates_in, templates_fetched, app_in, app_fetched, after_ok, whole_fetched}
 use Rattle.gl_load.specs.Loads.{StopsIn, FailsAmong, IsAmong}
 use Rattle.gl_load.specs.Refusal.{Cause, Refusal, ◌>>=◌, in_file}
-use Rattle.gl_load.specs.Trees.{after_trees}
+use Rattle.gl_load.specs.Trees.{seen_templates, after_trees}
 use Rattle.gl_load.specs.declared.fault.LoadFault.{LoadFault}
-use Rattle.gl_load.proofs.Faults.{stops_then, among_more}
+use Rattle.gl_load.proofs.Faults.{stops_then, in_front, behind}
 
 one_more : (front : List Body) (t : Body) (rest : Result (List Body) Refusal) → after_trees front (rest >>= λ ts. Ok (t ∷ ts)) ≡ after_trees (front ++ t ∷ []) rest
 one_more front t (Ok ts) = ap Ok (sym (append_assoc front (t ∷ []) ts))
@@ -50,3 +56,20 @@ app_here files name n h = inl (only_one n name h)
 pub app_templates : (files : List Entry) (name n : Text) (m : Manifest) → in_file name (manifest_in files name) ≡ Ok m → IsAmong n (templates_fetched files m.classes) → IsAmong n (app_fetched files name)
 unfolding app_fetched
 app_templates files name n m is h = rw (was_ok name (manifest_in files name) m is) (inr h)
+
+-- a template more
+pub each_more : (ts : List Template) (t : Template) → Each IsTemplate (seen_templates ts) → Each IsTemplate (seen_templates (ts ++ t ∷ []))
+each_more [] t h = (t.spelled, tt)
+each_more (s ∷ ts) t h = (h.0, each_more ts t h.1)
+
+pub whole_app : (files : List Entry) (manifest script n : Text) → IsAmong n (app_fetched files manifest) → IsAmong n (whole_fetched files manifest script)
+unfolding whole_fetched
+whole_app files manifest script n h = in_front n (app_fetched files manifest) _ h
+
+pub whole_script : (files : List Entry) (manifest script n : Text) (parts : Parts) → app_in files manifest ≡ Ok parts → IsAmong n (script ∷ []) → IsAmong n (whole_fetched files manifest script)
+unfolding whole_fetched
+whole_script files manifest script n parts is h = behind n (app_fetched files manifest) (after_ok (app_in files manifest) (λ p. script ∷ [])) (rw is h)
+
+-- what is left at the place of a template
+pub got_tree : (trees : List Body) (i : ℕ) (t : Body) → Some t ≡ slice_get trees i → drop i trees ≡ t ∷ drop (i + 1) trees
+got_tree trees i t e = drop_item trees i t (slice_get_within trees i t (sym e)) (sym (get_or_from_slice_get trees i t t (sym e)))

@@ -1,4 +1,5 @@
 pub mod Coding
+pub mod IsApp
 pub mod IsProgram
 pub mod Linked
 pub mod Links

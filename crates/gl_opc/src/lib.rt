@@ -5,6 +5,7 @@
 //! wire.
 #![tactic(auto)]
 
+mod app;
 mod class_program;
 mod context;
 mod fault;
@@ -21,6 +22,7 @@ mod programs;
 mod tests;
 mod words;
 
+pub use app::App;
 pub use class_program::ClassProgram;
 pub use fault::LinkFault;
 pub use ints::Ints;

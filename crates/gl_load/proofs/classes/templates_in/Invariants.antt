@@ -1,4 +1,4 @@
-use Rattle.std.proofs.Common.{◌≡◌, ◌≤◌, List, Some, drop}
+use Rattle.std.proofs.Common.{◌≡◌, ◌≤◌, ◌+◌, List, Some, drop, length}
 use Rattle.gl_base.specs.Texts.{Text}
 use Rattle.gl_outside.specs.Shelf.{Entry}
 use Rattle.gl_meaning.specs.View.{seen_classes}
@@ -14,6 +14,7 @@ invariant-loop-class g l =
       keeps : g.S.Shelf.holds l.shelf ≡ g.S.Shelf.holds l.fn.shelf;
       told : (files : List Entry) → g.S.Shelf.holds l.fn.shelf ≡ Some files → templates_in files l.classes ≡ after_trees l.templates (templates_in files left);
       among : (files : List Entry) → g.S.Shelf.holds l.fn.shelf ≡ Some files → (n : Text) → IsAmong n (templates_fetched files left) → IsAmong n (templates_fetched files l.classes);
+      many : length l.templates + length left ≡ length l.classes;
       misses_stay : g.S.Shelf.misses l.fn.shelf ≤ g.S.Shelf.misses l.shelf;
       faults_stay : g.S.Shelf.faults l.fn.shelf ≤ g.S.Shelf.faults l.shelf;
     }
