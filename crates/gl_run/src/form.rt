@@ -123,13 +123,13 @@ fn sets_of(alloc: Global, script: &Script) -> Result<NamedValues, FormFault>
 
 /// What is played of an application and its script, where they are of the form.
 #[tactic(auto, unfolding(crate::specs::Form::form_of))]
-pub fn form_of(alloc: Global, loaded: gl_load::App, script: &Script) -> Result<App, FormFault>
-    ensures { Gives Fails seen_app result (form_of (app_view loaded) (script_view script.now)) }
+pub fn form_of(alloc: Global, loaded: Loaded) -> Result<App, FormFault>
+    ensures { Gives Fails seen_app result (form_of (loaded_view loaded)) }
 {
-    let fields = lone_cells(alloc, &loaded.manifest.classes)?;
+    let fields = lone_cells(alloc, &loaded.app.manifest().classes)?;
     let tree = loaded.templates.into_only().ok_or(FormFault::NotBuilt)?;
     let tree = known_tree(&fields, tree)?;
-    let events = sets_of(alloc, script)?;
+    let events = sets_of(alloc, &loaded.script)?;
     Ok(App {
         tree,
         fields,
