@@ -1,13 +1,11 @@
 -- What a run loads, or why it refuses.
-use Rattle.std.specs.Prelude.{List, [], ◌∷◌, ◌++◌, Option, Some, None, Result, Ok, Err, if◌then◌else◌}
-use Rattle.std.specs.Str.{bytes_eq}
+use Rattle.std.specs.Prelude.{List, Option, Some, None, Result, Ok, Err}
 use Rattle.gl_base.specs.Texts.{Text}
 use Rattle.gl_ast.specs.Template.{Body}
 use Rattle.gl_outside.specs.Shelf.{Entry}
-use Rattle.gl_meaning.specs.Manifest.{ClassEntry}
 use Rattle.gl_load.specs.Refusal as l
 use Rattle.gl_load.specs.Refusal.{◌>>=◌}
-use Rattle.gl_load.specs.Load.{Parts, template_in, app_in, app_fetched, script_in}
+use Rattle.gl_load.specs.Load.{Parts, template_in, app_in, whole_in}
 use Rattle.gl_run.specs.Form.{form_of}
 use Rattle.gl_run.specs.Session.{App}
 
@@ -26,7 +24,7 @@ formed (Some x) = Ok x
 
 -- The app and its events, or the first refusal: the application and its script, and then what is not of the form.
 unfoldable pub load_of : List Entry → Text → Text → Result App Refusal
-load_of files manifest script = of_file (loaded_in files manifest script) >>= λ loaded. formed (form_of loaded)
+load_of files manifest script = of_file (whole_in files manifest script) >>= λ whole. formed (form_of whole.parts whole.events)
 
 -- the application of a manifest
 unfoldable pub parts_in : List Entry → Text → Result Parts Refusal

@@ -5,8 +5,7 @@ use Rattle.gl_base.specs.Taking.{Takes}
 use Rattle.gl_outside.specs.Shelf.{Entry}
 use Rattle.gl_run.specs.Command.{Command, run_command, show_command, wire_command, check_command}
 use Rattle.gl_meaning.specs.View.{kind_view}
-use Rattle.gl_load.specs.Load.{app_fetched}
-use Rattle.gl_run.specs.Load.{fetched}
+use Rattle.gl_load.specs.Load.{app_fetched, whole_fetched}
 use Rattle.gl_load.specs.Loads as l
 use Rattle.gl_load.specs.Loads.{IsAmong}
 use Rattle.gl_load.specs.declared.fault.LoadCause.{LoadCause}
@@ -75,7 +74,7 @@ HasCause ending misses misses_now faults faults_now writes writes_now = Unit {0}
 -- the files that a command has fetched, in order
 abbrev pub fetched_by : Option Command → List Entry → List Text
 fetched_by None files = []
-fetched_by (Some (run_command manifest script)) files = fetched files manifest script
+fetched_by (Some (run_command manifest script)) files = whole_fetched files manifest script
 fetched_by (Some (show_command template)) files = template ∷ []
 fetched_by (Some (wire_command template)) files = template ∷ []
 fetched_by (Some (check_command manifest)) files = app_fetched files manifest

@@ -3,9 +3,9 @@ ghost use Rattle.std.specs.Prelude.{◌≡◌, ◌≤◌, ◌∷◌, [], List, S
 ghost use Rattle.std.specs.Str.{chars};
 ghost use Rattle.gl_ast.specs.Template.{body_of};
 ghost use Rattle.gl_outside.specs.Shelf.{Entry};
-ghost use Rattle.gl_load.specs.Load.{app_fetched};
-ghost use Rattle.gl_load.specs.View.{application_view};
-ghost use Rattle.gl_run.specs.Load.{tree_in, parts_in, load_of, fetched};
+ghost use Rattle.gl_load.specs.Load.{app_fetched, whole_fetched};
+ghost use Rattle.gl_load.specs.View.{app_view};
+ghost use Rattle.gl_run.specs.Load.{tree_in, parts_in, load_of};
 ghost use Rattle.gl_run.specs.Loads.{seen_app, Loads, Causes, FailsAmong};
 
 use crate::RunFault;
@@ -36,7 +36,7 @@ pub fn application_of<S: Shelf>(
     shelf: &mut S,
     manifest: &str,
 ) -> Result<Application, RunFault>
-    ensures told { (files : List Entry) → S.holds shelf.old ≡ Some files → Loads application_view result (parts_in files (chars manifest.now)) }
+    ensures told { (files : List Entry) → S.holds shelf.old ≡ Some files → Loads app_view result (parts_in files (chars manifest.now)) }
     ensures causes { IfErr result (λ e. Causes e (S.misses shelf.old) (S.misses shelf.new) (S.faults shelf.old) (S.faults shelf.new)) }
     ensures named { (files : List Entry) → S.holds shelf.old ≡ Some files → IfErr result (λ e. FailsAmong e (app_fetched files (chars manifest.now))) }
 {
@@ -65,7 +65,7 @@ pub fn load<S: Shelf>(
         → Loads seen_app result (load_of files (chars manifest.now) (chars script.now)) }
     ensures causes { IfErr result (λ e. Causes e (S.misses shelf.old) (S.misses shelf.new) (S.faults shelf.old) (S.faults shelf.new)) }
     ensures named { (files : List Entry) → S.holds shelf.old ≡ Some files
-        → IfErr result (λ e. FailsAmong e (fetched files (chars manifest.now) (chars script.now))) }
+        → IfErr result (λ e. FailsAmong e (whole_fetched files (chars manifest.now) (chars script.now))) }
 {
     let loaded = gl_load::load(alloc, shelf, manifest, script)?;
     Ok(form_of(alloc, loaded)?)

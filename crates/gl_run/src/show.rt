@@ -1,7 +1,7 @@
 // Writes the canonical spelling and the wire of a template, and how many classes there are.
 ghost use Rattle.std.specs.Prelude.{◌≡◌, ◌<◌, ◌∷◌, [], IfOk, IsErrOf};
 ghost use Rattle.gl_ast.specs.Template.{body_of};
-ghost use Rattle.gl_load.specs.View.{application_view};
+ghost use Rattle.gl_load.specs.View.{app_view};
 ghost use Rattle.gl_run.specs.Output.{shown_text, wire_line, classes_line};
 ghost use Rattle.gl_run.specs.Plays.{Plays};
 
@@ -54,7 +54,7 @@ pub fn write_wire<K: Sink>(alloc: Global, template: &Template, out: &mut K) -> R
 
 // How many classes there are, and a line feed.
 fn classes_line(alloc: Global, application: &Application) -> Result<Text, AllocError>
-    ensures { IfOk result (λ t. t ≡ classes_line (application_view application.now)) }
+    ensures { IfOk result (λ t. t ≡ classes_line (app_view application.now)) }
 {
     let mut text = Text::new(alloc);
     text.push_ascii("classes ")?;
@@ -69,7 +69,7 @@ pub fn write_classes<K: Sink>(
     application: &Application,
     out: &mut K,
 ) -> Result<(), PlayFault>
-    ensures plays { Plays result (K.took out.old) (K.took out.new) (classes_line (application_view application.now) ∷ []) }
+    ensures plays { Plays result (K.took out.old) (K.took out.new) (classes_line (app_view application.now) ∷ []) }
     ensures failed { IsErrOf result PlayFault.WriteFault → K.faults out.old < K.faults out.new }
 {
     let text = classes_line(alloc, application)?;

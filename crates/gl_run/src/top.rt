@@ -4,8 +4,7 @@ ghost use Rattle.std.specs.Str.{chars};
 ghost use Rattle.gl_outside.specs.Shelf.{Entry};
 ghost use Rattle.gl_run.specs.Lines.{Says};
 ghost use Rattle.gl_run.specs.Command.{run_command, show_command, wire_command, check_command, command_of};
-ghost use Rattle.gl_load.specs.Load.{app_fetched};
-ghost use Rattle.gl_run.specs.Load.{fetched};
+ghost use Rattle.gl_load.specs.Load.{app_fetched, whole_fetched};
 ghost use Rattle.gl_run.specs.Output.{texts_of, texts_output, output_of, Answers};
 ghost use Rattle.gl_run.specs.Run.{Ending, status_of, line_of, HasCause, Tells, Completes, Untouched, fetched_by};
 
@@ -40,7 +39,7 @@ fn play_app<S: Shelf, K: Sink>(
     ensures told { (files : List Entry) → S.holds shelf.old ≡ Some files
         → Answers (status_of result) (K.took out.old) (K.took out.new) (texts_output (texts_of (run_command (chars manifest.now) (chars script.now)) files)) }
     ensures tells { (files : List Entry) → S.holds shelf.old ≡ Some files
-        → Tells result (texts_output (texts_of (run_command (chars manifest.now) (chars script.now)) files)) (fetched files (chars manifest.now) (chars script.now)) }
+        → Tells result (texts_output (texts_of (run_command (chars manifest.now) (chars script.now)) files)) (whole_fetched files (chars manifest.now) (chars script.now)) }
     ensures causes { HasCause result (S.misses shelf.old) (S.misses shelf.new) (S.faults shelf.old) (S.faults shelf.new) (K.faults out.old) (K.faults out.new) }
     ensures untouched { Untouched result (K.took out.old) (K.took out.new) }
     ensures used { IsErrOf result RunFault.Usage → ⊥ }
