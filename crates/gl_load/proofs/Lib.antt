@@ -1,4 +1,10 @@
+pub mod Adding
 pub mod Faults
 pub mod Fetch
+pub mod JsonContent
+pub mod JsonTexts
+pub mod JsonTokens
+pub mod Linked
 pub mod Spelled
 pub mod Trees
+pub mod Unknowns

@@ -1,7 +1,8 @@
 -- What the calls that load say.
 use Rattle.std.specs.Prelude.{◌≡◌, ◌<◌, ◌≤◌, ◌⊎◌, ℕ, List, [], ◌∷◌, Result, Ok, Err}
 use Rattle.gl_base.specs.Texts.{Text}
-use Rattle.gl_load.specs.Refusal.{Cause, absent, too_long, not_json, bad_shape, bad_expression, not_in_grammar, getter_cycle, unknown_field, Refusal}
+use Rattle.gl_meaning.specs.View.{kind_view}
+use Rattle.gl_load.specs.Refusal.{Cause, absent, too_long, not_json, bad_shape, bad_expression, not_in_grammar, unknown_name, getter_cycle, unknown_field, Refusal}
 use Rattle.gl_load.specs.declared.fault.LoadCause.{LoadCause}
 use Rattle.gl_load.specs.declared.fault.LoadCause.TheVariants as v
 use Rattle.gl_load.specs.declared.fault.LoadFault.{LoadFault}
@@ -19,6 +20,7 @@ Stops v.BadJson out = out ≡ Err not_json
 Stops (v.BadShape pointer) out = out ≡ Err (bad_shape pointer)
 Stops (v.BadExpression pointer) out = out ≡ Err (bad_expression pointer)
 Stops (v.NotInGrammar offset) out = (size : ℕ) × (out ≡ Err (not_in_grammar size)) × (offset ≤ size)
+Stops (v.UnknownName kind name) out = out ≡ Err (unknown_name (kind_view kind) name)
 Stops (v.GetterCycle class getter) out = out ≡ Err (getter_cycle class getter)
 Stops (v.UnknownField index name) out = out ≡ Err (unknown_field index name)
 Stops v.ReadFault out = Unit {0}
@@ -40,6 +42,7 @@ StopsIn name v.BadJson out = out ≡ Err (refusal name not_json)
 StopsIn name (v.BadShape pointer) out = out ≡ Err (refusal name (bad_shape pointer))
 StopsIn name (v.BadExpression pointer) out = out ≡ Err (refusal name (bad_expression pointer))
 StopsIn name (v.NotInGrammar offset) out = (size : ℕ) × (out ≡ Err (refusal name (not_in_grammar size))) × (offset ≤ size)
+StopsIn name (v.UnknownName kind unknown) out = out ≡ Err (refusal name (unknown_name (kind_view kind) unknown))
 StopsIn name (v.GetterCycle class getter) out = out ≡ Err (refusal name (getter_cycle class getter))
 StopsIn name (v.UnknownField index field) out = out ≡ Err (refusal name (unknown_field index field))
 StopsIn name v.ReadFault out = Unit {0}

@@ -1,6 +1,7 @@
 -- Why an application or its script is not loaded.
 use Rattle.std.specs.Prelude.{ℕ, Option, Some, None, Result, Ok, Err}
 use Rattle.gl_base.specs.Texts.{Text}
+use Rattle.gl_meaning.specs.Known.{Kind}
 
 -- what is the matter with a file
 pub data Cause : Type 0 where
@@ -13,6 +14,8 @@ pub data Cause : Type 0 where
   bad_expression : Text → Cause
   -- a template of so many bytes, which no grammar has
   not_in_grammar : ℕ → Cause
+  -- what was to have the name, and the name, which is not known
+  unknown_name : Kind → Text → Cause
   -- a class and the getter of it that reaches itself
   getter_cycle : Text → Text → Cause
   -- the place of an event that sets what is no field, and the name

@@ -1,33 +1,40 @@
-// Loads an application: its manifest, the template of each class, and that no getter reaches itself.
-ghost use Rattle.std.specs.Prelude.{◌≡◌, ◌≤◌, ◌∷◌, [], ℕ, List, Some, IfOk, IfErr};
+// Loads an application: its manifest, the template of each class, its programs, and that no getter reaches itself.
+ghost use Rattle.std.specs.Prelude.{◌≡◌, ◌≤◌, ◌∷◌, [], ℕ, List, Some, OnOk, IfOk, IfErr, length};
 ghost use Rattle.std.specs.Str.{chars};
 ghost use Rattle.gl_base.specs.Texts.{Text};
 ghost use Rattle.gl_outside.specs.Shelf.{Entry};
 ghost use Rattle.gl_parse.specs.ReadStmt.{expression_of};
+ghost use Rattle.gl_ast.specs.Template.{Body};
+ghost use Rattle.gl_meaning.specs.Known.{HasNoCycle};
+ghost use Rattle.gl_meaning.specs.Manifest.{app_of};
 ghost use Rattle.gl_meaning.specs.ManifestOf.{read_manifest};
 ghost use Rattle.gl_meaning.specs.ManifestRules.{KeepsLimits};
 ghost use Rattle.gl_meaning.specs.View.{manifest_view};
 ghost use Rattle.gl_cycles.specs.Through.{cycle_of};
-ghost use Rattle.gl_load.specs.Load.{manifest_read, manifest_in, no_cycle, app_in, app_fetched};
+ghost use Rattle.gl_load.specs.Load.{manifest_read, manifest_in, no_cycle, checked, app_in, app_fetched};
 ghost use Rattle.gl_load.specs.Loads.{Gives, Loads, HasCause, FailsAmong};
 ghost use Rattle.gl_load.specs.Refusal.{in_file};
+ghost use Rattle.gl_load.specs.Spelled.{IsSpelledManifest};
 ghost use Rattle.gl_load.specs.View.{app_view};
+ghost use Rattle.gl_opc.specs.Programs.{LowersApp};
 ghost use Rattle.gl_load.specs.declared.fault.LoadCause.TheVariants.{ReadFault};
 
 use crate::classes::templates_in;
 use crate::fault::fault_in;
 use crate::file::fetch_small;
+use crate::programs::programs_of;
 use crate::{LoadCause, LoadFault, Templates};
 use gl_cycles::cycle;
 use gl_manifest::{ManifestFault, read};
 use gl_meaning::Manifest;
+use gl_opc::App;
 use gl_outside::Shelf;
 use std::alloc::Global;
 
-/// An application: its manifest, and the template of each class, in the order of the classes.
+/// An application: its manifest with its programs, and the template of each class, in the order of the classes.
 #[derive(Drop)]
-pub struct App {
-    pub manifest: Manifest,
+pub struct Application {
+    pub app: App,
     pub templates: Templates,
 }
 
@@ -35,6 +42,7 @@ pub struct App {
 fn manifest_of(alloc: Global, bytes: &[u8]) -> Result<Manifest, LoadCause>
     ensures told { Gives manifest_view result (manifest_read (read_manifest expression_of bytes.now)) }
     ensures limits { IfOk result (λ m. KeepsLimits (manifest_view m)) }
+    ensures spelled { IfOk result (λ m. IsSpelledManifest (manifest_view m)) }
     ensures causes { IfErr result (λ e. (misses misses_now faults faults_now : ℕ) → HasCause e misses misses_now faults faults_now) }
 {
     match read(alloc, bytes) {
@@ -52,6 +60,7 @@ fn manifest_file<S: Shelf>(alloc: Global, shelf: &mut S, name: &str) -> Result<M
     ensures keeps { S.holds shelf.new ≡ S.holds shelf.old }
     ensures told { (files : List Entry) → S.holds shelf.old ≡ Some files → Gives manifest_view result (manifest_in files (chars name.now)) }
     ensures limits { IfOk result (λ m. KeepsLimits (manifest_view m)) }
+    ensures spelled { IfOk result (λ m. IsSpelledManifest (manifest_view m)) }
     ensures causes { IfErr result (λ e. HasCause e (S.misses shelf.old) (S.misses shelf.new) (S.faults shelf.old) (S.faults shelf.new)) }
     ensures misses_stay { S.misses shelf.old ≤ S.misses shelf.new }
     ensures faults_stay { S.faults shelf.old ≤ S.faults shelf.new }
@@ -66,6 +75,7 @@ fn manifest_in<S: Shelf>(alloc: Global, shelf: &mut S, name: &str) -> Result<Man
     ensures told { (files : List Entry) → S.holds shelf.old ≡ Some files
         → Loads manifest_view result (in_file (chars name.now) (manifest_in files (chars name.now))) }
     ensures limits { IfOk result (λ m. KeepsLimits (manifest_view m)) }
+    ensures spelled { IfOk result (λ m. IsSpelledManifest (manifest_view m)) }
     ensures causes { IfErr result (λ f. HasCause f.cause (S.misses shelf.old) (S.misses shelf.new) (S.faults shelf.old) (S.faults shelf.new)) }
     ensures named { IfErr result (λ f. FailsAmong f.cause f.file (chars name.now ∷ [])) }
     ensures misses_stay { S.misses shelf.old ≤ S.misses shelf.new }
@@ -84,6 +94,7 @@ fn cycle_cause(alloc: Global, manifest: &Manifest) -> Result<(), LoadCause>
     ensures told { Gives (λ u. u) result (no_cycle (cycle_of manifest.now.classes)) }
     ensures causes { IfErr result (λ e. (misses misses_now faults faults_now : ℕ) → HasCause e misses misses_now faults faults_now) }
     ensures reads { IfErr result (λ e. e ≡ ReadFault → ⊥) }
+    ensures none { OnOk result ((templates : List Body) → HasNoCycle (app_of (manifest_view manifest.now) templates)) }
 {
     match cycle(manifest) {
         Some((class, getter)) => Err(LoadCause::GetterCycle {
@@ -100,6 +111,7 @@ fn no_cycle(alloc: Global, name: &str, manifest: &Manifest) -> Result<(), LoadFa
     ensures told { Loads (λ u. u) result (in_file (chars name.now) (no_cycle (cycle_of manifest.now.classes))) }
     ensures causes { IfErr result (λ f. (misses misses_now faults faults_now : ℕ) → HasCause f.cause misses misses_now faults faults_now) }
     ensures named { IfErr result (λ f. (names : List Text) → FailsAmong f.cause f.file names) }
+    ensures none { OnOk result ((templates : List Body) → HasNoCycle (app_of (manifest_view manifest.now) templates)) }
 {
     match cycle_cause(alloc, manifest) {
         Ok(()) => Ok(()),
@@ -107,12 +119,42 @@ fn no_cycle(alloc: Global, name: &str, manifest: &Manifest) -> Result<(), LoadFa
     }
 }
 
+// The application of a manifest with these templates, whose names are known, and in which no getter reaches itself.
+fn checked(
+    alloc: Global,
+    name: &str,
+    manifest: Manifest,
+    templates: Templates,
+) -> Result<Application, LoadFault>
+    requires limits { KeepsLimits (manifest_view manifest) }
+    requires spelled { IsSpelledManifest (manifest_view manifest) }
+    requires many { length templates ≡ length manifest.classes }
+    ensures told { Loads app_view result (checked (chars name.now) (manifest_view manifest) templates) }
+    ensures causes { IfErr result (λ f. (misses misses_now faults faults_now : ℕ) → HasCause f.cause misses misses_now faults faults_now) }
+    ensures named { IfErr result (λ f. (names : List Text) → FailsAmong f.cause f.file names) }
+    ensures lowered { IfOk result (λ a. LowersApp (manifest_view a.app.manifest) a.templates a.app.programs) }
+{
+    let programs = programs_of(alloc, name, &manifest, &templates)?;
+    no_cycle(alloc, name, &manifest)?;
+    templates.spelled();
+    Ok(Application {
+        app: App::new(manifest, programs),
+        templates,
+    })
+}
+
 /// Loads an application, or gives the first refusal: the manifest is fetched and read, then the template of each class, in
-/// the order of their names, and then no getter may reach itself.
+/// the order of their names, then every name is to be known, and then no getter may reach itself. The programs are those of the
+/// templates.
 #[tactic(auto, unfolding(crate::specs::Load::app_in))]
-pub fn load_app<S: Shelf>(alloc: Global, shelf: &mut S, manifest: &str) -> Result<App, LoadFault>
+pub fn load_app<S: Shelf>(
+    alloc: Global,
+    shelf: &mut S,
+    manifest: &str,
+) -> Result<Application, LoadFault>
     ensures keeps { S.holds shelf.new ≡ S.holds shelf.old }
     ensures told { (files : List Entry) → S.holds shelf.old ≡ Some files → Loads app_view result (app_in files (chars manifest.now)) }
+    ensures lowered { IfOk result (λ a. LowersApp (manifest_view a.app.manifest) a.templates a.app.programs) }
     ensures causes { IfErr result (λ f. HasCause f.cause (S.misses shelf.old) (S.misses shelf.new) (S.faults shelf.old) (S.faults shelf.new)) }
     ensures named { (files : List Entry) → S.holds shelf.old ≡ Some files
         → IfErr result (λ f. FailsAmong f.cause f.file (app_fetched files (chars manifest.now))) }
@@ -121,9 +163,5 @@ pub fn load_app<S: Shelf>(alloc: Global, shelf: &mut S, manifest: &str) -> Resul
 {
     let found = manifest_in(alloc, shelf, manifest)?;
     let templates = templates_in(alloc, shelf, &found.classes)?;
-    no_cycle(alloc, manifest, &found)?;
-    Ok(App {
-        manifest: found,
-        templates,
-    })
+    checked(alloc, manifest, found, templates)
 }

@@ -4,6 +4,7 @@ ghost use Rattle.std.specs.Str.{chars};
 ghost use Rattle.gl_load.specs.Loads.{IsFaultIn};
 ghost use Rattle.gl_load.specs.declared.fault.LoadCause.TheVariants.{Memory};
 
+use gl_meaning::Kind;
 use gl_value::Text;
 use std::alloc::{AllocError, Global};
 use thiserror::Error;
@@ -27,6 +28,9 @@ pub enum LoadCause {
     BadExpression { pointer: Text },
     #[error("not in the grammar at byte {offset}")]
     NotInGrammar { offset: u64 },
+    /// The first name that is not known, with what it was to be.
+    #[error("unknown name")]
+    UnknownName { kind: Kind, name: Text },
     /// The first getter that reaches itself, with its class.
     #[error("getter cycle")]
     GetterCycle { class: Text, getter: Text },

@@ -3,16 +3,20 @@
 
 mod application;
 mod classes;
+mod entries;
 mod events;
+mod exprs;
 mod fault;
 mod file;
+mod programs;
 mod templates;
+mod whole;
 
-pub use application::{App, load_app};
-pub use events::load_script;
+pub use application::{Application, load_app};
 pub use fault::{LoadCause, LoadFault, fault_in};
 pub use file::template_in;
 pub use templates::Templates;
+pub use whole::{Loaded, load};
 
 #[cfg(test)]
 mod tests;

@@ -1,16 +1,17 @@
 // The templates of an application's classes.
 ghost use Rattle.std.specs.Prelude.{◌≡◌, ◌↔◌, [], ◌∷◌, ◌++◌, IsTrue, OnOk, OnErr, length, option_map, slice_get};
-ghost use Rattle.gl_ast.specs.Template.{body_of};
-ghost use Rattle.gl_load.specs.Trees.{seen_templates, lone_tree};
+ghost use Rattle.gl_ast.specs.Grammar.{IsTemplate};
+ghost use Rattle.gl_meaning.specs.ManifestRules.{Each};
+ghost use Rattle.gl_load.specs.Trees.{tree_of, seen_templates, lone_tree};
 
-use gl_ast::Body;
+use gl_ast::Template;
 use std::alloc::{AllocError, Global};
 use std::marker::Model;
 
 /// A list of templates. Contracts see their trees.
 #[derive(Drop)]
 pub struct Templates {
-    list: Vec<Body>,
+    list: Vec<Template>,
 }
 
 impl Model for Templates {
@@ -26,6 +27,11 @@ impl Model for Templates {
     ghost use Rattle.gl_load.specs.Trees.{seen_templates};
 
     ghost view = { λ a. seen_templates a.list.items };
+
+    ghost use Rattle.gl_ast.specs.Grammar.{IsTemplate};
+    ghost use Rattle.gl_meaning.specs.ManifestRules.{Each};
+
+    ghost invariant = { λ a. ∥ Each IsTemplate (seen_templates a.list.items) ∥₁ };
 }
 
 impl Templates {
@@ -38,7 +44,7 @@ impl Templates {
         }
     }
 
-    pub fn as_slice(&self) -> &[Body]
+    pub fn as_slice(&self) -> &[Template]
         ensures { seen_templates result.now ≡ self.now }
     {
         self.list.as_slice()
@@ -57,24 +63,30 @@ impl Templates {
     }
 
     /// The template at a place, counted from 0.
-    pub fn get(&self, at: usize) -> Option<&Body>
-        ensures { option_map (λ v. body_of v.now) result ≡ slice_get self.now at }
+    pub fn get(&self, at: usize) -> Option<&Template>
+        ensures { option_map (λ v. tree_of v.now) result ≡ slice_get self.now at }
     {
         self.list.as_slice().get(at)
     }
 
     /// Adds a template at the end.
-    pub fn push(&mut self, item: Body) -> Result<(), AllocError>
-        ensures ok { OnOk result (self.new ≡ self.old ++ body_of item ∷ []) }
+    pub fn push(&mut self, item: Template) -> Result<(), AllocError>
+        ensures ok { OnOk result (self.new ≡ self.old ++ tree_of item ∷ []) }
         ensures err { OnErr result (self.new ≡ self.old) }
     {
         self.list.push(item)?;
         Ok(())
     }
 
+    /// Each is a template that some bytes spell. It does nothing.
+    pub fn spelled(&self)
+        ensures { ∥ Each IsTemplate self.now ∥₁ }
+    {
+    }
+
     /// The template that is alone in the list. It takes no memory.
-    pub fn into_only(self) -> Option<Body>
-        ensures { option_map (λ b. body_of b) result ≡ lone_tree self }
+    pub fn into_only(self) -> Option<Template>
+        ensures { option_map tree_of result ≡ lone_tree self }
     {
         let mut list = self.list;
         if list.len() == 1 { list.pop() } else { None }

@@ -86,17 +86,6 @@ fn word_of(cause: &LoadCause) -> &'static str {
     }
 }
 
-fn load_both(alloc: Global, shelf: &mut CalmShelf) -> Result<(), LoadFault> {
-    let app = load_app(alloc, shelf, "m.json")?;
-    match app.manifest.classes.get(0) {
-        Some(root) => {
-            let _script = load_script(alloc, shelf, root, "s.json")?;
-            Ok(())
-        }
-        None => Ok(()),
-    }
-}
-
 fn check_row(rt: &impl Abort, alloc: Global, row: &Row) -> Result<(), Fail> {
     let (what, manifest, template, script, file, cause) = row;
     let mut files = Files::new(alloc);
@@ -104,8 +93,8 @@ fn check_row(rt: &impl Abort, alloc: Global, row: &Row) -> Result<(), Fail> {
     push_file(alloc, &mut files, "app.hbs", template)?;
     push_file(alloc, &mut files, "s.json", script)?;
     let mut shelf = CalmShelf::new(files);
-    match load_both(alloc, &mut shelf) {
-        Ok(()) => {
+    match load(alloc, &mut shelf, "m.json", "s.json") {
+        Ok(_) => {
             assert_eq!(rt; "", *file, "{}", what);
         }
         Err(fault) => {

@@ -1,4 +1,5 @@
 pub mod Coding
+pub mod IsApp
 pub mod Links
 pub mod Lowers
 pub mod Numbers

@@ -5,6 +5,7 @@
 //! wire.
 #![tactic(auto)]
 
+mod app;
 mod class_program;
 mod fault;
 mod ints;
@@ -14,6 +15,7 @@ mod program_list;
 mod programs;
 mod words;
 
+pub use app::App;
 pub use class_program::ClassProgram;
 pub use fault::LinkFault;
 pub use ints::Ints;
