@@ -2,16 +2,13 @@
 use Rattle.std.proofs.Common.{◌≡◌, List, [], ◌∷◌, ◌++◌, Option, Some, None, Result, Ok, Err, ℕ, inl, inr, refl}
 use Rattle.gl_base.specs.Texts.{Text}
 use Rattle.gl_base.proofs.Taken.{takes_nothing, some_nothing}
-use Rattle.gl_outside.specs.Shelf.{Entry}
-use Rattle.gl_meaning.specs.Manifest.{ClassEntry}
-use Rattle.gl_load.specs.Load.{Parts, app_in, app_fetched}
 use Rattle.gl_load.specs.Loads as l
 use Rattle.gl_load.specs.Refusal as r
 use Rattle.gl_load.specs.Refusal.{◌>>=◌}
 use Rattle.gl_load.specs.declared.fault.LoadCause.{LoadCause}
 use Rattle.gl_load.specs.declared.fault.LoadCause.TheVariants as cause
 use Rattle.gl_load.specs.declared.fault.LoadFault.{LoadFault}
-use Rattle.gl_run.specs.Load.{Refusal, of_file, root_of, script_fetched, after_app, fetched}
+use Rattle.gl_run.specs.Load.{Refusal, of_file}
 use Rattle.gl_run.specs.Loads.{Stops}
 use Rattle.gl_run.specs.Output.{texts_output, Answers}
 use Rattle.gl_run.specs.Run.{file_status, TellsFile}
@@ -24,6 +21,7 @@ stops_file name cause.BadJson out h = rw h refl
 stops_file name (cause.BadShape pointer) out h = rw h refl
 stops_file name (cause.BadExpression pointer) out h = rw h refl
 stops_file name (cause.NotInGrammar offset) out h = rw h.1 (h.0, refl, h.2)
+stops_file name (cause.UnknownName kind field) out h = rw h refl
 stops_file name (cause.GetterCycle class getter) out h = rw h refl
 stops_file name (cause.UnknownField index field) out h = rw h refl
 stops_file name cause.ReadFault out h = tt
@@ -37,6 +35,7 @@ stops_then name cause.BadJson out then h = rw h refl
 stops_then name (cause.BadShape pointer) out then h = rw h refl
 stops_then name (cause.BadExpression pointer) out then h = rw h refl
 stops_then name (cause.NotInGrammar offset) out then h = rw h.1 (h.0, refl, h.2)
+stops_then name (cause.UnknownName kind field) out then h = rw h refl
 stops_then name (cause.GetterCycle class getter) out then h = rw h refl
 stops_then name (cause.UnknownField index field) out then h = rw h refl
 stops_then name cause.ReadFault out then h = tt
@@ -50,6 +49,7 @@ stopped name cause.BadJson out took h = rw h (refl, takes_nothing took)
 stopped name (cause.BadShape pointer) out took h = rw h (refl, takes_nothing took)
 stopped name (cause.BadExpression pointer) out took h = rw h (refl, takes_nothing took)
 stopped name (cause.NotInGrammar offset) out took h = rw h.1 (refl, takes_nothing took)
+stopped name (cause.UnknownName kind field) out took h = rw h (refl, takes_nothing took)
 stopped name (cause.GetterCycle class getter) out took h = rw h (refl, takes_nothing took)
 stopped name (cause.UnknownField index field) out took h = rw h (refl, takes_nothing took)
 stopped name cause.ReadFault out took h = refl
@@ -63,25 +63,8 @@ stop_tells name cause.BadJson out names h among = rw h refl
 stop_tells name (cause.BadShape pointer) out names h among = rw h refl
 stop_tells name (cause.BadExpression pointer) out names h among = rw h refl
 stop_tells name (cause.NotInGrammar offset) out names h among = rw h.1 (offset, h.2, refl)
+stop_tells name (cause.UnknownName kind field) out names h among = rw h refl
 stop_tells name (cause.GetterCycle class getter) out names h among = rw h refl
 stop_tells name (cause.UnknownField index field) out names h among = rw h refl
 stop_tells name cause.ReadFault out names h among = among
 stop_tells name cause.Memory out names h among = tt
-
--- among the files that are fetched
-in_front : (n : Text) (ns ms : List Text) → l.IsAmong n ns → l.IsAmong n (ns ++ ms)
-in_front n [] ms h = absurd h
-in_front n (x ∷ ns) ms (inl e) = inl e
-in_front n (x ∷ ns) ms (inr h) = inr (in_front n ns ms h)
-
-behind : (n : Text) (ns ms : List Text) → l.IsAmong n ms → l.IsAmong n (ns ++ ms)
-behind n [] ms h = h
-behind n (x ∷ ns) ms h = inr (behind n ns ms h)
-
-pub app_fails : (files : List Entry) (manifest script n : Text) → l.IsAmong n (app_fetched files manifest) → l.IsAmong n (fetched files manifest script)
-unfolding fetched
-app_fails files manifest script n h = in_front n (app_fetched files manifest) (after_app script (app_in files manifest)) h
-
-pub script_fails : (files : List Entry) (manifest script n : Text) (parts : Parts) (root : ClassEntry) → app_in files manifest ≡ Ok parts → root_of parts ≡ Some root → l.IsAmong n (script ∷ []) → l.IsAmong n (fetched files manifest script)
-unfolding fetched
-script_fails files manifest script n parts root is named h = behind n (app_fetched files manifest) (after_app script (app_in files manifest)) (rw (is, named) h)

@@ -8,7 +8,6 @@ pub mod Pages
 pub mod PathOrder
 pub mod PlainForms
 pub mod Playing
-pub mod Roots
 pub mod Saying
 pub mod Sessions
 pub mod Sets

@@ -38,6 +38,10 @@ part_written e old new texts out is p = rw is (written_on e old new texts p)
 pub paged : (app : App) (loaded : Result App Refusal) → loaded ≡ Ok app → (loaded >>= λ a. Ok (session a)) ≡ Ok (pages app.cells app.body app.events)
 paged app loaded is = rw (is, session-pages app.body app.cells app.events) refl
 
+-- what is done with what is loaded
+pub loaded_then : {A B : Type 0} (f : A → B) (x : A) (loaded : Result A Refusal) → loaded ≡ Ok x → (loaded >>= λ y. Ok (f y)) ≡ Ok (f x)
+loaded_then f x loaded is = rw is refl
+
 -- the words are a command, or none
 pub command_says : (words : List Text) (files : List Entry) (c : Command) → command_of words ≡ Some c → output_of words files ≡ texts_output (texts_of c files)
 unfolding output_of

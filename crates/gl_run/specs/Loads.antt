@@ -2,7 +2,8 @@
 use Rattle.std.specs.Prelude.{◌≡◌, ◌≤◌, ◌<◌, ℕ, List, Result, Ok, Err, Option}
 use Rattle.gl_base.specs.Texts.{Text}
 use Rattle.gl_ast.specs.Template.{body_of}
-use Rattle.gl_load.specs.Refusal.{Cause, absent, too_long, not_json, bad_shape, bad_expression, not_in_grammar, getter_cycle, unknown_field}
+use Rattle.gl_load.specs.Refusal.{Cause, absent, too_long, not_json, bad_shape, bad_expression, not_in_grammar, unknown_name, getter_cycle, unknown_field}
+use Rattle.gl_meaning.specs.View.{kind_view}
 use Rattle.gl_load.specs.Loads as l
 use Rattle.gl_load.specs.declared.fault.LoadCause.{LoadCause}
 use Rattle.gl_load.specs.declared.fault.LoadCause.TheVariants as cause
@@ -26,6 +27,7 @@ Stops name cause.BadJson out = out ≡ Err (at_file name not_json)
 Stops name (cause.BadShape pointer) out = out ≡ Err (at_file name (bad_shape pointer))
 Stops name (cause.BadExpression pointer) out = out ≡ Err (at_file name (bad_expression pointer))
 Stops name (cause.NotInGrammar offset) out = (size : ℕ) × (out ≡ Err (at_file name (not_in_grammar size))) × (offset ≤ size)
+Stops name (cause.UnknownName kind unknown) out = out ≡ Err (at_file name (unknown_name (kind_view kind) unknown))
 Stops name (cause.GetterCycle class getter) out = out ≡ Err (at_file name (getter_cycle class getter))
 Stops name (cause.UnknownField index field) out = out ≡ Err (at_file name (unknown_field index field))
 Stops name cause.ReadFault out = Unit {0}

@@ -1,5 +1,5 @@
 -- What the program writes, and how it ends.
-use Rattle.std.specs.Prelude.{◌≡◌, ◌≤◌, ℕ, List, [], ◌∷◌, ◌++◌, codes, decimal, Option, Some, None, Result, Ok, Err}
+use Rattle.std.specs.Prelude.{◌≡◌, ◌≤◌, ℕ, List, [], ◌∷◌, ◌++◌, codes, decimal, length, Option, Some, None, Result, Ok, Err}
 use Rattle.gl_base.specs.Texts.{Text, bytes_of, joined}
 use Rattle.gl_base.specs.Taking.{Takes, TakesFront, TakesSome}
 use Rattle.gl_value.specs.Quote.{quoted}
@@ -8,9 +8,11 @@ use Rattle.gl_wire.specs.Json.{wire_text}
 use Rattle.gl_wire.specs.WireOf.{wire_of}
 use Rattle.gl_ast.specs.Canon.{canonical}
 use Rattle.gl_ast.specs.Template.{Body}
-use Rattle.gl_run.specs.Command.{Command, run_command, show_command, wire_command, command_of}
-use Rattle.gl_load.specs.Refusal.{Cause, absent, too_long, not_json, bad_shape, bad_expression, not_in_grammar, getter_cycle, unknown_field, ◌>>=◌}
-use Rattle.gl_run.specs.Load.{Refusal, refused_file, not_built, load_of, tree_in}
+use Rattle.gl_run.specs.Command.{Command, run_command, show_command, wire_command, check_command, command_of}
+use Rattle.gl_load.specs.Refusal.{Cause, absent, too_long, not_json, bad_shape, bad_expression, not_in_grammar, unknown_name, getter_cycle, unknown_field, ◌>>=◌}
+use Rattle.gl_meaning.specs.Known.{Kind, component_kind, helper_kind, modifier_kind, member_kind, local_kind, field_kind}
+use Rattle.gl_load.specs.Load.{Parts}
+use Rattle.gl_run.specs.Load.{Refusal, refused_file, not_built, load_of, tree_in, parts_in}
 use Rattle.gl_run.specs.Session.{session}
 use Rattle.gl_run.specs.declared.status.Status.{Status}
 use Rattle.gl_run.specs.declared.status.Status.TheVariants as status
@@ -54,6 +56,19 @@ shape_line file pointer = quoted file ++ (codes ": bad shape at " ++ (quoted poi
 abbrev pub expression_line : Text → Text → Text
 expression_line file pointer = quoted file ++ (codes ": bad expression at " ++ (quoted pointer ++ codes "\n"))
 
+-- what is the matter with a file in which a name is not known, by the kind of the name
+abbrev pub unknown_matter : Kind → Text
+unknown_matter component_kind = codes ": unknown component "
+unknown_matter helper_kind = codes ": unknown helper "
+unknown_matter modifier_kind = codes ": unknown modifier "
+unknown_matter member_kind = codes ": unknown member "
+unknown_matter local_kind = codes ": unknown local "
+unknown_matter field_kind = codes ": unknown field "
+
+-- the name is quoted
+abbrev pub unknown_line : Text → Kind → Text → Text
+unknown_line file kind name = quoted file ++ (unknown_matter kind ++ (quoted name ++ codes "\n"))
+
 -- the names of a class and of a getter are not quoted: they have no other characters than letters, digits and a few signs
 abbrev pub cycle_line : Text → Text → Text → Text
 cycle_line file class getter = (quoted file ++ codes ": getter cycle through ") ++ (class ++ (codes "." ++ (getter ++ codes "\n")))
@@ -70,6 +85,7 @@ IsFileLine file not_json line = line ≡ file_line file (codes ": not JSON\n")
 IsFileLine file (bad_shape pointer) line = line ≡ shape_line file pointer
 IsFileLine file (bad_expression pointer) line = line ≡ expression_line file pointer
 IsFileLine file (not_in_grammar size) line = (byte : ℕ) × (byte ≤ size) × (line ≡ grammar_line file byte)
+IsFileLine file (unknown_name kind name) line = line ≡ unknown_line file kind name
 IsFileLine file (getter_cycle class getter) line = line ≡ cycle_line file class getter
 IsFileLine file (unknown_field index name) line = line ≡ field_line file index name
 
@@ -88,11 +104,16 @@ shown_text tree = canonical tree ++ codes "\n"
 abbrev pub wire_line : Body → Text
 wire_line tree = wire_text (wire_of tree) ++ codes "\n"
 
--- what a command writes, where nothing is refused: `run` the texts of all turns, `show` and `wire` one text
+-- how many classes there are, and a line feed
+abbrev pub classes_line : Parts → Text
+classes_line parts = codes "classes " ++ (decimal (length parts.manifest.classes) ++ codes "\n")
+
+-- What a command writes, where nothing is refused: `run` the texts of all turns, the others one text. `check` loads no script.
 abbrev pub texts_of : Command → List Entry → Result (List Text) Refusal
 texts_of (run_command manifest script) files = load_of files manifest script >>= λ app. Ok (session app)
 texts_of (show_command template) files = tree_in files template >>= λ tree. Ok (shown_text tree ∷ [])
 texts_of (wire_command template) files = tree_in files template >>= λ tree. Ok (wire_line tree ∷ [])
+texts_of (check_command manifest) files = parts_in files manifest >>= λ parts. Ok (classes_line parts ∷ [])
 
 -- where a command is refused, nothing is written
 abbrev pub texts_output : Result (List Text) Refusal → Output

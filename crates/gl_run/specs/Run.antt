@@ -3,13 +3,14 @@ use Rattle.std.specs.Prelude.{◌≡◌, ◌<◌, ◌⊎◌, ℕ, List, [], ◌�
 use Rattle.gl_base.specs.Texts.{Text, bytes_of, joined}
 use Rattle.gl_base.specs.Taking.{Takes}
 use Rattle.gl_outside.specs.Shelf.{Entry}
-use Rattle.gl_run.specs.Command.{Command, run_command, show_command, wire_command}
-use Rattle.gl_run.specs.Load.{fetched}
+use Rattle.gl_run.specs.Command.{Command, run_command, show_command, wire_command, check_command}
+use Rattle.gl_meaning.specs.View.{kind_view}
+use Rattle.gl_load.specs.Load.{app_fetched, whole_fetched}
 use Rattle.gl_load.specs.Loads as l
 use Rattle.gl_load.specs.Loads.{IsAmong}
 use Rattle.gl_load.specs.declared.fault.LoadCause.{LoadCause}
 use Rattle.gl_load.specs.declared.fault.LoadCause.TheVariants as cause
-use Rattle.gl_run.specs.Output.{Output, IsLine, file_line, absent_line, too_long_line, shape_line, expression_line, grammar_line, cycle_line, field_line, not_built_line, usage_line}
+use Rattle.gl_run.specs.Output.{Output, IsLine, file_line, absent_line, too_long_line, shape_line, expression_line, grammar_line, unknown_line, cycle_line, field_line, not_built_line, usage_line}
 use Rattle.gl_run.specs.declared.status.Status.{Status}
 use Rattle.gl_run.specs.declared.status.Status.TheVariants as status
 use Rattle.gl_run.specs.declared.fault.FormFault.{FormFault}
@@ -48,6 +49,7 @@ cause_line file cause.BadJson = file_line file (codes ": not JSON\n")
 cause_line file (cause.BadShape pointer) = shape_line file pointer
 cause_line file (cause.BadExpression pointer) = expression_line file pointer
 cause_line file (cause.NotInGrammar byte) = grammar_line file byte
+cause_line file (cause.UnknownName kind name) = unknown_line file (kind_view kind) name
 cause_line file (cause.GetterCycle class getter) = cycle_line file class getter
 cause_line file (cause.UnknownField index name) = field_line file index name
 cause_line file cause.ReadFault = file_line file (codes ": read fault\n")
@@ -72,9 +74,10 @@ HasCause ending misses misses_now faults faults_now writes writes_now = Unit {0}
 -- the files that a command has fetched, in order
 abbrev pub fetched_by : Option Command → List Entry → List Text
 fetched_by None files = []
-fetched_by (Some (run_command manifest script)) files = fetched files manifest script
+fetched_by (Some (run_command manifest script)) files = whole_fetched files manifest script
 fetched_by (Some (show_command template)) files = template ∷ []
 fetched_by (Some (wire_command template)) files = template ∷ []
+fetched_by (Some (check_command manifest)) files = app_fetched files manifest
 
 -- Over a shelf that tells its files: the line on a file is the output's, where no device and no memory failed; a file that
 -- can't be read is one that is fetched, where no step before it refuses.

@@ -12,6 +12,8 @@ pub enum Command<'a> {
     Show { template: &'a str },
     /// Writes the wire of a template.
     Wire { template: &'a str },
+    /// Checks the application of a manifest.
+    Check { manifest: &'a str },
 }
 
 // Whether the word is the command `run`.
@@ -38,6 +40,14 @@ fn is_wire(word: &str) -> bool
     word == "wire"
 }
 
+// Whether the word is the command `check`.
+#[tactic(auto, using(crate::proofs::Words::word_is))]
+fn is_check(word: &str) -> bool
+    ensures { result ≡ bytes_eq (chars word.now) (codes "check") }
+{
+    word == "check"
+}
+
 /// The command that the words give, if they give one. It takes no memory.
 #[tactic(auto, unfolding(crate::specs::Command::command_of))]
 pub fn command_of<'a>(words: &[&'a str]) -> Option<Command<'a>>
@@ -49,6 +59,9 @@ pub fn command_of<'a>(words: &[&'a str]) -> Option<Command<'a>>
         }),
         [word, template] if is_wire(word) => Some(Command::Wire {
             template: *template,
+        }),
+        [word, manifest] if is_check(word) => Some(Command::Check {
+            manifest: *manifest,
         }),
         [word, manifest, script] if is_run(word) => Some(Command::Run {
             manifest: *manifest,

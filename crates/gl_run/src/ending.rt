@@ -2,14 +2,16 @@
 ghost use Rattle.std.specs.Prelude.{◌≡◌, ◌++◌, IsTrue, codes, true};
 ghost use Rattle.gl_base.specs.Texts.{is_ascii_text};
 ghost use Rattle.gl_value.specs.Quote.{quoted};
+ghost use Rattle.gl_meaning.specs.View.{kind_view};
 ghost use Rattle.gl_run.specs.Lines.{Says, SaysOn};
-ghost use Rattle.gl_run.specs.Output.{grammar_line, cycle_line, field_line};
+ghost use Rattle.gl_run.specs.Output.{grammar_line, unknown_matter, cycle_line, field_line};
 ghost use Rattle.gl_run.specs.Run.{file_status, status_of, cause_line, line_of};
 
 use crate::line::{say, say_ascii, say_number, say_quoted};
 use crate::session::PlayFault;
 use crate::{FormFault, Status};
 use gl_load::{LoadCause, LoadFault};
+use gl_meaning::Kind;
 use gl_outside::Sink;
 use gl_value::Text;
 use thiserror::Error;
@@ -119,6 +121,21 @@ fn say_quoted_of_file<E: Sink>(err: &mut E, file: &Text, matter: &str, text: &Te
     say_ascii(err, whole, "\n")
 }
 
+// What is the matter with a file in which a name of this kind is not known.
+fn unknown_matter(kind: Kind) -> &'static str
+    ensures said { result.now ≡ unknown_matter (kind_view kind) }
+    ensures ascii { IsTrue (is_ascii_text result.now) }
+{
+    match kind {
+        Kind::Component => ": unknown component ",
+        Kind::Helper => ": unknown helper ",
+        Kind::Modifier => ": unknown modifier ",
+        Kind::Member => ": unknown member ",
+        Kind::Local => ": unknown local ",
+        Kind::Field => ": unknown field ",
+    }
+}
+
 // Says the name of a manifest and the first getter that reaches itself.
 fn say_of_cycle<E: Sink>(err: &mut E, file: &Text, class: &Text, getter: &Text) -> bool
     ensures { SaysOn true result (E.took err.old) (E.took err.new) (E.faults err.old) (E.faults err.new) (E.wants err.old) (E.wants err.new) (cycle_line file.now class.now getter.now) }
@@ -159,6 +176,9 @@ fn say_cause<E: Sink>(err: &mut E, file: &Text, cause: &LoadCause) -> bool
             say_quoted_of_file(err, file, ": bad expression at ", pointer)
         }
         LoadCause::NotInGrammar { offset } => say_of_grammar(err, file, *offset),
+        LoadCause::UnknownName { kind, name } => {
+            say_quoted_of_file(err, file, unknown_matter(*kind), name)
+        }
         LoadCause::GetterCycle { class, getter } => say_of_cycle(err, file, class, getter),
         LoadCause::UnknownField { index, name } => say_of_field(err, file, *index, name),
         LoadCause::ReadFault => say_of_file(err, file, ": read fault\n"),

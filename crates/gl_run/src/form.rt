@@ -5,7 +5,7 @@ ghost use Rattle.gl_value.specs.Plain.{plain_pair};
 ghost use Rattle.gl_ast.specs.Template.{body_of};
 ghost use Rattle.gl_ast.specs.View.{expr_view, stmt_view};
 ghost use Rattle.gl_meaning.specs.View.{event_view, script_view};
-ghost use Rattle.gl_load.specs.View.{app_view};
+ghost use Rattle.gl_load.specs.View.{whole_view};
 ghost use Rattle.gl_run.specs.Form.{cells_of, lone_cells, is_field, is_small, are_small, known_tree, set_of, sets_of, form_of};
 ghost use Rattle.gl_run.specs.Forms.{Fails};
 ghost use Rattle.gl_run.specs.Loads.{seen_app};
@@ -14,6 +14,7 @@ ghost use Rattle.gl_run.specs.Seen.{seen_set};
 use crate::FormFault;
 use crate::load::App;
 use gl_ast::{Body, Expr, Stmt};
+use gl_load::Loaded;
 use gl_meaning::{Classes, Event, Fields, Script};
 use gl_value::{NamedValues, Text, Value};
 use std::alloc::{AllocError, Global};
@@ -123,13 +124,13 @@ fn sets_of(alloc: Global, script: &Script) -> Result<NamedValues, FormFault>
 
 /// What is played of an application and its script, where they are of the form.
 #[tactic(auto, unfolding(crate::specs::Form::form_of))]
-pub fn form_of(alloc: Global, loaded: gl_load::App, script: &Script) -> Result<App, FormFault>
-    ensures { Gives Fails seen_app result (form_of (app_view loaded) (script_view script.now)) }
+pub fn form_of(alloc: Global, loaded: Loaded) -> Result<App, FormFault>
+    ensures { Gives Fails seen_app result (form_of (whole_view loaded).parts (whole_view loaded).events) }
 {
-    let fields = lone_cells(alloc, &loaded.manifest.classes)?;
-    let tree = loaded.templates.into_only().ok_or(FormFault::NotBuilt)?;
-    let tree = known_tree(&fields, tree)?;
-    let events = sets_of(alloc, script)?;
+    let fields = lone_cells(alloc, &loaded.app.manifest().classes)?;
+    let template = loaded.templates.into_only().ok_or(FormFault::NotBuilt)?;
+    let tree = known_tree(&fields, template.into_body())?;
+    let events = sets_of(alloc, &loaded.script)?;
     Ok(App {
         tree,
         fields,

@@ -1,17 +1,17 @@
 // Loads what is played, from a shelf.
-ghost use Rattle.std.specs.Prelude.{◌≡◌, ◌≤◌, ◌∷◌, [], List, Some, IfErr, MatchOption, option_map};
+ghost use Rattle.std.specs.Prelude.{◌≡◌, ◌≤◌, ◌∷◌, [], List, Some, IfErr};
 ghost use Rattle.std.specs.Str.{chars};
 ghost use Rattle.gl_ast.specs.Template.{body_of};
 ghost use Rattle.gl_outside.specs.Shelf.{Entry};
-ghost use Rattle.gl_meaning.specs.View.{class_view, manifest_view};
-ghost use Rattle.gl_run.specs.Load.{class_named, tree_in, load_of, fetched};
+ghost use Rattle.gl_load.specs.Load.{app_fetched, whole_fetched};
+ghost use Rattle.gl_load.specs.View.{app_view};
+ghost use Rattle.gl_run.specs.Load.{tree_in, parts_in, load_of};
 ghost use Rattle.gl_run.specs.Loads.{seen_app, Loads, Causes, FailsAmong};
 
 use crate::RunFault;
 use crate::form::form_of;
 use gl_ast::{Body, Template};
-use gl_load::{fault_in, load_app, load_script, template_in};
-use gl_meaning::{Class, Manifest};
+use gl_load::{Application, fault_in, load_app, template_in};
 use gl_outside::Shelf;
 use gl_value::NamedValues;
 use std::alloc::Global;
@@ -29,16 +29,18 @@ pub fn template_of<S: Shelf>(alloc: Global, shelf: &mut S, name: &str) -> Result
     }
 }
 
-// The class that the root names.
-fn root_of(manifest: &Manifest) -> Option<&Class>
-    ensures { option_map (λ c. class_view c.now) result ≡ class_named manifest.now.root manifest.now.classes }
+/// The application of a manifest, or why there is none.
+#[tactic(auto, unfolding(crate::specs::Load::parts_in))]
+pub fn application_of<S: Shelf>(
+    alloc: Global,
+    shelf: &mut S,
+    manifest: &str,
+) -> Result<Application, RunFault>
+    ensures told { (files : List Entry) → S.holds shelf.old ≡ Some files → Loads app_view result (parts_in files (chars manifest.now)) }
+    ensures causes { IfErr result (λ e. Causes e (S.misses shelf.old) (S.misses shelf.new) (S.faults shelf.old) (S.faults shelf.new)) }
+    ensures named { (files : List Entry) → S.holds shelf.old ≡ Some files → IfErr result (λ e. FailsAmong e (app_fetched files (chars manifest.now))) }
 {
-    for class in manifest.classes.as_slice() {
-        if manifest.root.same(&class.name) {
-            return Some(class);
-        }
-    }
-    None
+    Ok(load_app(alloc, shelf, manifest)?)
 }
 
 /// What is played: the tree of the template, the fields with their first values, and the fields that the events set,
@@ -50,8 +52,8 @@ pub struct App {
     pub events: NamedValues,
 }
 
-/// Loads what is played, or answers the first refusal: the application is loaded, then the script, and then they are to be
-/// of the form that is built so far. Where the root names no class, the script is not fetched.
+/// Loads what is played, or answers the first refusal: the application and its script are loaded, and then they are to be of
+/// the form that is built so far.
 #[tactic(auto, unfolding(crate::specs::Load::load_of))]
 pub fn load<S: Shelf>(
     alloc: Global,
@@ -63,10 +65,8 @@ pub fn load<S: Shelf>(
         → Loads seen_app result (load_of files (chars manifest.now) (chars script.now)) }
     ensures causes { IfErr result (λ e. Causes e (S.misses shelf.old) (S.misses shelf.new) (S.faults shelf.old) (S.faults shelf.new)) }
     ensures named { (files : List Entry) → S.holds shelf.old ≡ Some files
-        → IfErr result (λ e. FailsAmong e (fetched files (chars manifest.now) (chars script.now))) }
+        → IfErr result (λ e. FailsAmong e (whole_fetched files (chars manifest.now) (chars script.now))) }
 {
-    let loaded = load_app(alloc, shelf, manifest)?;
-    let root = root_of(&loaded.manifest).ok_or(RunFault::NotBuilt)?;
-    let script = load_script(alloc, shelf, root, script)?;
-    Ok(form_of(alloc, loaded, &script)?)
+    let loaded = gl_load::load(alloc, shelf, manifest, script)?;
+    Ok(form_of(alloc, loaded)?)
 }

@@ -1,11 +1,13 @@
-// Writes the canonical spelling and the wire of a template.
+// Writes the canonical spelling and the wire of a template, and how many classes there are.
 ghost use Rattle.std.specs.Prelude.{◌≡◌, ◌<◌, ◌∷◌, [], IfOk, IsErrOf};
 ghost use Rattle.gl_ast.specs.Template.{body_of};
-ghost use Rattle.gl_run.specs.Output.{shown_text, wire_line};
+ghost use Rattle.gl_load.specs.View.{app_view};
+ghost use Rattle.gl_run.specs.Output.{shown_text, wire_line, classes_line};
 ghost use Rattle.gl_run.specs.Plays.{Plays};
 
 use crate::session::{PlayFault, put_text};
 use gl_ast::{Body, Template};
+use gl_load::Application;
 use gl_outside::Sink;
 use gl_show::show_body;
 use gl_value::Text;
@@ -47,5 +49,29 @@ pub fn write_wire<K: Sink>(alloc: Global, template: &Template, out: &mut K) -> R
     ensures failed { IsErrOf result PlayFault.WriteFault → K.faults out.old < K.faults out.new }
 {
     let text = wire_line(alloc, template)?;
+    put_text(out, &text)
+}
+
+// How many classes there are, and a line feed.
+fn classes_line(alloc: Global, application: &Application) -> Result<Text, AllocError>
+    ensures { IfOk result (λ t. t ≡ classes_line (app_view application.now)) }
+{
+    let mut text = Text::new(alloc);
+    text.push_ascii("classes ")?;
+    text.push_number(application.app.manifest().classes.len() as u128)?;
+    text.push_ascii("\n")?;
+    Ok(text)
+}
+
+/// Writes how many classes an application has, and a line feed, in one put.
+pub fn write_classes<K: Sink>(
+    alloc: Global,
+    application: &Application,
+    out: &mut K,
+) -> Result<(), PlayFault>
+    ensures plays { Plays result (K.took out.old) (K.took out.new) (classes_line (app_view application.now) ∷ []) }
+    ensures failed { IsErrOf result PlayFault.WriteFault → K.faults out.old < K.faults out.new }
+{
+    let text = classes_line(alloc, application)?;
     put_text(out, &text)
 }

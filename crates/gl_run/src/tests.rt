@@ -72,7 +72,7 @@ const ROWS: [Row; 16] = [
         [NONE, "{{nope}}", "[]"],
         Status::Refused,
         "",
-        "not built yet\n",
+        "\"app.hbs\": unknown helper \"nope\"\n",
     ),
     (
         "no such field",
@@ -80,7 +80,7 @@ const ROWS: [Row; 16] = [
         [ONE, "{{this.m}}", "[]"],
         Status::Refused,
         "",
-        "not built yet\n",
+        "\"app.hbs\": unknown member \"m\"\n",
     ),
     (
         "an end tag of another",
@@ -278,16 +278,151 @@ const MANIFESTS: [Row; 7] = [
     (
         "a root that names no class",
         RUN,
-        [NO_ROOT, "", "["],
+        [NO_ROOT, "{{nope}}", "["],
         Status::Refused,
         "",
-        "not built yet\n",
+        "\"m.json\": unknown component \"Other\"\n",
     ),
 ];
 
 #[test]
 fn manifests(rt: HostRuntime) -> Result<(), Fail> {
     for row in &MANIFESTS {
+        check_row(&rt, rt.alloc(), row)?;
+    }
+    Ok(())
+}
+
+const ACTION: &str =
+    "{\"classes\":{\"App\":{\"actions\":{\"a\":{\"do\":[{\"set\":\"zz\",\"to\":\"this.y\",\"when\":\"this.a\"}]}},\"getters\":{\"g\":\"this.g\"},\"template\":\"app.hbs\"}},\"root\":\"App\"}";
+
+const WHEN: &str =
+    "{\"classes\":{\"App\":{\"actions\":{\"a\":{\"do\":[{\"call\":\"@f\",\"when\":\"(neither 1)\",\"with\":[\"this.y\"]}]}},\"template\":\"app.hbs\"}},\"root\":\"App\"}";
+
+// Names that are not known: the first is told, with its file, before any cycle, and no script is fetched.
+const NAMES: [Row; 8] = [
+    (
+        "a helper, without a script",
+        &["run", "m.json", "none.json"],
+        [NONE, "{{nope}}", ""],
+        Status::Refused,
+        "",
+        "\"app.hbs\": unknown helper \"nope\"\n",
+    ),
+    (
+        "a class",
+        RUN,
+        [NONE, "<App /><Nope {{tip}} @x={{y.z}} />", "["],
+        Status::Refused,
+        "",
+        "\"app.hbs\": unknown component \"Nope\"\n",
+    ),
+    (
+        "a modifier",
+        RUN,
+        [NONE, "<p {{on \"click\" @a}} {{tip this.x}}></p>", "["],
+        Status::Refused,
+        "",
+        "\"app.hbs\": unknown modifier \"tip\"\n",
+    ),
+    (
+        "a local",
+        RUN,
+        [ONE, "{{#let this.n as |x|}}{{x.y}}{{/let}}{{x.y}}", "["],
+        Status::Refused,
+        "",
+        "\"app.hbs\": unknown local \"x\"\n",
+    ),
+    (
+        "a field that a step sets",
+        RUN,
+        [ACTION, "a", "["],
+        Status::Refused,
+        "",
+        "\"m.json\": unknown field \"zz\"\n",
+    ),
+    (
+        "a template before a step",
+        RUN,
+        [ACTION, "{{this.q}}", "["],
+        Status::Refused,
+        "",
+        "\"app.hbs\": unknown member \"q\"\n",
+    ),
+    (
+        "a helper in a step",
+        RUN,
+        [WHEN, "", "["],
+        Status::Refused,
+        "",
+        "\"m.json\": unknown helper \"neither\"\n",
+    ),
+    (
+        "a cycle after all names",
+        RUN,
+        [OF_TWO, "{{this.a}}", "["],
+        Status::Refused,
+        "",
+        "\"m.json\": getter cycle through App.a\n",
+    ),
+];
+
+#[test]
+fn names(rt: HostRuntime) -> Result<(), Fail> {
+    for row in &NAMES {
+        check_row(&rt, rt.alloc(), row)?;
+    }
+    Ok(())
+}
+
+const TODO: &str =
+    "{\"classes\":{\"App\":{\"fields\":{\"s\":true},\"template\":\"app.hbs\"},\"Kid\":{\"actions\":{\"inc\":{\"do\":[{\"set\":\"c\",\"to\":\"(add this.c 1)\"}]}},\"fields\":{\"c\":0},\"teardown\":true,\"template\":\"s.json\"}},\"root\":\"App\"}";
+
+const CHECK: &[&str] = &["check", "m.json"];
+
+// An application that is checked; the second class has the third file as its template.
+const CHECKED: [Row; 4] = [
+    (
+        "two classes",
+        CHECK,
+        [
+            TODO,
+            "{{#if this.s}}<Kid />{{/if}}",
+            "<b {{on \"click\" this.inc}}>{{this.c}}</b>",
+        ],
+        Status::Done,
+        "classes 2\n",
+        "",
+    ),
+    (
+        "a name that is not known",
+        CHECK,
+        [TODO, "<Kid />", "{{this.s}}"],
+        Status::Refused,
+        "",
+        "\"s.json\": unknown member \"s\"\n",
+    ),
+    (
+        "a cycle",
+        CHECK,
+        [OF_TWO, "", ""],
+        Status::Refused,
+        "",
+        "\"m.json\": getter cycle through App.a\n",
+    ),
+    (
+        "a word too many",
+        &["check", "m.json", "s.json"],
+        [TODO, "", ""],
+        Status::Usage,
+        "",
+        "bad command line\n",
+    ),
+];
+
+#[test]
+fn checked(rt: HostRuntime) -> Result<(), Fail> {
+    for row in &CHECKED {
         check_row(&rt, rt.alloc(), row)?;
     }
     Ok(())

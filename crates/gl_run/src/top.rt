@@ -3,17 +3,17 @@ ghost use Rattle.std.specs.Prelude.{◌≡◌, ◌<◌, ◌↔◌, ◌∷◌, []
 ghost use Rattle.std.specs.Str.{chars};
 ghost use Rattle.gl_outside.specs.Shelf.{Entry};
 ghost use Rattle.gl_run.specs.Lines.{Says};
-ghost use Rattle.gl_run.specs.Command.{run_command, show_command, wire_command, command_of};
-ghost use Rattle.gl_run.specs.Load.{fetched};
+ghost use Rattle.gl_run.specs.Command.{run_command, show_command, wire_command, check_command, command_of};
+ghost use Rattle.gl_load.specs.Load.{app_fetched, whole_fetched};
 ghost use Rattle.gl_run.specs.Output.{texts_of, texts_output, output_of, Answers};
 ghost use Rattle.gl_run.specs.Run.{Ending, status_of, line_of, HasCause, Tells, Completes, Untouched, fetched_by};
 
 use crate::Status;
 use crate::command::{Command, command_of};
 use crate::ending::{RunFault, say_line, status_of};
-use crate::load::{load, template_of};
+use crate::load::{application_of, load, template_of};
 use crate::session::play;
-use crate::show::{write_shown, write_wire};
+use crate::show::{write_classes, write_shown, write_wire};
 use gl_outside::{Shelf, Sink};
 use std::alloc::Global;
 
@@ -39,7 +39,7 @@ fn play_app<S: Shelf, K: Sink>(
     ensures told { (files : List Entry) → S.holds shelf.old ≡ Some files
         → Answers (status_of result) (K.took out.old) (K.took out.new) (texts_output (texts_of (run_command (chars manifest.now) (chars script.now)) files)) }
     ensures tells { (files : List Entry) → S.holds shelf.old ≡ Some files
-        → Tells result (texts_output (texts_of (run_command (chars manifest.now) (chars script.now)) files)) (fetched files (chars manifest.now) (chars script.now)) }
+        → Tells result (texts_output (texts_of (run_command (chars manifest.now) (chars script.now)) files)) (whole_fetched files (chars manifest.now) (chars script.now)) }
     ensures causes { HasCause result (S.misses shelf.old) (S.misses shelf.new) (S.faults shelf.old) (S.faults shelf.new) (K.faults out.old) (K.faults out.new) }
     ensures untouched { Untouched result (K.took out.old) (K.took out.new) }
     ensures used { IsErrOf result RunFault.Usage → ⊥ }
@@ -89,6 +89,26 @@ fn wire_template<S: Shelf, K: Sink>(
     Ok(())
 }
 
+// Loads an application and writes how many classes it has.
+fn check_app<S: Shelf, K: Sink>(
+    alloc: Global,
+    manifest: &str,
+    shelf: &mut S,
+    out: &mut K,
+) -> Result<(), RunFault>
+    ensures told { (files : List Entry) → S.holds shelf.old ≡ Some files
+        → Answers (status_of result) (K.took out.old) (K.took out.new) (texts_output (texts_of (check_command (chars manifest.now)) files)) }
+    ensures tells { (files : List Entry) → S.holds shelf.old ≡ Some files
+        → Tells result (texts_output (texts_of (check_command (chars manifest.now)) files)) (app_fetched files (chars manifest.now)) }
+    ensures causes { HasCause result (S.misses shelf.old) (S.misses shelf.new) (S.faults shelf.old) (S.faults shelf.new) (K.faults out.old) (K.faults out.new) }
+    ensures untouched { Untouched result (K.took out.old) (K.took out.new) }
+    ensures used { IsErrOf result RunFault.Usage → ⊥ }
+{
+    let application = application_of(alloc, shelf, manifest)?;
+    write_classes(alloc, &application, out)?;
+    Ok(())
+}
+
 // Does what the words say, but for the line on the error sink.
 fn attempt<S: Shelf, K: Sink>(
     alloc: Global,
@@ -108,17 +128,20 @@ fn attempt<S: Shelf, K: Sink>(
         Some(Command::Run { manifest, script }) => play_app(alloc, manifest, script, shelf, out),
         Some(Command::Show { template }) => show_template(alloc, template, shelf, out),
         Some(Command::Wire { template }) => wire_template(alloc, template, shelf, out),
+        Some(Command::Check { manifest }) => check_app(alloc, manifest, shelf, out),
         None => Err(RunFault::Usage),
     }
 }
 
 /// Does what the words say, over a shelf of files and two sinks, and gives the status.
 ///
-/// The words are `run MANIFEST SCRIPT`, `show TEMPLATE` or `wire TEMPLATE`; all else is [`Status::Usage`]. For `run` the manifest is
-/// fetched and read, then the template of each class, then the cycles of getters are sought, then the script is fetched and
-/// read, before anything is written. Then `out` gets the text of the first turn and of the turn of each event, one put
-/// each. What is refused for nothing else and is not of the small form is refused as not built yet. For `show` and `wire` the template is fetched and read, and `out` gets its canonical spelling, or the text of its
-/// wire, and a line feed, in one put. `err` gets the line of the status, which is none at [`Status::Done`].
+/// The words are `run MANIFEST SCRIPT`, `check MANIFEST`, `show TEMPLATE` or `wire TEMPLATE`; all else is [`Status::Usage`]. For
+/// `run` and `check` the manifest is fetched and read, then the template of each class, then unknown names are sought, and
+/// then cycles of getters. `check` then writes how many classes there are. For `run` the script is fetched and read, before
+/// anything is written; then `out` gets the text of the first turn and of the turn of each event, one put each. What is refused
+/// for nothing else and is not of the small form is refused as not built yet. For `show` and `wire` the template is fetched and
+/// read, and `out` gets its canonical spelling, or the text of its wire, and a line feed, in one put. `err` gets the line of
+/// the status, which is none at [`Status::Done`].
 pub fn run<S: Shelf, K: Sink, E: Sink>(
     alloc: Global,
     words: &[&str],

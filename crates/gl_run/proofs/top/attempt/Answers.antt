@@ -2,7 +2,7 @@ use Rattle.std.proofs.Common.{◌≡◌, List, Some, None, map, refl, rules}
 use Rattle.std.specs.Str.{chars}
 use Rattle.gl_base.specs.Texts.{Text}
 use Rattle.gl_base.proofs.Taken.{takes_nothing}
-use Rattle.gl_run.specs.Command.{Command, run_command, show_command, wire_command, command_of}
+use Rattle.gl_run.specs.Command.{Command, run_command, show_command, wire_command, check_command, command_of}
 use Rattle.gl_run.proofs.Outputs.{command_says, usage_output, command_fetches}
 use Rattle.gl_run.proofs.top.attempt.Goals as goal
 
@@ -47,6 +47,20 @@ returns-in-Some-Wire-clause-tells g c = λ files e.
     let command : Command = wire_command (chars c.in-Some-Wire.template.now) in
     let is : command_of words ≡ Some command = search rules in
     rw (command_says words files command is, command_fetches words files command is) (c.wire_template.ensures.tells files e)
+
+pub returns-in-Some-Check-clause-told : goal.returns-in-Some-Check-clause-told
+returns-in-Some-Check-clause-told g c = λ files e.
+    let words : List Text = map (λ w. chars w.now) c.args.words.now in
+    let command : Command = check_command (chars c.in-Some-Check.manifest.now) in
+    let is : command_of words ≡ Some command = search rules in
+    rw (command_says words files command is) (c.check_app.ensures.told files e)
+
+pub returns-in-Some-Check-clause-tells : goal.returns-in-Some-Check-clause-tells
+returns-in-Some-Check-clause-tells g c = λ files e.
+    let words : List Text = map (λ w. chars w.now) c.args.words.now in
+    let command : Command = check_command (chars c.in-Some-Check.manifest.now) in
+    let is : command_of words ≡ Some command = search rules in
+    rw (command_says words files command is, command_fetches words files command is) (c.check_app.ensures.tells files e)
 
 pub returns-in-None-clause-told : goal.returns-in-None-clause-told
 returns-in-None-clause-told g c = λ files e.
