@@ -7,7 +7,7 @@ use Rattle.gl_ast.specs.Template.{Expr, Exprs, Stmt, text_stmt, comment_stmt, pu
 use Rattle.gl_ast.specs.declared.token.Token.{Token}
 use Rattle.gl_ast.specs.declared.token.TokenKind.TheVariants as k
 use Rattle.gl_parse.proofs.BlockLaws.{IsOtherwise}
-use Rattle.gl_parse.proofs.FirstTokens.{mark_falls, some_falls}
+use Rattle.gl_exprs.proofs.FirstTokens.{mark_falls, some_falls}
 use Rattle.gl_parse.proofs.Lower.{expr_falls, exprs_fall, mustache_falls, items_fall}
 
 -- bodies take no token more

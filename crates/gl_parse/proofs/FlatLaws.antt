@@ -10,13 +10,13 @@ use Rattle.gl_ast.specs.TokenText.{decoded, comment_of}
 use Rattle.gl_ast.specs.declared.token.Token.{Token}
 use Rattle.gl_ast.specs.declared.token.TokenKind.{TokenKind}
 use Rattle.gl_ast.specs.declared.token.TokenKind.TheVariants as k
-use Rattle.gl_parse.specs.ReadExpr.{read_expr, read_exprs, read_mustache, read_inner, read_called, read_token, token_expr, path_expr, stands_name, starts_expr, constant_of}
+use Rattle.gl_exprs.specs.ReadExpr.{read_expr, read_exprs, read_mustache, read_inner, read_called, read_token, token_expr, path_expr, stands_name, starts_expr, constant_of}
 use Rattle.gl_parse.specs.ReadStmt.{read_flat, read_yield, stands_opened}
-use Rattle.gl_parse.specs.Take.{same_kind, stands, stands_word, take_kind, take_word}
-use Rattle.gl_parse.proofs.FirstTokens.{took, took_mark, takes_mark, took_word, takes_word, stands_mark, stands_some, takes_some, stands_word_is, stands_is, and_true, is_bytes_eq}
+use Rattle.gl_exprs.specs.Take.{same_kind, stands, stands_word, take_kind, take_word}
+use Rattle.gl_exprs.proofs.FirstTokens.{took, took_mark, takes_mark, took_word, takes_word, stands_mark, stands_some, takes_some, stands_word_is, stands_is, and_true, is_bytes_eq}
 use Rattle.gl_parse.proofs.Lower.{read_exprs_are, reads_exprs, read_mustache_is, reads_mustache}
-use Rattle.gl_parse.proofs.ExprLists.{exprs_list, exprs_of-list, no_expr}
-use Rattle.gl_parse.proofs.Takings.{first_gave, under_gave, one_gave, some_is}
+use Rattle.gl_exprs.proofs.ExprLists.{exprs_list, exprs_of-list, no_expr}
+use Rattle.gl_exprs.proofs.Takings.{first_gave, under_gave, one_gave, some_is}
 
 abbrev pub IsRead : ℕ → List Token → Stmt × List Token → Type 0
 IsRead depth ts p = IsStmt depth ts p.0 p.1

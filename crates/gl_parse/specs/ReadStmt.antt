@@ -11,9 +11,9 @@ use Rattle.gl_ast.specs.TokenReading.{template_tokens, lone_tokens}
 use Rattle.gl_ast.specs.TokenText.{decoded, string_of, comment_of, end_name_of, parameters_of, leads}
 use Rattle.gl_ast.specs.declared.token.Token.{Token}
 use Rattle.gl_ast.specs.declared.token.TokenKind.TheVariants as k
-use Rattle.gl_parse.specs.ReadExpr.{read_exprs, read_expr, read_mustache}
+use Rattle.gl_exprs.specs.ReadExpr.{read_exprs, read_expr, read_mustache}
 use Rattle.gl_parse.specs.ReadItem.{read_tag_items}
-use Rattle.gl_parse.specs.Take.{Taken, stands, stands_word, take_kind, take_word}
+use Rattle.gl_exprs.specs.Take.{Taken, stands, stands_word, take_kind, take_word}
 
 -- how a reader of one statement, of a body and of a block's head look
 abbrev pub Reader : Type 0 → Type 0
