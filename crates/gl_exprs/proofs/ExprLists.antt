@@ -1,5 +1,5 @@
 -- Lists of expressions and arguments as the tree has them, and where none begins.
-use Rattle.std.proofs.Common.{◌≡◌, List, [], ◌∷◌, Bool, false, true, ◌||◌, ◌&&◌, not, refl, ap}
+use Rattle.std.proofs.Common.{◌≡◌, List, [], ◌∷◌, Bool, false, ◌||◌, refl, ap}
 use Rattle.gl_ast.specs.Grammar.{Mark}
 use Rattle.gl_ast.specs.Template.{Expr, Exprs, no_exprs, expr, exprs_of}
 use Rattle.gl_ast.specs.declared.token.Token.{Token}

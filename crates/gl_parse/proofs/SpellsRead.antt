@@ -1,12 +1,10 @@
 -- Bytes spell just the tree that is read from them.
-use Rattle.std.proofs.Common.{◌≡◌, ℕ, zero, suc, List, [], ◌∷◌, Bool, true, false, Option, Some, None, cond, refl, sym, ap, subst, ◌∙◌}
+use Rattle.std.proofs.Common.{◌≡◌, ℕ, List, [], ◌∷◌, true, Option, Some, refl, sym, ap, ◌∙◌}
 use Rattle.std.specs.Str.{is_utf8}
-use Rattle.gl_base.specs.Answers.{◌>>=◌}
-use Rattle.gl_ast.specs.Grammar.{Spells, SpellsExpr, deepest_nesting, deepest_calls, AreStmts, IsExpr}
+use Rattle.gl_ast.specs.Grammar.{Spells, SpellsExpr, deepest_nesting, deepest_calls, AreStmts}
 use Rattle.gl_ast.specs.Settling.{settled}
 use Rattle.gl_ast.specs.Template.{Expr, Body}
 use Rattle.gl_ast.specs.TokenReading.{template_tokens, lone_tokens}
-use Rattle.gl_ast.specs.Tokens.{IsTokens, IsLoneTokens}
 use Rattle.gl_ast.specs.declared.mode.Mode.TheVariants as m
 use Rattle.gl_ast.specs.declared.token.Token.{Token}
 use Rattle.gl_ast.proofs.Readings.{reading_read, read_reading}

@@ -1,13 +1,12 @@
 -- Elements and components: what is read is spelled, and what is spelled is read, where that holds of their bodies.
-use Rattle.std.proofs.Common.{◌≡◌, ◌<◌, ◌≤◌, ℕ, suc, List, [], ◌∷◌, Bool, true, false, ◌&&◌, ◌||◌, Option, Some, None, cond, option_map, ◌⊎◌, inl, inr, length, map, drop, refl, sym, ap, subst, ◌∙◌, arith, is_some}
+use Rattle.std.proofs.Common.{◌≡◌, ℕ, suc, List, [], ◌∷◌, Bool, true, false, Some, inl, inr, length, map, refl, sym, ap, subst, ◌∙◌, arith}
 use Rattle.std.specs.Prelude.{codes, ◌==◌}
 use Rattle.std.proofs.lemmas.Bool.{eqb-true}
 use Rattle.std.proofs.lemmas.Bool.Decides.{nat_tests}
-use Rattle.gl_base.specs.Answers.{◌>>=◌}
 use Rattle.gl_base.specs.Texts.{Text}
-use Rattle.gl_ast.specs.Grammar.{Mark, Stands, IsStmt, AreStmts, IsOpening, IsEndTag, IsElementRest, IsComponentRest, AreItems, AreParameters, Item, part_item, parts_among, arguments_among, is_void}
+use Rattle.gl_ast.specs.Grammar.{Mark, IsStmt, AreStmts, IsOpening, IsEndTag, IsElementRest, IsComponentRest, AreItems, AreParameters, Item, part_item, parts_among, arguments_among}
 use Rattle.gl_ast.specs.Marks.{is_small, is_capital}
-use Rattle.gl_ast.specs.Template.{Part, AttrValue, Stmt, element, component_stmt, Body, end, Slots, no_slots, block}
+use Rattle.gl_ast.specs.Template.{Part, AttrValue, Stmt, element, component_stmt, Body, Slots, no_slots, block}
 use Rattle.gl_ast.specs.TokenText.{end_name_of, parameters_of, leads}
 use Rattle.gl_ast.specs.declared.token.Token.{Token}
 use Rattle.gl_ast.specs.declared.token.TokenKind.{TokenKind}

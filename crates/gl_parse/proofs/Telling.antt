@@ -1,5 +1,5 @@
 -- What a fault tells.
-use Rattle.std.proofs.Common.{◌≡◌, ℕ, true, false, Option, Some, None, Err, sym, ◌∙◌}
+use Rattle.std.proofs.Common.{◌≡◌, Option, Some, Err, sym, ◌∙◌}
 use Rattle.gl_exprs.specs.Fault.{Fails, Tells, is_memory}
 use Rattle.gl_exprs.specs.declared.fault.ParseFault.{ParseFault}
 use Rattle.gl_exprs.specs.declared.fault.ParseFault.TheVariants as v
