@@ -1,25 +1,24 @@
 -- Blocks and else: what is read is spelled, and what is spelled is read, where that holds of the bodies in them.
-use Rattle.std.proofs.Common.{◌≡◌, ◌<◌, ◌≤◌, ℕ, zero, suc, List, [], ◌∷◌, Bool, true, false, ◌&&◌, ◌||◌, Option, Some, None, cond, option_map, ◌⊎◌, inl, inr, length, refl, sym, ap, subst, ◌∙◌, arith}
+use Rattle.std.proofs.Common.{◌≡◌, ◌≤◌, ℕ, suc, List, [], ◌∷◌, Bool, true, false, ◌||◌, Some, None, cond, ◌⊎◌, inl, inr, length, refl, sym, ap, subst, ◌∙◌, arith}
 use Rattle.std.specs.Prelude.{codes, nat_le}
 use Rattle.std.specs.Str.{bytes_eq}
 use Rattle.std.proofs.lemmas.Bool.Decides.{nat_tests}
-use Rattle.gl_base.specs.Answers.{◌>>=◌}
 use Rattle.gl_base.specs.Texts.{Text}
-use Rattle.gl_ast.specs.Grammar.{deepest_calls, Mark, Stands, Word, IsExpr, AreExprs, IsStmt, AreStmts, IsIf, IsEach, IsLet, IsElse, IsChained, IsKey, IsClosing, AreParameters, if_word, is_some_expr}
-use Rattle.gl_ast.specs.Template.{Expr, Exprs, no_exprs, expr, exprs_of, Stmt, text_stmt, if_stmt, each, let_stmt, Body, end, stmt}
+use Rattle.gl_ast.specs.Grammar.{deepest_calls, Mark, Word, IsExpr, AreExprs, IsStmt, AreStmts, IsElse, IsChained, IsKey, IsClosing, AreParameters, if_word, is_some_expr}
+use Rattle.gl_ast.specs.Template.{Expr, Exprs, exprs_of, Stmt, if_stmt, each, let_stmt, Body, end, stmt}
 use Rattle.gl_ast.specs.TokenText.{string_of}
 use Rattle.gl_ast.specs.declared.token.Token.{Token}
 use Rattle.gl_ast.specs.declared.token.TokenKind.{TokenKind}
 use Rattle.gl_ast.specs.declared.token.TokenKind.TheVariants as k
-use Rattle.gl_parse.specs.ReadExpr.{read_expr, read_exprs, starts_expr}
+use Rattle.gl_exprs.specs.ReadExpr.{read_expr, read_exprs, starts_expr}
 use Rattle.gl_parse.specs.ReadStmt.{Reader, ends_body, stands_opened, only, read_parameters, read_key, read_two, read_opened, Front, if_front, each_front, let_front, some_values, read_if, read_each, read_let, read_front, read_after_body, read_head, read_after_else, read_else, word_of, take_closing, read_block}
-use Rattle.gl_parse.specs.Take.{same_kind, stands, stands_word, take_kind, take_word}
-use Rattle.gl_parse.proofs.ExprLists.{exprs_list, exprs_of-list, no_expr}
-use Rattle.gl_parse.proofs.FirstTokens.{took, took_mark, takes_mark, takes_some, took_word, takes_word, stands_mark, stands_some, test_some, bytes_eq_is, is_bytes_eq, stands_is}
+use Rattle.gl_exprs.specs.Take.{same_kind, stands, stands_word, take_kind, take_word}
+use Rattle.gl_exprs.proofs.ExprLists.{exprs_list, exprs_of-list, no_expr}
+use Rattle.gl_exprs.proofs.FirstTokens.{took, took_mark, takes_mark, takes_some, took_word, takes_word, stands_mark, test_some, bytes_eq_is, is_bytes_eq, stands_is}
 use Rattle.gl_parse.proofs.FlatLaws.{IsRead, opened_word, not_opened}
 use Rattle.gl_parse.proofs.Lower.{read_expr_is, reads_expr, read_exprs_are, reads_exprs}
 use Rattle.gl_parse.proofs.TagLaws.{Sound, Complete, read_parameters_are, reads_parameters}
-use Rattle.gl_parse.proofs.Takings.{first_gave, under_gave, one_gave, some_is}
+use Rattle.gl_exprs.proofs.Takings.{first_gave, under_gave, one_gave, some_is}
 
 -- an else, and the block that it has as its head
 abbrev pub IsOtherwise : ℕ → List Token → Body → List Token → Type 0

@@ -1,5 +1,5 @@
 -- Reading statements one after another.
-use Rattle.std.proofs.Common.{◌≡◌, ◌<◌, ◌≤◌, ◌-◌, ◌+◌, ℕ, zero, suc, List, [], ◌∷◌, ◌++◌, Bool, true, false, ◌||◌, ◌⊎◌, inl, inr, Option, Some, None, cond, length, drop, refl, sym, ap, subst, ◌∙◌, arith, append_assoc, append-nil}
+use Rattle.std.proofs.Common.{◌≡◌, ◌<◌, ◌≤◌, ◌-◌, ℕ, zero, suc, List, [], ◌∷◌, ◌++◌, Bool, true, false, ◌||◌, Option, Some, None, length, drop, refl, sym, ap, ◌∙◌, arith, append_assoc, append-nil}
 use Rattle.std.specs.Prelude.{codes}
 use Rattle.gl_base.specs.Answers.{◌>>=◌}
 use Rattle.gl_ast.specs.Grammar.{is_silent}
@@ -7,11 +7,11 @@ use Rattle.gl_ast.specs.Template.{Stmt}
 use Rattle.gl_ast.specs.declared.token.Token.{Token}
 use Rattle.gl_ast.specs.declared.token.TokenKind.TheVariants as k
 use Rattle.gl_parse.specs.ReadStmt.{Reader, ends_body, is_end, stands_silent, stands_opened, read_stmts, read_body, read_nested, read_flat, read_block_with, read_stmt, read_chained}
-use Rattle.gl_parse.specs.Fault.{Fails}
-use Rattle.gl_parse.specs.Take.{Taken, stands, stands_word}
-use Rattle.gl_parse.specs.declared.fault.ParseFault.{ParseFault}
-use Rattle.gl_parse.specs.declared.fault.ParseFault.TheVariants as v
-use Rattle.gl_parse.proofs.FirstTokens.{stands_is, and_true}
+use Rattle.gl_exprs.specs.Fault.{Fails}
+use Rattle.gl_exprs.specs.Take.{Taken, stands, stands_word}
+use Rattle.gl_exprs.specs.declared.fault.ParseFault.{ParseFault}
+use Rattle.gl_exprs.specs.declared.fault.ParseFault.TheVariants as v
+use Rattle.gl_exprs.proofs.FirstTokens.{stands_is, and_true}
 
 -- what was read before, and what is read then
 abbrev pub after_stmts : List Stmt → Taken (List Stmt) → Taken (List Stmt)

@@ -1,13 +1,13 @@
 -- A statement takes at least one token.
-use Rattle.std.proofs.Common.{◌≡◌, ◌<◌, ◌≤◌, ◌+◌, ℕ, zero, suc, List, [], ◌∷◌, Bool, true, false, cond, ◌⊎◌, inl, inr, length, map, refl, sym, ap, subst, ◌∙◌, arith}
+use Rattle.std.proofs.Common.{◌<◌, ◌≤◌, ℕ, zero, suc, List, [], ◌∷◌, Bool, true, false, cond, inl, inr, length, map, ap, arith}
 use Rattle.std.specs.Prelude.{codes}
 use Rattle.gl_base.specs.Texts.{Text}
-use Rattle.gl_ast.specs.Grammar.{deepest_calls, part_item, Mark, Stands, Word, IsKey, AreParameters, IsIf, IsEach, IsLet, IsElse, IsClosing, IsStmt, AreStmts, IsChained, IsComponentRest, IsElementRest, is_silent, after_silent, if_word}
-use Rattle.gl_ast.specs.Template.{Expr, Exprs, Stmt, text_stmt, comment_stmt, put, element, component_stmt, if_stmt, each, let_stmt, yield, Body, end, stmt, Slots, no_slots, block}
+use Rattle.gl_ast.specs.Grammar.{deepest_calls, part_item, IsKey, AreParameters, IsClosing, IsStmt, AreStmts, IsChained, IsComponentRest, IsElementRest, is_silent, after_silent, if_word}
+use Rattle.gl_ast.specs.Template.{Exprs, Stmt, text_stmt, comment_stmt, put, element, component_stmt, if_stmt, each, let_stmt, yield, Body, end, stmt, Slots, no_slots, block}
 use Rattle.gl_ast.specs.declared.token.Token.{Token}
 use Rattle.gl_ast.specs.declared.token.TokenKind.TheVariants as k
 use Rattle.gl_parse.proofs.BlockLaws.{IsOtherwise}
-use Rattle.gl_parse.proofs.FirstTokens.{mark_falls, some_falls}
+use Rattle.gl_exprs.proofs.FirstTokens.{mark_falls, some_falls}
 use Rattle.gl_parse.proofs.Lower.{expr_falls, exprs_fall, mustache_falls, items_fall}
 
 -- bodies take no token more

@@ -1,22 +1,21 @@
 -- Statements without another in them: what is read is spelled, and what is spelled is read.
-use Rattle.std.proofs.Common.{◌≡◌, ◌<◌, ◌≤◌, ℕ, List, [], ◌∷◌, Bool, true, false, ◌&&◌, ◌||◌, Option, Some, None, cond, option_map, ◌⊎◌, inl, inr, length, drop, refl, sym, ap, subst, ◌∙◌, arith}
+use Rattle.std.proofs.Common.{◌≡◌, ℕ, List, ◌∷◌, Bool, true, false, Some, None, option_map, inl, inr, length, drop, refl, sym, ap, subst, ◌∙◌, arith}
 use Rattle.std.specs.Prelude.{codes}
 use Rattle.std.specs.Str.{bytes_eq}
-use Rattle.gl_base.specs.Answers.{◌>>=◌}
 use Rattle.gl_base.specs.Texts.{Text}
 use Rattle.gl_ast.specs.Grammar.{deepest_calls, Mark, Stands, Word, IsStmt, AreExprs, IsMustache}
-use Rattle.gl_ast.specs.Template.{Expr, Exprs, exprs_of, Stmt, text_stmt, comment_stmt, put, yield}
+use Rattle.gl_ast.specs.Template.{Expr, Exprs, Stmt, text_stmt, comment_stmt, put, yield}
 use Rattle.gl_ast.specs.TokenText.{decoded, comment_of}
 use Rattle.gl_ast.specs.declared.token.Token.{Token}
 use Rattle.gl_ast.specs.declared.token.TokenKind.{TokenKind}
 use Rattle.gl_ast.specs.declared.token.TokenKind.TheVariants as k
-use Rattle.gl_parse.specs.ReadExpr.{read_expr, read_exprs, read_mustache, read_inner, read_called, read_token, token_expr, path_expr, stands_name, starts_expr, constant_of}
+use Rattle.gl_exprs.specs.ReadExpr.{read_expr, read_exprs, read_mustache, read_inner, read_called, read_token, token_expr, path_expr, stands_name, starts_expr, constant_of}
 use Rattle.gl_parse.specs.ReadStmt.{read_flat, read_yield, stands_opened}
-use Rattle.gl_parse.specs.Take.{same_kind, stands, stands_word, take_kind, take_word}
-use Rattle.gl_parse.proofs.FirstTokens.{took, took_mark, takes_mark, took_word, takes_word, stands_mark, stands_some, takes_some, stands_word_is, stands_is, and_true, is_bytes_eq}
+use Rattle.gl_exprs.specs.Take.{same_kind, stands, stands_word, take_kind, take_word}
+use Rattle.gl_exprs.proofs.FirstTokens.{took, took_mark, takes_mark, took_word, takes_word, stands_mark, stands_some, takes_some, stands_word_is, stands_is, and_true, is_bytes_eq}
 use Rattle.gl_parse.proofs.Lower.{read_exprs_are, reads_exprs, read_mustache_is, reads_mustache}
-use Rattle.gl_parse.proofs.ExprLists.{exprs_list, exprs_of-list, no_expr}
-use Rattle.gl_parse.proofs.Takings.{first_gave, under_gave, one_gave, some_is}
+use Rattle.gl_exprs.proofs.ExprLists.{exprs_list, exprs_of-list, no_expr}
+use Rattle.gl_exprs.proofs.Takings.{first_gave, under_gave, one_gave, some_is}
 
 abbrev pub IsRead : ℕ → List Token → Stmt × List Token → Type 0
 IsRead depth ts p = IsStmt depth ts p.0 p.1

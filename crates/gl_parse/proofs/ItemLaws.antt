@@ -12,13 +12,13 @@ use Rattle.gl_ast.specs.declared.token.Token.{Token}
 use Rattle.gl_ast.specs.declared.token.TokenKind.{TokenKind}
 use Rattle.gl_ast.specs.declared.token.TokenKind.TheVariants as k
 use Rattle.gl_parse.specs.ReadItem.{read_attribute, read_at, read_argument, read_modifier, read_spread, starts_item, read_item, read_items}
-use Rattle.gl_parse.specs.Take.{same_kind, stands}
-use Rattle.gl_parse.proofs.Chains.{Chain, many_started, IsRead, chain_many}
-use Rattle.gl_parse.proofs.ExprLaws.{read_arguments_are, reads_arguments}
-use Rattle.gl_parse.proofs.Firsts.{kind_is, takes_kind, kind_stands, other_stands}
+use Rattle.gl_exprs.specs.Take.{same_kind, stands}
+use Rattle.gl_exprs.proofs.Chains.{Chain, many_started, IsRead, chain_many}
+use Rattle.gl_exprs.proofs.ExprLaws.{read_arguments_are, reads_arguments}
+use Rattle.gl_exprs.proofs.Firsts.{kind_is, takes_kind, kind_stands, other_stands}
 use Rattle.gl_parse.proofs.Items.{modifier_shorter, comments_leave, starts_next, read_next, next_shorter}
-use Rattle.gl_parse.proofs.NameLaws.{read_name_is, reads_name}
-use Rattle.gl_parse.proofs.Starts.{end_mustache}
+use Rattle.gl_exprs.proofs.NameLaws.{read_name_is, reads_name}
+use Rattle.gl_exprs.proofs.Starts.{end_mustache}
 use Rattle.gl_parse.proofs.ShorterValues.{value_shorter}
 use Rattle.gl_parse.proofs.ValueLaws.{reads_value, read_given_is, reads_given}
 

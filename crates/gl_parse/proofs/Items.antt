@@ -9,11 +9,11 @@ use Rattle.gl_ast.specs.Template.{AttrValue, Part}
 use Rattle.gl_ast.specs.TokenText.{leads}
 use Rattle.gl_ast.specs.declared.token.Token.{Token}
 use Rattle.gl_ast.specs.declared.token.TokenKind.TheVariants as k
-use Rattle.gl_parse.specs.ReadExpr.{read_expr}
+use Rattle.gl_exprs.specs.ReadExpr.{read_expr}
 use Rattle.gl_parse.specs.ReadItem.{read_at, read_attribute, read_argument, read_modifier, read_spread, starts_item, read_item, read_items, read_tag_items}
-use Rattle.gl_parse.specs.Take.{Taken, stands, read_many}
-use Rattle.gl_parse.proofs.Many.{IsLeft, many_start, many_go, many_fail, many_end}
-use Rattle.gl_parse.proofs.Shorter.{left_is, kind_shorter, name_shorter, arguments_leave, expr_shorter}
+use Rattle.gl_exprs.specs.Take.{Taken, stands, read_many}
+use Rattle.gl_exprs.proofs.Many.{IsLeft, many_start, many_go, many_fail, many_end}
+use Rattle.gl_exprs.proofs.Shorter.{left_is, kind_shorter, name_shorter, arguments_leave, expr_shorter}
 use Rattle.gl_parse.proofs.ShorterValues.{given_leaves}
 
 attribute_shorter : (ts : List Token) (x : Item × List Token) → read_attribute ts ≡ Some x → length x.1 < length ts

@@ -4,12 +4,12 @@ use Rattle.gl_ast.specs.Grammar.{IsExpr, AreExprs, IsMustache, Item, part_item, 
 use Rattle.gl_ast.specs.Template.{Expr, Exprs, no_exprs, expr, exprs_of, Part}
 use Rattle.gl_ast.specs.declared.token.Token.{Token}
 use Rattle.gl_ast.specs.declared.token.TokenKind.TheVariants as k
-use Rattle.gl_parse.specs.ReadExpr.{read_expr, read_exprs, read_mustache, starts_expr}
+use Rattle.gl_exprs.specs.ReadExpr.{read_expr, read_exprs, read_mustache, starts_expr}
 use Rattle.gl_parse.specs.ReadItem.{read_items, starts_item}
-use Rattle.gl_parse.specs.Take.{stands}
-use Rattle.gl_parse.proofs.ExprLaws as e
+use Rattle.gl_exprs.specs.Take.{stands}
+use Rattle.gl_exprs.proofs.ExprLaws as e
 use Rattle.gl_parse.proofs.ItemLaws as i
-use Rattle.gl_parse.proofs.Shorter.{expr_shorter}
+use Rattle.gl_exprs.proofs.Shorter.{expr_shorter}
 use Rattle.gl_parse.proofs.ShorterValues.{mustache_shorter}
 
 pub read_expr_is : (d : ℕ) (ts : List Token) (e : Expr) (us : List Token) → read_expr d ts ≡ Some (e, us) → IsExpr d ts e us

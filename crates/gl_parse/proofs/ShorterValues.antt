@@ -11,10 +11,10 @@ use Rattle.gl_ast.specs.TokenText.{decoded}
 use Rattle.gl_ast.specs.declared.token.Token.{Token}
 use Rattle.gl_ast.specs.declared.token.TokenKind.{TokenKind}
 use Rattle.gl_ast.specs.declared.token.TokenKind.TheVariants as k
-use Rattle.gl_parse.specs.ReadExpr.{stands_name, read_expr, read_called, read_inner, read_mustache}
+use Rattle.gl_exprs.specs.ReadExpr.{stands_name, read_expr, read_called, read_inner, read_mustache}
 use Rattle.gl_parse.specs.ReadValue as r
-use Rattle.gl_parse.specs.Take.{Taken, stands, take_kind, read_many, with_front}
-use Rattle.gl_parse.proofs.Shorter.{left_is, kind_shorter, name_shorter, many_leaves, arguments_leave, expr_shorter}
+use Rattle.gl_exprs.specs.Take.{Taken, stands, take_kind, read_many, with_front}
+use Rattle.gl_exprs.proofs.Shorter.{left_is, kind_shorter, name_shorter, many_leaves, arguments_leave, expr_shorter}
 
 called_shorter : (ts : List Token) (x : Expr × List Token) → read_called ts ≡ Some x → length x.1 < length ts
 unfolding read_called

@@ -1,21 +1,19 @@
 -- Bytes spell just the tree that is read from them.
-use Rattle.std.proofs.Common.{◌≡◌, ℕ, zero, suc, List, [], ◌∷◌, Bool, true, false, Option, Some, None, cond, refl, sym, ap, subst, ◌∙◌}
+use Rattle.std.proofs.Common.{◌≡◌, ℕ, List, [], ◌∷◌, true, Option, Some, refl, sym, ap, ◌∙◌}
 use Rattle.std.specs.Str.{is_utf8}
-use Rattle.gl_base.specs.Answers.{◌>>=◌}
-use Rattle.gl_ast.specs.Grammar.{Spells, SpellsExpr, deepest_nesting, deepest_calls, AreStmts, IsExpr}
+use Rattle.gl_ast.specs.Grammar.{Spells, SpellsExpr, deepest_nesting, deepest_calls, AreStmts}
 use Rattle.gl_ast.specs.Settling.{settled}
 use Rattle.gl_ast.specs.Template.{Expr, Body}
 use Rattle.gl_ast.specs.TokenReading.{template_tokens, lone_tokens}
-use Rattle.gl_ast.specs.Tokens.{IsTokens, IsLoneTokens}
 use Rattle.gl_ast.specs.declared.mode.Mode.TheVariants as m
 use Rattle.gl_ast.specs.declared.token.Token.{Token}
 use Rattle.gl_ast.proofs.Readings.{reading_read, read_reading}
-use Rattle.gl_parse.specs.ReadExpr.{read_expr}
+use Rattle.gl_exprs.specs.ReadExpr.{read_expr}
 use Rattle.gl_parse.specs.ReadStmt.{read_stmt, read_body, nothing_left, whole, read_template, read_lone, text_tree, template_of, expression_of}
-use Rattle.gl_parse.proofs.FirstTokens.{test_some}
+use Rattle.gl_exprs.proofs.FirstTokens.{test_some}
 use Rattle.gl_parse.proofs.Lower.{read_expr_is, reads_expr}
 use Rattle.gl_parse.proofs.StmtLaws.{read_stmt_is, reads_stmt, bodies_sound, reads_body}
-use Rattle.gl_parse.proofs.Takings.{first_gave, some_is}
+use Rattle.gl_exprs.proofs.Takings.{first_gave, some_is}
 
 -- nothing was left
 none_left : (ts : List Token) → nothing_left ts ≡ true → ts ≡ []

@@ -1,20 +1,19 @@
 -- Statements, bodies and blocks at every depth: what is read is spelled, and what is spelled is read.
-use Rattle.std.proofs.Common.{◌≡◌, ◌<◌, ◌≤◌, ◌+◌, ℕ, zero, suc, List, [], ◌∷◌, Bool, true, false, ◌||◌, Option, Some, None, cond, option_map, ◌⊎◌, inl, inr, length, refl, sym, ap, subst, ◌∙◌, arith}
+use Rattle.std.proofs.Common.{◌≡◌, ◌<◌, ◌≤◌, ℕ, zero, suc, List, [], ◌∷◌, Bool, true, false, Some, ◌⊎◌, inl, inr, length, refl, sym, ap, subst, arith}
 use Rattle.std.specs.Prelude.{codes}
-use Rattle.gl_base.specs.Answers.{◌>>=◌}
-use Rattle.gl_ast.specs.Grammar.{Mark, IsStmt, AreStmts, IsChained, is_silent, after_silent}
+use Rattle.gl_ast.specs.Grammar.{Mark, IsStmt, AreStmts, is_silent}
 use Rattle.gl_ast.specs.Template.{Stmt, text_stmt, comment_stmt, put, element, component_stmt, if_stmt, each, let_stmt, yield, Body, end, stmt, body_of}
 use Rattle.gl_ast.specs.declared.token.Token.{Token}
 use Rattle.gl_ast.specs.declared.token.TokenKind.{TokenKind}
 use Rattle.gl_ast.specs.declared.token.TokenKind.TheVariants as k
-use Rattle.gl_parse.specs.ReadStmt.{Reader, ends_body, is_end, stands_opened, read_stmts, read_body, read_flat, read_tag, read_block, read_nested, read_block_with, read_head, read_else, read_stmt, read_chained}
-use Rattle.gl_parse.specs.Take.{same_kind, stands}
-use Rattle.gl_parse.proofs.BlockLaws.{SoundHead, CompleteHead, Closes, head_is, else_is, reads_head, reads_else, block_is, reads_block, block_first, is_block}
-use Rattle.gl_parse.proofs.Falls.{StmtFalls, stmt_falls}
-use Rattle.gl_parse.proofs.FirstTokens.{stands_mark, stands_some}
+use Rattle.gl_parse.specs.ReadStmt.{Reader, ends_body, is_end, stands_opened, read_stmts, read_body, read_flat, read_nested, read_block_with, read_else, read_stmt, read_chained}
+use Rattle.gl_exprs.specs.Take.{same_kind, stands}
+use Rattle.gl_parse.proofs.BlockLaws.{SoundHead, CompleteHead, head_is, else_is, reads_head, reads_else, block_is, reads_block, block_first, is_block}
+use Rattle.gl_parse.proofs.Falls.{stmt_falls}
+use Rattle.gl_exprs.proofs.FirstTokens.{stands_mark}
 use Rattle.gl_parse.proofs.FlatLaws.{IsRead, read_flat_is, reads_flat, is_flat, mustache_no_else, not_opened, opened_other}
 use Rattle.gl_parse.proofs.TagLaws.{Sound, Complete, tag_is, reads_tag, tag_first, is_tag}
-use Rattle.gl_parse.proofs.Takings.{first_gave, under_gave, one_gave, some_is}
+use Rattle.gl_exprs.proofs.Takings.{first_gave, under_gave, one_gave, some_is}
 
 -- statements that are read are spelled
 abbrev pub SoundStmt : ℕ → Reader Stmt → Type 0

@@ -1,13 +1,12 @@
 -- Elements and components: what is read is spelled, and what is spelled is read, where that holds of their bodies.
-use Rattle.std.proofs.Common.{◌≡◌, ◌<◌, ◌≤◌, ℕ, suc, List, [], ◌∷◌, Bool, true, false, ◌&&◌, ◌||◌, Option, Some, None, cond, option_map, ◌⊎◌, inl, inr, length, map, drop, refl, sym, ap, subst, ◌∙◌, arith, is_some}
+use Rattle.std.proofs.Common.{◌≡◌, ℕ, suc, List, [], ◌∷◌, Bool, true, false, Some, inl, inr, length, map, refl, sym, ap, subst, ◌∙◌, arith}
 use Rattle.std.specs.Prelude.{codes, ◌==◌}
 use Rattle.std.proofs.lemmas.Bool.{eqb-true}
 use Rattle.std.proofs.lemmas.Bool.Decides.{nat_tests}
-use Rattle.gl_base.specs.Answers.{◌>>=◌}
 use Rattle.gl_base.specs.Texts.{Text}
-use Rattle.gl_ast.specs.Grammar.{Mark, Stands, IsStmt, AreStmts, IsOpening, IsEndTag, IsElementRest, IsComponentRest, AreItems, AreParameters, Item, part_item, parts_among, arguments_among, is_void}
+use Rattle.gl_ast.specs.Grammar.{Mark, IsStmt, AreStmts, IsOpening, IsEndTag, IsElementRest, IsComponentRest, AreItems, AreParameters, Item, part_item, parts_among, arguments_among}
 use Rattle.gl_ast.specs.Marks.{is_small, is_capital}
-use Rattle.gl_ast.specs.Template.{Part, AttrValue, Stmt, element, component_stmt, Body, end, Slots, no_slots, block}
+use Rattle.gl_ast.specs.Template.{Part, AttrValue, Stmt, element, component_stmt, Body, Slots, no_slots, block}
 use Rattle.gl_ast.specs.TokenText.{end_name_of, parameters_of, leads}
 use Rattle.gl_ast.specs.declared.token.Token.{Token}
 use Rattle.gl_ast.specs.declared.token.TokenKind.{TokenKind}
@@ -15,11 +14,11 @@ use Rattle.gl_ast.specs.declared.token.TokenKind.TheVariants as k
 use Rattle.std.specs.Str.{bytes_eq}
 use Rattle.gl_parse.specs.ReadItem.{read_items, read_tag_items, starts_item}
 use Rattle.gl_parse.specs.ReadStmt.{Reader, ends_body, take_end_tag, Opening, element_opening, component_opening, name_of, opens_void, empty_tag, full_tag, read_tagged, read_element, read_parameters, read_component, read_named_tag, opened_name, read_opening, read_after_opening, read_tag}
-use Rattle.gl_parse.specs.Take.{same_kind, stands, take_kind}
-use Rattle.gl_parse.proofs.FirstTokens.{took, took_mark, takes_mark, takes_some, stands_mark, stands_some, test_some, bytes_eq_is, is_bytes_eq}
+use Rattle.gl_exprs.specs.Take.{same_kind, stands, take_kind}
+use Rattle.gl_exprs.proofs.FirstTokens.{took, took_mark, takes_mark, takes_some, stands_mark, stands_some, test_some, bytes_eq_is, is_bytes_eq}
 use Rattle.gl_parse.proofs.FlatLaws.{IsRead}
 use Rattle.gl_parse.proofs.Lower.{read_items_are, items_are_parts, reads_items, reads_parts}
-use Rattle.gl_parse.proofs.Takings.{first_gave, under_gave, one_gave, some_is}
+use Rattle.gl_exprs.proofs.Takings.{first_gave, under_gave, one_gave, some_is}
 
 -- bodies that are read are spelled
 abbrev pub Sound : ℕ → Reader Body → Type 0

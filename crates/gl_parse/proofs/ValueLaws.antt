@@ -11,12 +11,12 @@ use Rattle.gl_ast.specs.TokenText.{decoded}
 use Rattle.gl_ast.specs.declared.token.Token.{Token}
 use Rattle.gl_ast.specs.declared.token.TokenKind.{TokenKind}
 use Rattle.gl_ast.specs.declared.token.TokenKind.TheVariants as k
-use Rattle.gl_parse.specs.ReadExpr.{read_mustache}
+use Rattle.gl_exprs.specs.ReadExpr.{read_mustache}
 use Rattle.gl_parse.specs.ReadValue.{stands_plain, read_fixed, read_quoted_text, starts_quoted, read_quoted, read_cat, read_between, read_quote, read_value, read_given}
-use Rattle.gl_parse.specs.Take.{Taken, same_kind, stands, take_kind, read_many, with_front}
-use Rattle.gl_parse.proofs.Chains.{Chain, many_chain, IsRead, chain_many}
-use Rattle.gl_parse.proofs.ExprLaws.{list_of, exprs_of-list_of, read_mustache_is, reads_mustache}
-use Rattle.gl_parse.proofs.Firsts.{kind_is, takes_kind, kind_stands, other_stands}
+use Rattle.gl_exprs.specs.Take.{Taken, same_kind, stands, take_kind, read_many, with_front}
+use Rattle.gl_exprs.proofs.Chains.{Chain, many_chain, IsRead, chain_many}
+use Rattle.gl_exprs.proofs.ExprLaws.{list_of, exprs_of-list_of, read_mustache_is, reads_mustache}
+use Rattle.gl_exprs.proofs.Firsts.{kind_is, takes_kind, kind_stands, other_stands}
 use Rattle.gl_parse.proofs.ShorterValues.{quoted_text_shorter, mustache_shorter}
 
 -- a text that a token of this kind stands for

@@ -1,9 +1,4 @@
-pub mod Fault
-pub mod Pieces
-pub mod ReadExpr
 pub mod ReadItem
 pub mod ReadStmt
 pub mod ReadValue
-pub mod Take
-pub mod Referring
 pub mod View

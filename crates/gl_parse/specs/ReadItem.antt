@@ -8,9 +8,9 @@ use Rattle.gl_ast.specs.Template.{AttrValue, Part, attribute, modifier, spread}
 use Rattle.gl_ast.specs.TokenText.{leads}
 use Rattle.gl_ast.specs.declared.token.Token.{Token}
 use Rattle.gl_ast.specs.declared.token.TokenKind.TheVariants as k
-use Rattle.gl_parse.specs.ReadExpr.{read_name, read_arguments, read_expr}
+use Rattle.gl_exprs.specs.ReadExpr.{read_name, read_arguments, read_expr}
 use Rattle.gl_parse.specs.ReadValue.{read_given}
-use Rattle.gl_parse.specs.Take.{Taken, stands, take_kind, read_many}
+use Rattle.gl_exprs.specs.Take.{Taken, stands, take_kind, read_many}
 
 unfoldable pub read_attribute : List Token → Taken Item
 read_attribute ts = do

@@ -1,5 +1,5 @@
 -- Statements, read from the front of the tokens.
-use Rattle.std.specs.Prelude.{ℕ, zero, suc, List, [], ◌∷◌, Bool, true, false, ◌&&◌, ◌||◌, ◌==◌, drop, length, map, nat_le, codes, if◌then◌else◌, Option, Some, None, option_map}
+use Rattle.std.specs.Prelude.{ℕ, zero, suc, List, [], ◌∷◌, Bool, true, false, ◌&&◌, ◌||◌, ◌==◌, drop, length, nat_le, codes, if◌then◌else◌, Option, Some, None, option_map}
 use Rattle.std.specs.Str.{bytes_eq, is_utf8}
 use Rattle.gl_base.specs.Answers.{◌>>=◌}
 use Rattle.gl_base.specs.Texts.{Text}
@@ -11,9 +11,9 @@ use Rattle.gl_ast.specs.TokenReading.{template_tokens, lone_tokens}
 use Rattle.gl_ast.specs.TokenText.{decoded, string_of, comment_of, end_name_of, parameters_of, leads}
 use Rattle.gl_ast.specs.declared.token.Token.{Token}
 use Rattle.gl_ast.specs.declared.token.TokenKind.TheVariants as k
-use Rattle.gl_parse.specs.ReadExpr.{read_exprs, read_expr, read_mustache}
+use Rattle.gl_exprs.specs.ReadExpr.{read_exprs, read_expr, read_mustache}
 use Rattle.gl_parse.specs.ReadItem.{read_tag_items}
-use Rattle.gl_parse.specs.Take.{Taken, stands, stands_word, take_kind, take_word}
+use Rattle.gl_exprs.specs.Take.{Taken, stands, stands_word, take_kind, take_word}
 
 -- how a reader of one statement, of a body and of a block's head look
 abbrev pub Reader : Type 0 → Type 0

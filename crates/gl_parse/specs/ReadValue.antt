@@ -7,8 +7,8 @@ use Rattle.gl_ast.specs.TokenText.{decoded}
 use Rattle.gl_ast.specs.declared.token.Token.{Token}
 use Rattle.gl_ast.specs.declared.token.TokenKind.{TokenKind}
 use Rattle.gl_ast.specs.declared.token.TokenKind.TheVariants as k
-use Rattle.gl_parse.specs.ReadExpr.{read_mustache}
-use Rattle.gl_parse.specs.Take.{Taken, stands, take_kind, read_many, with_front}
+use Rattle.gl_exprs.specs.ReadExpr.{read_mustache}
+use Rattle.gl_exprs.specs.Take.{Taken, stands, take_kind, read_many, with_front}
 
 -- a text, and after it the quote that closes the value
 unfoldable pub stands_plain : List Token → Bool

@@ -3,18 +3,17 @@ ghost use Rattle.std.specs.Prelude.{◌≡◌, IsTrue};
 ghost use Rattle.gl_base.specs.Answers.{Gives};
 ghost use Rattle.gl_base.specs.Texts.{is_ascii_text};
 ghost use Rattle.gl_ast.specs.View.{expr_view, stmt_view};
-ghost use Rattle.gl_parse.specs.Fault.{Fails};
+ghost use Rattle.gl_exprs.specs.Fault.{Fails};
 ghost use Rattle.gl_parse.specs.ReadStmt.{read_key, read_two, read_if, read_each, read_let, read_front, take_closing, word_of};
 ghost use Rattle.gl_parse.specs.View.{front_view};
 
-use crate::ParseFault;
-use crate::cursor::Cursor;
-use crate::expr::{DEEPEST_CALLS, expr, exprs};
 use crate::item::parameters;
-use crate::name::is_text;
 use crate::statement::{ascii, take_end};
-use crate::words::string_of;
 use gl_ast::{Expr, Exprs, Names, Stmt, Str, TokenKind};
+use gl_exprs::expr::{DEEPEST_CALLS, expr, exprs};
+use gl_exprs::name::is_text;
+use gl_exprs::words::string_of;
+use gl_exprs::{Cursor, ParseFault};
 use std::alloc::Global;
 
 /// What stands in a block from its word up to its `}}`.

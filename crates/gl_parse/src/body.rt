@@ -4,15 +4,14 @@ ghost use Rattle.gl_base.specs.Answers.{Gives};
 ghost use Rattle.gl_ast.specs.Grammar.{is_silent};
 ghost use Rattle.gl_ast.specs.Template.{body_of};
 ghost use Rattle.gl_ast.specs.View.{stmt_view};
-ghost use Rattle.gl_parse.specs.Fault.{Fails};
+ghost use Rattle.gl_exprs.specs.Fault.{Fails};
 ghost use Rattle.gl_parse.specs.ReadStmt.{is_end, stands_silent, read_body, read_tag, read_block, read_block_with, read_else, read_nested, read_stmt, read_chained};
 
-use crate::ParseFault;
 use crate::block::{Front, open_block, take_closing};
-use crate::cursor::Cursor;
 use crate::statement::{flat, stands_opened};
 use crate::tag::{open_tag, take_end_tag};
 use gl_ast::{Body, Stmt, Token, TokenKind};
+use gl_exprs::{Cursor, ParseFault};
 use std::alloc::Global;
 
 /// How deep elements and blocks may nest.

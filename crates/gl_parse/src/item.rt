@@ -2,18 +2,17 @@
 ghost use Rattle.std.specs.Prelude.{◌≡◌, ◌∷◌, ◌++◌, [], OnOk};
 ghost use Rattle.gl_base.specs.Answers.{Gives};
 ghost use Rattle.gl_ast.specs.Grammar.{after_comments, parts_among, arguments_among};
-ghost use Rattle.gl_parse.specs.Fault.{Fails};
+ghost use Rattle.gl_exprs.specs.Fault.{Fails};
 ghost use Rattle.gl_parse.specs.ReadItem as read;
 ghost use Rattle.gl_parse.specs.ReadStmt.{read_parameters};
 ghost use Rattle.gl_parse.specs.View.{item_view};
 
-use crate::ParseFault;
-use crate::cursor::Cursor;
-use crate::expr::{DEEPEST_CALLS, arguments};
-use crate::name::{is_argument, name};
 use crate::value::given;
-use crate::words::{parameters_of, without_first};
 use gl_ast::{Args, Argument, Names, Part, Parts, Str, TokenKind};
+use gl_exprs::expr::{DEEPEST_CALLS, arguments};
+use gl_exprs::name::{is_argument, name};
+use gl_exprs::words::{parameters_of, without_first};
+use gl_exprs::{Cursor, ParseFault};
 use std::alloc::{AllocError, Global};
 
 /// The parts and the arguments of a tag.

@@ -3,24 +3,14 @@
 
 mod block;
 mod body;
-mod cursor;
-mod decode;
-mod expr;
-mod fault;
 mod item;
 pub mod laws;
-mod name;
-mod number;
-mod operand;
-mod path;
-mod scan;
 mod spelled;
 mod statement;
 mod tag;
 #[cfg(test)]
 mod tests;
 mod value;
-mod words;
 
-pub use fault::ParseFault;
+pub use gl_exprs::ParseFault;
 pub use spelled::{expression, template};

@@ -3,16 +3,14 @@ ghost use Rattle.std.specs.Prelude.{◌≡◌, IfOk, IsTrue};
 ghost use Rattle.gl_base.specs.Answers.{Gives};
 ghost use Rattle.gl_base.specs.Texts.{is_ascii_text};
 ghost use Rattle.gl_ast.specs.View.{stmt_view};
-ghost use Rattle.gl_parse.specs.Fault.{Fails};
-ghost use Rattle.gl_parse.specs.Take.{take_kind};
+ghost use Rattle.gl_exprs.specs.Fault.{Fails};
+ghost use Rattle.gl_exprs.specs.Take.{take_kind};
 ghost use Rattle.gl_parse.specs.ReadStmt.{stands_opened, read_yield, read_flat};
 
-use crate::ParseFault;
-use crate::cursor::Cursor;
-use crate::decode::decoded;
-use crate::expr::{DEEPEST_CALLS, exprs, mustache};
-use crate::words::comment_of;
 use gl_ast::{Stmt, Str, TokenKind};
+use gl_exprs::expr::{DEEPEST_CALLS, exprs, mustache};
+use gl_exprs::words::comment_of;
+use gl_exprs::{Cursor, ParseFault, decoded};
 use std::alloc::{AllocError, Global};
 
 /// Whether `{{` and this word of ASCII come next.

@@ -6,17 +6,15 @@ ghost use Rattle.gl_ast.specs.Marks.{is_capital, is_small};
 ghost use Rattle.gl_ast.specs.TokenText.{leads};
 ghost use Rattle.gl_ast.specs.View.{stmt_view};
 ghost use Rattle.gl_ast.specs.Template.{body_of};
-ghost use Rattle.gl_parse.specs.Fault.{Fails};
+ghost use Rattle.gl_exprs.specs.Fault.{Fails};
 ghost use Rattle.gl_parse.specs.ReadStmt.{name_of, opens_void, empty_tag, full_tag, read_element, read_component, read_named_tag, opened_name, read_opening, take_end_tag};
 ghost use Rattle.gl_parse.specs.View.{opening_view};
 
-use crate::ParseFault;
-use crate::cursor::Cursor;
 use crate::item::{TagItems, items, parameters};
-use crate::scan::Scan;
 use crate::statement::{ascii, take_end};
-use crate::words::is_end_of;
 use gl_ast::{Args, Block, Body, Names, Parts, Slot, Slots, Stmt, Str, TokenKind};
+use gl_exprs::words::is_end_of;
+use gl_exprs::{Cursor, ParseFault, Scan};
 use std::alloc::{AllocError, Global};
 
 /// What stands in an opening tag in front of its end: of an element its name and parts, of a component its arguments

@@ -3,15 +3,13 @@ ghost use Rattle.std.specs.Prelude.{◌≡◌, length};
 ghost use Rattle.gl_base.specs.Answers.{Gives};
 ghost use Rattle.gl_ast.specs.View.{attr_view, expr_view};
 ghost use Rattle.gl_ast.specs.declared.token.TokenKind.TheVariants as k;
-ghost use Rattle.gl_parse.specs.Fault.{Fails};
+ghost use Rattle.gl_exprs.specs.Fault.{Fails};
 ghost use Rattle.gl_parse.specs.ReadValue as read;
-ghost use Rattle.gl_parse.specs.Take.{stands, read_many, with_front};
+ghost use Rattle.gl_exprs.specs.Take.{stands, read_many, with_front};
 
-use crate::ParseFault;
-use crate::cursor::Cursor;
-use crate::decode::decoded;
-use crate::expr::mustache;
 use gl_ast::{AttrValue, Expr, Exprs, Lit, Str, TokenKind};
+use gl_exprs::expr::mustache;
+use gl_exprs::{Cursor, ParseFault, decoded};
 use std::alloc::Global;
 
 // A text, and after it the quote that closes the value.

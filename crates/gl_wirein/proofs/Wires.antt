@@ -6,9 +6,9 @@ use Rattle.gl_base.specs.Texts.{bytes_of}
 use Rattle.gl_ast.specs.Canon.{canonical}
 use Rattle.gl_ast.specs.Grammar.{Spells, deepest_nesting}
 use Rattle.gl_ast.specs.Template.{Body}
-use Rattle.gl_parse.specs.Fault as parser
-use Rattle.gl_parse.specs.declared.fault.ParseFault.{ParseFault}
-use Rattle.gl_parse.specs.declared.fault.ParseFault.TheVariants as parse
+use Rattle.gl_exprs.specs.Fault as parser
+use Rattle.gl_exprs.specs.declared.fault.ParseFault.{ParseFault}
+use Rattle.gl_exprs.specs.declared.fault.ParseFault.TheVariants as parse
 use Rattle.gl_parse.proofs.SpellsRead.{spells_one}
 use Rattle.gl_show.proofs.CanStmts.{spelled_can}
 use Rattle.gl_show.proofs.SpelledCanon.{spelled_canonical}

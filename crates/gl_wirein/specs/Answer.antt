@@ -1,8 +1,8 @@
 -- What the reading of a wire answers.
 use Rattle.std.specs.Prelude.{◌≡◌, Result, Ok, Err}
 use Rattle.serde_json.specs.Data.{Data}
-use Rattle.gl_parse.specs.declared.fault.ParseFault.{ParseFault}
-use Rattle.gl_parse.specs.declared.fault.ParseFault.TheVariants as parse
+use Rattle.gl_exprs.specs.declared.fault.ParseFault.{ParseFault}
+use Rattle.gl_exprs.specs.declared.fault.ParseFault.TheVariants as parse
 use Rattle.gl_wire.specs.IsWire.{IsWire}
 use Rattle.gl_wire.specs.Json.{json_of}
 use Rattle.gl_wire.specs.Wire.{Wire}

@@ -1,7 +1,7 @@
-use Rattle.std.proofs.Common.{◌≡◌, ◌+◌, ◌-◌, Some, None, true, false, length, refl, sym, ap, ◌∙◌, arith, rules}
+use Rattle.std.proofs.Common.{◌≡◌, true, false, refl, sym, ◌∙◌}
 use Rattle.std.proofs.lemmas.Result.{err_from_is_err_and}
 use Rattle.gl_ast.specs.View.{stmt_view}
-use Rattle.gl_parse.specs.ReadStmt.{is_end, stands_silent, read_body, read_stmts, read_stmt}
+use Rattle.gl_parse.specs.ReadStmt.{is_end, stands_silent, read_body, read_stmt}
 use Rattle.gl_parse.proofs.Bodies.{goes_silent, goes_on, goes_fail, goes_end, at_depth, at_none, chained_at_depth, chained_at_none, fails_on}
 use Rattle.gl_parse.proofs.StmtLaws.{read_stmt_falls}
 use Rattle.gl_parse.proofs.body.+nesting.Goals as goal

@@ -1,4 +1,4 @@
-use Rattle.std.proofs.Common.{◌≡◌, ℕ, ◌+◌, ◌*◌, length}
+use Rattle.std.proofs.Common.{◌+◌, ◌*◌, length}
 use Rattle.gl_parse.specs.ReadStmt.{read_stmts, read_stmt}
 use Rattle.gl_parse.proofs.Bodies.{Goes}
 use Rattle.gl_parse.proofs.body.+nesting.Given as goal

@@ -2,7 +2,7 @@ use Rattle.std.proofs.Common.{sym, ◌∙◌, arith}
 use Rattle.std.proofs.lemmas.Result.{err_from_is_err_and}
 use Rattle.gl_parse.specs.View.{item_view}
 use Rattle.gl_parse.proofs.Items.{items_start, items_go, items_fail, items_end, item_shorter, comments_leave}
-use Rattle.gl_parse.proofs.Many.{fails_on}
+use Rattle.gl_exprs.proofs.Many.{fails_on}
 use Rattle.gl_parse.proofs.item.items.Goals as goal
 
 pub loop-alloc-init : goal.loop-alloc-init

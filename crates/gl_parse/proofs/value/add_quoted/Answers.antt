@@ -2,7 +2,7 @@ use Rattle.std.proofs.Common.{sym, ◌∙◌}
 use Rattle.std.proofs.lemmas.Result.{err_from_is_err_and}
 use Rattle.gl_ast.specs.View.{expr_view}
 use Rattle.gl_parse.specs.ReadValue.{starts_quoted, read_quoted}
-use Rattle.gl_parse.proofs.Many.{many_after, many_go, many_fail, many_end, fails_on}
+use Rattle.gl_exprs.proofs.Many.{many_after, many_go, many_fail, many_end, fails_on}
 use Rattle.gl_parse.proofs.ShorterValues.{quoted_shorter}
 use Rattle.gl_parse.proofs.value.add_quoted.Goals as goal
 

@@ -1,7 +1,7 @@
 use Rattle.std.proofs.Common.{length}
 use Rattle.gl_parse.specs.ReadValue.{starts_quoted, read_quoted}
-use Rattle.gl_parse.specs.Take.{with_front, read_many}
-use Rattle.gl_parse.proofs.Many.{IsLeft}
+use Rattle.gl_exprs.specs.Take.{with_front, read_many}
+use Rattle.gl_exprs.proofs.Many.{IsLeft}
 use Rattle.gl_parse.proofs.value.add_quoted.Given as goal
 
 abbrev pub invariant-loop-alloc : goal.invariant-loop-alloc

@@ -3,8 +3,8 @@ use Rattle.std.proofs.lemmas.Result.{err_from_is_err_and}
 use Rattle.gl_ast.specs.View.{expr_view}
 use Rattle.gl_ast.specs.declared.token.TokenKind.TheVariants as k
 use Rattle.gl_parse.specs.ReadValue.{read_quoted_text}
-use Rattle.gl_parse.specs.Take.{stands}
-use Rattle.gl_parse.proofs.Many.{many_go, many_fail, many_end, fails_on}
+use Rattle.gl_exprs.specs.Take.{stands}
+use Rattle.gl_exprs.proofs.Many.{many_go, many_fail, many_end, fails_on}
 use Rattle.gl_parse.proofs.ShorterValues.{quoted_text_shorter}
 use Rattle.gl_parse.proofs.value.quoted_texts.Goals as goal
 

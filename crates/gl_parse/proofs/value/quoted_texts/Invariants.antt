@@ -1,8 +1,8 @@
 use Rattle.std.proofs.Common.{length}
 use Rattle.gl_ast.specs.declared.token.TokenKind.TheVariants as k
 use Rattle.gl_parse.specs.ReadValue.{read_quoted_text}
-use Rattle.gl_parse.specs.Take.{stands, read_many}
-use Rattle.gl_parse.proofs.Many.{IsLeft}
+use Rattle.gl_exprs.specs.Take.{stands, read_many}
+use Rattle.gl_exprs.proofs.Many.{IsLeft}
 use Rattle.gl_parse.proofs.value.quoted_texts.Given as goal
 
 abbrev pub invariant-loop-alloc : goal.invariant-loop-alloc

@@ -1,6 +1,6 @@
 use Rattle.std.proofs.Common.{sym}
 use Rattle.std.specs.Str.Iter.{chars_rest}
-use Rattle.gl_parse.proofs.Scanned.{next_char}
+use Rattle.gl_exprs.proofs.Scanned.{next_char}
 use Rattle.gl_wirein.proofs.expr.first_of.Goals as goal
 
 pub returns : goal.returns

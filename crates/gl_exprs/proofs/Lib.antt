@@ -1,0 +1,15 @@
+pub mod Called
+pub mod Chains
+pub mod ExprLaws
+pub mod ExprLists
+pub mod FirstTokens
+pub mod Firsts
+pub mod Many
+pub mod NameLaws
+pub mod References
+pub mod Scanned
+pub mod Shorter
+pub mod Starts
+pub mod Takings
+pub mod TokenLaws
+pub mod TokenPieces
