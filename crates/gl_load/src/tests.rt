@@ -1,5 +1,6 @@
 // Applications and scripts, each loaded or with its first refusal.
 use super::*;
+use gl_meaning::Kind;
 use gl_outside::{CalmShelf, File, Files};
 use std::alloc::{AllocError, Global};
 use std::process::Abort;
@@ -62,6 +63,76 @@ const ROWS: [Row; 7] = [
     ),
 ];
 
+// The manifests of the rows on names.
+const NO_ROOT: &str = "{\"classes\":{\"App\":{\"template\":\"app.hbs\"}},\"root\":\"Other\"}";
+
+const UNKNOWN_GETTER: &str = "{\"classes\":{\"App\":{\"actions\":{\"a\":{\"do\":[{\"set\":\"m\",\"to\":\"1\"}]}},\"getters\":{\"g\":\"this.m\"},\"template\":\"app.hbs\"}},\"root\":\"App\"}";
+
+const UNKNOWN_FIELD: &str = "{\"classes\":{\"App\":{\"actions\":{\"a\":{\"do\":[{\"set\":\"m\",\"to\":\"this.m\",\"when\":\"p\"}],\"params\":[\"p\"]}},\"template\":\"app.hbs\"}},\"root\":\"App\"}";
+
+const CYCLIC_AND_UNKNOWN: &str =
+    "{\"classes\":{\"App\":{\"getters\":{\"a\":\"this.a\",\"b\":\"this.m\"},\"template\":\"app.hbs\"}},\"root\":\"App\"}";
+
+const NAMES: [Row; 8] = [
+    (
+        "the root before a template",
+        NO_ROOT,
+        "{{nope}}",
+        "[",
+        "m.json",
+        "component",
+    ),
+    (
+        "a template before a getter",
+        UNKNOWN_GETTER,
+        "{{nope}}",
+        "[",
+        "app.hbs",
+        "helper",
+    ),
+    (
+        "a getter before an action",
+        UNKNOWN_GETTER,
+        "a",
+        "[",
+        "m.json",
+        "member",
+    ),
+    (
+        "a field before its value",
+        UNKNOWN_FIELD,
+        "a",
+        "[",
+        "m.json",
+        "unknown field",
+    ),
+    (
+        "names before cycles",
+        CYCLIC_AND_UNKNOWN,
+        "a",
+        "[",
+        "m.json",
+        "member",
+    ),
+    (
+        "no block parameter",
+        PLAIN,
+        "{{#if nope}}a{{/if}}",
+        "[",
+        "app.hbs",
+        "local",
+    ),
+    (
+        "no modifier",
+        PLAIN,
+        "<p {{nope}}></p>",
+        "[",
+        "app.hbs",
+        "modifier",
+    ),
+    ("no class", PLAIN, "<Nope />", "[", "app.hbs", "component"),
+];
+
 fn push_file(alloc: Global, files: &mut Files, name: &str, bytes: &str) -> Result<(), AllocError> {
     if bytes == "-" {
         return Ok(());
@@ -72,11 +143,23 @@ fn push_file(alloc: Global, files: &mut Files, name: &str, bytes: &str) -> Resul
     ))
 }
 
+fn word_of_kind(kind: Kind) -> &'static str {
+    match kind {
+        Kind::Component => "component",
+        Kind::Helper => "helper",
+        Kind::Modifier => "modifier",
+        Kind::Member => "member",
+        Kind::Local => "local",
+        Kind::Field => "unknown field",
+    }
+}
+
 fn word_of(cause: &LoadCause) -> &'static str {
     match cause {
         LoadCause::Absent => "absent",
         LoadCause::BadJson => "not JSON",
         LoadCause::NotInGrammar { offset: _ } => "grammar",
+        LoadCause::UnknownName { kind, name: _ } => word_of_kind(*kind),
         LoadCause::GetterCycle {
             class: _,
             getter: _,
@@ -110,5 +193,38 @@ fn rows(rt: HostRuntime) -> Result<(), Fail> {
     for row in &ROWS {
         check_row(&rt, rt.alloc(), row)?;
     }
+    Ok(())
+}
+
+#[test]
+fn names(rt: HostRuntime) -> Result<(), Fail> {
+    for row in &NAMES {
+        check_row(&rt, rt.alloc(), row)?;
+    }
+    Ok(())
+}
+
+// A class with two getters, and with an action of two steps that have four expressions.
+const FULL: &str = "{\"classes\":{\"App\":{\"actions\":{\"a\":{\"do\":[{\"set\":\"n\",\"to\":\"p\",\"when\":\"p\"},{\"call\":\"@f\",\"with\":[\"p\",\"this.g\"]}],\"params\":[\"p\"]}},\"fields\":{\"n\":0},\"getters\":{\"g\":\"this.n\",\"h\":\"1\"},\"template\":\"app.hbs\"}},\"root\":\"App\"}";
+
+fn count_of_programs(loaded: &Loaded) -> usize {
+    match loaded.app.programs().get(0) {
+        Some(class) => class.getters.len() * 10 + class.actions.len(),
+        None => 0,
+    }
+}
+
+#[test]
+fn programs(rt: HostRuntime) -> Result<(), Fail> {
+    let mut files = Files::new(rt.alloc());
+    push_file(rt.alloc(), &mut files, "m.json", FULL)?;
+    push_file(rt.alloc(), &mut files, "app.hbs", "{{this.h}}")?;
+    push_file(rt.alloc(), &mut files, "s.json", SETS)?;
+    let mut shelf = CalmShelf::new(files);
+    let count = match load(rt.alloc(), &mut shelf, "m.json", "s.json") {
+        Ok(loaded) => count_of_programs(&loaded),
+        Err(_) => 0,
+    };
+    assert_eq!(&rt; count, 24);
     Ok(())
 }
