@@ -37,6 +37,7 @@ abbrev pub ◌>>=◌ : {A B : Type 0} → Step A → (A → Step B) → Step B
 (Ok x) >>= f = f x
 (Err e) >>= f = Err e
 
+-- a fault is that of a step
 abbrev pub Told : {A : Type 0} → LinkFault → Step A → Type 0
 Told (fault.UnknownName kind name place) step = step ≡ Err (record { unknown = record { kind = kind_view kind; name = name }; place = place })
 Told fault.Memory step = Unit {0}

@@ -2,7 +2,7 @@
 //!
 //! A [`Program`] is the words of opcodes with the pools that their operands are places in. What its words stand for is a
 //! relation between programs and trees, `specs/Spans`; what a whole program is of, `specs/Lowers`. [`link`] makes the program of a
-//! wire.
+//! wire: its opcodes and pools are the lists of `specs/Coding`, which `specs/Linked` makes step by step, as the code does.
 #![tactic(auto)]
 
 mod app;

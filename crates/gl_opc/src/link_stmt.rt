@@ -4,7 +4,7 @@ ghost use Rattle.gl_ops.specs.declared.op.Op.TheVariants as op;
 ghost use Rattle.gl_wire.specs.View.{expr_view, stmt_view};
 ghost use Rattle.gl_wire.specs.Wire.{exprs_of, named_of, body_of, slots_of, put, element, component_stmt, if_stmt, each, let_stmt, yield};
 ghost use Rattle.gl_opc.specs.Coding.{item_symbol};
-ghost use Rattle.gl_opc.specs.Linked.{Meets, gap_added, item_added, params_linked, bare_linked, met, here, item_linked, slot_linked, stmt_linked, body_linked, slots_linked, started, text_op_added};
+ghost use Rattle.gl_opc.specs.Linked.{Meets, item_added, params_linked, bare_linked, met, item_linked, slot_linked, stmt_linked, body_linked, slots_linked, started, text_op_added};
 ghost use Rattle.gl_opc.specs.Spans.{if_op};
 ghost use Rattle.gl_opc.specs.State.{context_view, state_view};
 
@@ -68,15 +68,6 @@ fn push_params(params: &Symbols, out: &mut Linker) -> Result<(), AllocError>
         out.push_op(Op::Param { a: *symbol })?;
     }
     Ok(())
-}
-
-// Ends a first branch: the gap for Else, behind which the second one begins. Gives the address of the second one.
-fn push_turn(out: &mut Linker) -> Result<u32, AllocError>
-    ensures added { OnOk result (state_view out.new ≡ gap_added (state_view out.old)) }
-    ensures address { IfOk result (λ n. n ≡ here (state_view out.new)) }
-{
-    out.push_op(Op::Done)?;
-    out.here()
 }
 
 // Ends a second branch: fills the gap at the end of the first one.
@@ -178,11 +169,10 @@ fn link_if(
 {
     let place = out.begin()?;
     link_expr(context, place, test, out)?;
-    let at = out.here()?;
-    out.push_op(Op::Done)?;
+    let at = out.push_gap()?;
     link_body(context, body, out)?;
-    let turn = out.here()?;
-    let other = push_turn(out)?;
+    let turn = out.push_gap()?;
+    let other = out.here()?;
     out.fill(at, if_op(unless, other));
     link_body(context, otherwise, out)?;
     meet(turn, out)?;
@@ -220,12 +210,11 @@ fn link_each(
 {
     let place = out.begin()?;
     link_expr(context, place, list, out)?;
-    let at = out.here()?;
     let a = out.push_name(key)?;
-    out.push_op(Op::Done)?;
+    let at = out.push_gap()?;
     link_item(context, params, body, out)?;
-    let turn = out.here()?;
-    let b = push_turn(out)?;
+    let turn = out.push_gap()?;
+    let b = out.here()?;
     out.fill(at, Op::Each { a, b });
     link_body(context, otherwise, out)?;
     meet(turn, out)?;
@@ -322,9 +311,8 @@ pub fn link_body(context: &Context, body: &WireBody, out: &mut Linker) -> Result
 fn link_slot(context: &Context, slot: &WireSlot, out: &mut Linker) -> Result<(), LinkFault>
     ensures { Meets (λ u. state_view out.new) result (slot_linked (context_view context.now) slot.now.name slot.now.params (body_of slot.now.body) (state_view out.old)) }
 {
-    let at = out.here()?;
     let a = out.push_name(&slot.name)?;
-    out.push_op(Op::Done)?;
+    let at = out.push_gap()?;
     push_params(&slot.params, out)?;
     link_body(context, &slot.body, out)?;
     out.push_op(Op::EndBlock)?;

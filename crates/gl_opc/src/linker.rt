@@ -2,7 +2,7 @@
 ghost use Rattle.std.specs.Prelude.{◌≡◌, IfOk, OnOk, length, map, Some};
 ghost use Rattle.gl_ops.specs.Opcodes.{row_of};
 ghost use Rattle.gl_ops.specs.Words.{decoded, operand, IsWordOf};
-ghost use Rattle.gl_opc.specs.Linked.{op_added, text_added, name_added, int_added, text_op_added, name_op_added, filled, started};
+ghost use Rattle.gl_opc.specs.Linked.{here, op_added, gap_added, text_added, name_added, int_added, filled, started};
 ghost use Rattle.gl_opc.specs.Piece.{no_code};
 ghost use Rattle.gl_opc.specs.State.{state_view};
 
@@ -63,7 +63,7 @@ impl Linker {
 
     /// The address of the next opcode.
     pub fn here(&self) -> Result<u32, AllocError>
-        ensures { IfOk result (λ n. n ≡ length self.now.ops.items) }
+        ensures { IfOk result (λ n. n ≡ here (state_view self.now)) }
     {
         number32(self.ops.len())
     }
@@ -74,6 +74,16 @@ impl Linker {
     {
         self.ops.push(op)?;
         Ok(())
+    }
+
+    /// Adds a gap, which an opcode is to fill, and gives its address.
+    pub fn push_gap(&mut self) -> Result<u32, AllocError>
+        ensures address { IfOk result (λ n. n ≡ here (state_view self.old)) }
+        ensures added { OnOk result (state_view self.new ≡ gap_added (state_view self.old)) }
+    {
+        let address = self.here()?;
+        self.push_op(Op::Done)?;
+        Ok(address)
     }
 
     /// Fills the gap at an address.
