@@ -1,5 +1,5 @@
 -- What follows where a file is refused.
-use Rattle.std.proofs.Common.{◌≡◌, List, [], ◌∷◌, ◌++◌, Option, Some, None, Result, Ok, Err, ℕ, inl, inr, refl}
+use Rattle.std.proofs.Common.{List, Option, Result, ℕ, refl}
 use Rattle.gl_base.specs.Texts.{Text}
 use Rattle.gl_base.proofs.Taken.{takes_nothing, some_nothing}
 use Rattle.gl_load.specs.Loads as l
@@ -7,7 +7,6 @@ use Rattle.gl_load.specs.Refusal as r
 use Rattle.gl_load.specs.Refusal.{◌>>=◌}
 use Rattle.gl_load.specs.declared.fault.LoadCause.{LoadCause}
 use Rattle.gl_load.specs.declared.fault.LoadCause.TheVariants as cause
-use Rattle.gl_load.specs.declared.fault.LoadFault.{LoadFault}
 use Rattle.gl_run.specs.Load.{Refusal, of_file}
 use Rattle.gl_run.specs.Loads.{Stops}
 use Rattle.gl_run.specs.Output.{texts_output, Answers}

@@ -1,6 +1,6 @@
 -- The form of an application and a script that is built so far: one class without teardown, a template of texts,
 -- `{{this.x}}` of fields and elements without parts round these, and events that each set a field.
-use Rattle.std.specs.Prelude.{ℕ, List, [], ◌∷◌, map, Bool, true, false, ◌&&◌, Option, Some, None, if◌then◌else◌, is_some}
+use Rattle.std.specs.Prelude.{List, [], ◌∷◌, map, Bool, true, false, ◌&&◌, Option, Some, None, if◌then◌else◌, is_some}
 use Rattle.gl_base.specs.Answers.{◌>>=◌}
 use Rattle.gl_base.specs.Names.{named}
 use Rattle.gl_base.specs.Reading.{read_all}
