@@ -1,5 +1,5 @@
 -- What linking says of names.
-use Rattle.std.proofs.Common.{◌≡◌, ℕ, List, [], ◌∷◌, Option, Some, Ok, Err, map, refl, sym, ap, ◌∙◌, subst}
+use Rattle.std.proofs.Common.{◌≡◌, ℕ, List, [], ◌∷◌, Some, Ok, Err, map, refl, sym, ap, ◌∙◌}
 use Rattle.gl_base.specs.Texts.{Text}
 use Rattle.gl_ast.specs.Template.{Expr, Body, end}
 use Rattle.gl_meaning.specs.Known.{Unknown, first_of}

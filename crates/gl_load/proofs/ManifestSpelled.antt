@@ -14,7 +14,7 @@ use Rattle.gl_meaning.specs.ManifestOf.{said, read_manifest}
 use Rattle.gl_meaning.specs.ManifestRules.{Each}
 use Rattle.gl_parse.specs.ReadStmt.{expression_of}
 use Rattle.gl_parse.proofs.SpellsRead.{read_spells_expr}
-use Rattle.gl_manifest.specs.Holds.{Spells, Holds}
+use Rattle.gl_manifest.specs.Holds.{Spells}
 use Rattle.gl_manifest.proofs.Holding.{said_holds}
 use Rattle.gl_load.specs.Spelled.{IsExpression, AreExpressions, IsSpelledWhen, IsSpelledStep, IsSpelledGetter, IsSpelledAction, IsSpelledClass, IsSpelledManifest}
 use Rattle.gl_load.proofs.JsonTexts.{IsTextData, AreTextData, HaveTextData, json_text, text_in_text, text_at_text, members_at_text, items_at_text}
@@ -57,9 +57,10 @@ spelled_getter : (k : List ℕ) (x : d.Data) (g : Text × Expr) → IsTextData x
 spelled_getter k x g h r = spelled (text_in (Some x)) g.1 (text_in_text (Some x) h) r.1
 
 spelled_class : (k : List ℕ) (x : d.Data) (c : ClassEntry) → IsTextData x → IsClass Spells k x c → IsSpelledClass c
-spelled_class k x c h r =
-    (each_member (IsGetter Spells) IsSpelledGetter spelled_getter (members_at (codes "getters") x) c.getters (members_at_text (codes "getters") x h) r.getters,
-    each_member (IsAction Spells) IsSpelledAction spelled_action (members_at (codes "actions") x) c.actions (members_at_text (codes "actions") x h) r.actions)
+spelled_class k x c h r = (
+  each_member (IsGetter Spells) IsSpelledGetter spelled_getter (members_at (codes "getters") x) c.getters (members_at_text (codes "getters") x h) r.getters,
+  each_member (IsAction Spells) IsSpelledAction spelled_action (members_at (codes "actions") x) c.actions (members_at_text (codes "actions") x h) r.actions,
+)
 
 spelled_json : (x : d.Data) (m : Manifest) → IsTextData x → IsManifest Spells x m → IsSpelledManifest m
 spelled_json x m h r = each_member (IsClass Spells) IsSpelledClass spelled_class (members_at (codes "classes") x) m.classes (members_at_text (codes "classes") x h) r.classes

@@ -11,7 +11,7 @@ use Rattle.gl_outside.specs.Shelf.{Entry}
 use Rattle.gl_meaning.specs.Manifest.{ClassEntry, Manifest}
 use Rattle.gl_meaning.specs.ManifestRules.{Each}
 use Rattle.gl_load.specs.Load.{Parts, manifest_in, template_in, templates_in, templates_fetched, app_in, app_fetched, after_ok, whole_fetched}
-use Rattle.gl_load.specs.Loads.{StopsIn, FailsAmong, IsAmong}
+use Rattle.gl_load.specs.Loads.{StopsIn, IsAmong}
 use Rattle.gl_load.specs.Refusal.{Cause, Refusal, ◌>>=◌, in_file}
 use Rattle.gl_load.specs.Trees.{seen_templates, after_trees}
 use Rattle.gl_load.specs.declared.fault.LoadFault.{LoadFault}

@@ -1,15 +1,15 @@
 -- Which names are unknown: the order in which loading looks for them, and that templates play no part in it.
-use Rattle.std.proofs.Common.{◌≡◌, ℕ, List, [], ◌∷◌, ◌++◌, Bool, true, false, ◌||◌, cond, if◌then◌else◌, Option, Some, None, Result, Ok, Err, map, is_some, refl, sym, ap, ap₂, ◌∙◌}
+use Rattle.std.proofs.Common.{◌≡◌, List, [], ◌∷◌, ◌++◌, Bool, true, false, ◌||◌, if◌then◌else◌, Option, Some, None, Result, Ok, Err, map, is_some, refl, sym, ap, ap₂, ◌∙◌}
 use Rattle.std.specs.Prelude.{⊤, flat_map, IfOk}
 use Rattle.std.specs.Str.{bytes_eq}
 use Rattle.gl_base.specs.Texts.{Text}
 use Rattle.gl_ast.specs.Template.{Expr, Exprs, no_exprs, expr, Stmt, text_stmt, comment_stmt, put, element, component_stmt, if_stmt, each, let_stmt, yield, Body, end, stmt, Slots, no_slots, block}
 use Rattle.gl_meaning.specs.App.{Step, set_step, call_step, Action}
-use Rattle.gl_meaning.specs.Known.{Unknown, Place, component_kind, unless_known, has_class, expr_unknowns, exprs_unknowns, value_unknowns, part_unknowns, stmt_unknowns, body_unknowns, slots_unknowns, when_unknowns, step_unknowns, manifest_unknowns, in_manifest, in_template, class_unknowns, unknowns, first_of, first_unknown, Known}
+use Rattle.gl_meaning.specs.Known.{Unknown, Place, component_kind, unless_known, has_class, expr_unknowns, exprs_unknowns, value_unknowns, part_unknowns, stmt_unknowns, body_unknowns, slots_unknowns, when_unknowns, step_unknowns, manifest_unknowns, in_manifest, in_template, class_unknowns, first_of, first_unknown, Known}
 use Rattle.gl_meaning.specs.Manifest.{ClassEntry, Manifest, app_of, class_of, classes_of}
 use Rattle.gl_load.specs.Load.{all_known, class_named}
-use Rattle.gl_load.specs.Names.{known, each_known, expr_known, exprs_known, when_known, field_known, step_known, action_known, getters_known, actions_known, entry_known, template_known, class_known, classes_known, root_known, names_known, KnowsIn}
-use Rattle.gl_load.specs.Refusal.{Cause, Refusal, ◌>>=◌, in_file}
+use Rattle.gl_load.specs.Names.{known, each_known, expr_known, exprs_known, when_known, step_known, action_known, entry_known, class_known, classes_known, names_known, KnowsIn}
+use Rattle.gl_load.specs.Refusal.{Cause, ◌>>=◌, in_file}
 use Rattle.gl_load.specs.declared.fault.LoadFault.{LoadFault}
 
 -- The list of unknown names, read in turn
@@ -98,8 +98,8 @@ class_told : (name : Text) (m : Manifest) (all : List Body) (c : ClassEntry) (b 
 class_told name m all c b =
     all_known-append name _ _
     ∙ ap₂ (λ r s. r >>= λ u. s)
-      (in_template_known name c.file _ ∙ ap (λ us. in_file c.file (known us)) (body_same m all c b [] b))
-      (in_manifest_known name _ ∙ ap (λ r. in_file name r) (ap known (entry_same m all c b) ∙ known-entry m c))
+    (in_template_known name c.file _ ∙ ap (λ us. in_file c.file (known us)) (body_same m all c b [] b))
+    (in_manifest_known name _ ∙ ap (λ r. in_file name r) (ap known (entry_same m all c b) ∙ known-entry m c))
 
 classes_told : (name : Text) (m : Manifest) (all : List Body) (cs : List ClassEntry) (bs : List Body) → all_known name (first_of (flat_map (class_unknowns (app_of m all)) (classes_of cs bs))) ≡ classes_known name m cs bs
 classes_told name m all [] bs = refl
@@ -124,8 +124,8 @@ pub first_told : (name : Text) (m : Manifest) (trees : List Body) → all_known 
 first_told name m trees =
     all_known-append name _ _
     ∙ ap₂ (λ r s. r >>= λ u. s)
-      (in_manifest_known name _ ∙ ap (λ k. in_file name (known (unless_known k component_kind m.root))) (named_class m.root m.classes trees))
-      (classes_told name m trees m.classes trees)
+    (in_manifest_known name _ ∙ ap (λ k. in_file name (known (unless_known k component_kind m.root))) (named_class m.root m.classes trees))
+    (classes_told name m trees m.classes trees)
 
 pub none_unknown : (name : Text) (ps : List Place) → all_known name (first_of ps) ≡ Ok tt → ps ≡ []
 none_unknown name [] e = refl

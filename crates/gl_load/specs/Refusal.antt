@@ -1,5 +1,5 @@
 -- Why an application or its script is not loaded.
-use Rattle.std.specs.Prelude.{ℕ, Option, Some, None, Result, Ok, Err}
+use Rattle.std.specs.Prelude.{ℕ, Result, Ok, Err}
 use Rattle.gl_base.specs.Texts.{Text}
 use Rattle.gl_meaning.specs.Known.{Kind}
 

@@ -1,5 +1,5 @@
 -- That each expression of a manifest is spelled by some text.
-use Rattle.std.specs.Prelude.{ℕ, List, [], ◌∷◌, Option, Some, None}
+use Rattle.std.specs.Prelude.{ℕ, List, Option, Some, None}
 use Rattle.gl_base.specs.Texts.{Text}
 use Rattle.gl_ast.specs.Grammar.{SpellsExpr}
 use Rattle.gl_ast.specs.Template.{Expr, Exprs, no_exprs, expr}

@@ -34,11 +34,13 @@ pub fn expr_program(
     let wire = expression(alloc, expr, params)?;
     match link_expression(alloc, &wire, manifest, class) {
         Ok(program) => Ok(program),
-        Err(LinkFault::UnknownName {
-            kind,
-            name,
-            place: _,
-        }) => Err(LoadCause::UnknownName { kind, name }),
+        Err(
+            LinkFault::UnknownName {
+                kind,
+                name,
+                place: _,
+            },
+        ) => Err(LoadCause::UnknownName { kind, name }),
         Err(LinkFault::Memory) => Err(LoadCause::Memory),
     }
 }

@@ -61,11 +61,13 @@ fn template_program(
     let wire = compile(alloc, template)?;
     match link(alloc, &wire, manifest, class) {
         Ok(program) => Ok(program),
-        Err(LinkFault::UnknownName {
-            kind,
-            name,
-            place: _,
-        }) => Err(LoadCause::UnknownName { kind, name }),
+        Err(
+            LinkFault::UnknownName {
+                kind,
+                name,
+                place: _,
+            },
+        ) => Err(LoadCause::UnknownName { kind, name }),
         Err(LinkFault::Memory) => Err(LoadCause::Memory),
     }
 }

@@ -66,9 +66,11 @@ const ROWS: [Row; 7] = [
 // The manifests of the rows on names.
 const NO_ROOT: &str = "{\"classes\":{\"App\":{\"template\":\"app.hbs\"}},\"root\":\"Other\"}";
 
-const UNKNOWN_GETTER: &str = "{\"classes\":{\"App\":{\"actions\":{\"a\":{\"do\":[{\"set\":\"m\",\"to\":\"1\"}]}},\"getters\":{\"g\":\"this.m\"},\"template\":\"app.hbs\"}},\"root\":\"App\"}";
+const UNKNOWN_GETTER: &str =
+    "{\"classes\":{\"App\":{\"actions\":{\"a\":{\"do\":[{\"set\":\"m\",\"to\":\"1\"}]}},\"getters\":{\"g\":\"this.m\"},\"template\":\"app.hbs\"}},\"root\":\"App\"}";
 
-const UNKNOWN_FIELD: &str = "{\"classes\":{\"App\":{\"actions\":{\"a\":{\"do\":[{\"set\":\"m\",\"to\":\"this.m\",\"when\":\"p\"}],\"params\":[\"p\"]}},\"template\":\"app.hbs\"}},\"root\":\"App\"}";
+const UNKNOWN_FIELD: &str =
+    "{\"classes\":{\"App\":{\"actions\":{\"a\":{\"do\":[{\"set\":\"m\",\"to\":\"this.m\",\"when\":\"p\"}],\"params\":[\"p\"]}},\"template\":\"app.hbs\"}},\"root\":\"App\"}";
 
 const CYCLIC_AND_UNKNOWN: &str =
     "{\"classes\":{\"App\":{\"getters\":{\"a\":\"this.a\",\"b\":\"this.m\"},\"template\":\"app.hbs\"}},\"root\":\"App\"}";
@@ -205,12 +207,14 @@ fn names(rt: HostRuntime) -> Result<(), Fail> {
 }
 
 // A class with two getters, and with an action of two steps that have four expressions.
-const FULL: &str = "{\"classes\":{\"App\":{\"actions\":{\"a\":{\"do\":[{\"set\":\"n\",\"to\":\"p\",\"when\":\"p\"},{\"call\":\"@f\",\"with\":[\"p\",\"this.g\"]}],\"params\":[\"p\"]}},\"fields\":{\"n\":0},\"getters\":{\"g\":\"this.n\",\"h\":\"1\"},\"template\":\"app.hbs\"}},\"root\":\"App\"}";
+const FULL: &str =
+    "{\"classes\":{\"App\":{\"actions\":{\"a\":{\"do\":[{\"set\":\"n\",\"to\":\"p\",\"when\":\"p\"},{\"call\":\"@f\",\"with\":[\"p\",\"this.g\"]}],\"params\":[\"p\"]}},\"fields\":{\"n\":0},\"getters\":{\"g\":\"this.n\",\"h\":\"1\"},\"template\":\"app.hbs\"}},\"root\":\"App\"}";
 
-fn count_of_programs(loaded: &Loaded) -> usize {
+// How many programs the getters and the actions of the first class have.
+fn counts_of_programs(loaded: &Loaded) -> (usize, usize) {
     match loaded.app.programs().get(0) {
-        Some(class) => class.getters.len() * 10 + class.actions.len(),
-        None => 0,
+        Some(class) => (class.getters.len(), class.actions.len()),
+        None => (0, 0),
     }
 }
 
@@ -221,10 +225,11 @@ fn programs(rt: HostRuntime) -> Result<(), Fail> {
     push_file(rt.alloc(), &mut files, "app.hbs", "{{this.h}}")?;
     push_file(rt.alloc(), &mut files, "s.json", SETS)?;
     let mut shelf = CalmShelf::new(files);
-    let count = match load(rt.alloc(), &mut shelf, "m.json", "s.json") {
-        Ok(loaded) => count_of_programs(&loaded),
-        Err(_) => 0,
+    let (getters, actions) = match load(rt.alloc(), &mut shelf, "m.json", "s.json") {
+        Ok(loaded) => counts_of_programs(&loaded),
+        Err(_) => (0, 0),
     };
-    assert_eq!(&rt; count, 24);
+    assert_eq!(&rt; getters, 2);
+    assert_eq!(&rt; actions, 4);
     Ok(())
 }

@@ -1,6 +1,6 @@
 use Rattle.std.proofs.Common.{◌+◌, ◌∷◌, [], ap, drop, map}
 use Rattle.gl_base.proofs.Lists.{drop_item}
-use Rattle.gl_ast.specs.View.{expr_view, named_view, seen_pairs}
+use Rattle.gl_ast.specs.View.{named_view, seen_pairs}
 use Rattle.gl_meaning.specs.ManifestRules.{Each}
 use Rattle.gl_meaning.specs.View.{manifest_view, class_view}
 use Rattle.gl_opc.specs.Programs.{getters_exprs}

@@ -1,4 +1,4 @@
-use Rattle.std.proofs.Common.{◌≡◌, List, [], drop, map}
+use Rattle.std.proofs.Common.{◌≡◌, [], drop, map}
 use Rattle.gl_ast.specs.View.{seen_pairs}
 use Rattle.gl_meaning.specs.ManifestRules.{Each}
 use Rattle.gl_meaning.specs.View.{manifest_view, class_view}

@@ -1,4 +1,4 @@
-use Rattle.std.proofs.Common.{◌≡◌, ◌+◌, ◌++◌, ◌∷◌, [], ap, drop, map, ◌∙◌, sym}
+use Rattle.std.proofs.Common.{◌+◌, ◌∷◌, ap, drop, map}
 use Rattle.std.specs.Prelude.{flat_map}
 use Rattle.std.proofs.lemmas.List.{map-append}
 use Rattle.gl_base.proofs.Lists.{drop_item}
@@ -6,7 +6,7 @@ use Rattle.gl_meaning.specs.ManifestRules.{Each}
 use Rattle.gl_meaning.specs.View.{manifest_view, class_view, step_view, seen_steps}
 use Rattle.gl_opc.specs.Programs.{Scoped, step_exprs}
 use Rattle.gl_load.specs.Spelled.{IsSpelledStep}
-use Rattle.gl_load.proofs.Adding.{goes_step, Goes}
+use Rattle.gl_load.proofs.Adding.{goes_step}
 use Rattle.gl_load.proofs.Faults.{passes}
 use Rattle.gl_load.proofs.entries.push_action.Goals as goal
 

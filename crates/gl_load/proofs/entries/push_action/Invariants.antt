@@ -1,4 +1,4 @@
-use Rattle.std.proofs.Common.{◌≡◌, List, drop, map}
+use Rattle.std.proofs.Common.{◌≡◌, drop, map}
 use Rattle.std.specs.Prelude.{flat_map}
 use Rattle.gl_meaning.specs.ManifestRules.{Each}
 use Rattle.gl_meaning.specs.View.{manifest_view, class_view, action_view, seen_steps}

@@ -1,6 +1,6 @@
 use Rattle.std.proofs.Common.{◌≡◌, ◌≤◌, None, length, refl, rules}
 use Rattle.gl_ast.specs.Grammar.{Spells}
-use Rattle.gl_ast.specs.Template.{Body, body_of}
+use Rattle.gl_ast.specs.Template.{body_of}
 use Rattle.gl_parse.specs.ReadStmt.{template_of}
 use Rattle.gl_parse.proofs.SpellsRead.{spells_read}
 use Rattle.gl_load.proofs.Spelled.{nothing_read}

@@ -1,12 +1,11 @@
-use Rattle.std.proofs.Common.{◌≡◌, ◌∙◌, sym, ap, subst}
+use Rattle.std.proofs.Common.{◌∙◌, sym, ap, subst}
 use Rattle.std.specs.Str.{chars}
 use Rattle.std.proofs.lemmas.Result.{err_from_is_err_and}
-use Rattle.gl_meaning.specs.Known.{unknowns, first_unknown}
+use Rattle.gl_meaning.specs.Known.{unknowns}
 use Rattle.gl_meaning.specs.Manifest.{app_of}
 use Rattle.gl_meaning.specs.View.{manifest_view}
-use Rattle.gl_load.specs.Load.{all_known}
-use Rattle.gl_load.specs.Names.{KnowsIn, names_known, root_known, classes_known}
-use Rattle.gl_load.specs.Refusal.{◌>>=◌, in_file}
+use Rattle.gl_load.specs.Names.{KnowsIn, classes_known}
+use Rattle.gl_load.specs.Refusal.{◌>>=◌}
 use Rattle.gl_load.proofs.Faults.{stays_told_in}
 use Rattle.gl_load.proofs.Unknowns.{first_told, known_if}
 use Rattle.gl_load.proofs.programs.programs_of.Goals as goal
