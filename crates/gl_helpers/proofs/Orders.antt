@@ -8,8 +8,7 @@ use Rattle.std.proofs.lemmas.Cmp.{nat_list_cmp_total, tied_itself}
 use Rattle.std.proofs.lemmas.Map.Text.{is_eq-slice_cmp}
 use Rattle.std.proofs.lemmas.Bool.{false_from_ne_true}
 use Rattle.std.proofs.lemmas.Slice.Eq.{bytes_eq-Decides}
-use Rattle.gl_base.specs.Texts.{Text, bytes_of}
-use Rattle.gl_value.specs.Helpers.{text_less}
+use Rattle.gl_base.specs.Texts.{Text, bytes_of, text_less}
 use Rattle.gl_helpers.specs.Records.{text_order}
 
 -- bytes that compare as equal are equal

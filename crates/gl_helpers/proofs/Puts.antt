@@ -5,10 +5,10 @@ use Rattle.std.specs.Str.{bytes_eq}
 use Rattle.std.specs.declared.cmp.Ordering.TheVariants.{Less, Greater}
 use Rattle.std.proofs.lemmas.List.{take_more, map-append}
 use Rattle.std.proofs.Math.Seq.{take-length}
-use Rattle.gl_base.specs.Texts.{Text}
+use Rattle.gl_base.specs.Texts.{Text, text_less}
 use Rattle.gl_value.specs.Value as v
 use Rattle.gl_value.specs.Value.{Value, Members, no_members, member, pairs_of, same, property}
-use Rattle.gl_value.specs.Helpers.{text_less, put_member, members_of, not_deep}
+use Rattle.gl_value.specs.Helpers.{put_member, members_of, not_deep}
 use Rattle.gl_value.specs.Proper.{IsBefore, Keeps, KeepMembers}
 use Rattle.gl_value.specs.View.{seen_pair, seen_pairs}
 use Rattle.gl_value.specs.declared.value.Pair.{Pair}

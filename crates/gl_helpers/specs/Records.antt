@@ -4,9 +4,9 @@ use Rattle.std.specs.Str.{bytes_eq}
 use Rattle.std.specs.Ordering.{nat_cmp}
 use Rattle.std.specs.declared.cmp.Ordering.{Ordering}
 use Rattle.std.specs.Cmp.Lexicographic.{slice_cmp}
-use Rattle.gl_base.specs.Texts.{Text, bytes_of}
+use Rattle.gl_base.specs.Texts.{Text, bytes_of, text_less}
 use Rattle.gl_value.specs.Value.{Value, pairs, same, property}
-use Rattle.gl_value.specs.Helpers.{text_less, put_member, members_in, is_record, not_deep}
+use Rattle.gl_value.specs.Helpers.{put_member, members_in, is_record, not_deep}
 
 -- the order of two texts, by bytes
 abbrev pub text_order : Text → Text → Ordering

@@ -8,8 +8,8 @@ use crate::texts::{
     check_class_name, check_expression, check_file, check_flag, check_limit, check_modifier,
 };
 use gl_shape::{
-    ItemRule, MemberRule, PlaceFault, check_array, check_object, has_inner, has_key, is_class_name,
-    is_free_name, item_count, member_count, value_of,
+    ItemRule, MemberRule, PlaceFault, check_array, check_object, check_value, has_inner, has_key,
+    is_class_name, is_free_name, item_count, member_count,
 };
 use std::alloc::Global;
 
@@ -45,8 +45,7 @@ impl<'a> MemberRule for FieldsRule<'a> {
     #[tactic(auto, unfolding(gl_meaning::specs::ManifestShape::field_check))]
     fn check(&self, alloc: Global, key: &str, value: &serde_json::Value) -> Result<(), PlaceFault> {
         if is_free_name(key.as_bytes()) && !has_inner(self.class, "actions", key) {
-            let _ = value_of(alloc, value)?;
-            Ok(())
+            check_value(alloc, value)
         } else {
             Err(PlaceFault::here(alloc))
         }

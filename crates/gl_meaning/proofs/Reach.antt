@@ -8,7 +8,7 @@ use mathlib.Core.List.{reverse_aux}
 use Rattle.std.specs.Bool.{beq}
 use Rattle.std.specs.Str.{bytes_eq}
 use Rattle.gl_base.specs.Names.{named, last_named, or_else, at_place}
-use Rattle.gl_base.specs.Texts.{Text}
+use Rattle.gl_base.specs.Texts.{Text, text_less}
 use Rattle.gl_meaning.specs.App.{App}
 use Rattle.gl_meaning.specs.Eval
 use Rattle.gl_value.specs.Helpers
@@ -121,7 +121,7 @@ module _ (P : Path.Path → Type 0) where
 
   owners-put : (k : Text) (x : Path.V) (ms : Value.Members Path.Path) → Owners P x → OwnersMembers P ms → OwnersMembers P (Helpers.put_member k x ms)
   owners-put k x Value.no_members a b = (a, tt)
-  owners-put k x (Value.member l y ms) a b = chosen (owners-put k x ms a b.1) (bytes_eq k l) (Helpers.text_less k l) where
+  owners-put k x (Value.member l y ms) a b = chosen (owners-put k x ms a b.1) (bytes_eq k l) (text_less k l) where
     chosen : OwnersMembers P (Helpers.put_member k x ms) → (c d : Bool) → OwnersMembers P (if c then Value.member k x ms else (if d then Value.member k x (Value.member l y ms) else Value.member l y (Helpers.put_member k x ms)))
     chosen r true d = (a, b.1)
     chosen r false true = (a, b)

@@ -1,16 +1,16 @@
 // The JSON of bytes, and looking into it.
-ghost use Rattle.std.specs.Prelude.{◌≡◌, IfOk, IfSome, unwrap_or, option_map, option_and_then, OnErr, IsNone};
+ghost use Rattle.std.specs.Prelude.{◌≡◌, ℕ, IfOk, IfSome, unwrap_or, option_map, option_and_then, OnErr, IsNone};
 ghost use Rattle.serde_json.specs.View.{view, members_view, items_view};
 ghost use Rattle.serde_json.specs.Find.{get, as_object, as_array, as_str};
 ghost use Rattle.gl_value.specs.Json.{from_json};
 ghost use Rattle.gl_value.specs.Proper.{IsProper};
 ghost use Rattle.gl_value.specs.View as value;
 ghost use Rattle.gl_meaning.specs.JsonText.{read_json, members_at, items_at, text_at, has_key, has_inner, member_count, item_count};
-ghost use Rattle.gl_meaning.specs.Walk.{value_at};
+ghost use Rattle.gl_meaning.specs.Walk.{is_found, value_at};
 ghost use Rattle.gl_shape.specs.View.{Tells};
 
 use crate::PlaceFault;
-use gl_value::{JsonFault, Value};
+use gl_value::{JsonFault, Value, json_fault};
 use serde_json::Map;
 use std::alloc::{AllocError, Global};
 
@@ -105,5 +105,15 @@ pub fn value_of(alloc: Global, json: &serde_json::Value) -> Result<Value, PlaceF
         Ok(value) => Ok(value),
         Err(JsonFault::Memory) => Err(PlaceFault::Memory),
         Err(_) => Err(PlaceFault::here(alloc)),
+    }
+}
+
+/// Whether JSON stands for a value, by the same rule as [`value_of`]. No value is made.
+pub fn check_value(alloc: Global, json: &serde_json::Value) -> Result<(), PlaceFault>
+    ensures { Tells (λ u. tt) result (is_found (value_at {O = ℕ} (view json.now))) }
+{
+    match json_fault(json) {
+        None => Ok(()),
+        Some(_) => Err(PlaceFault::here(alloc)),
     }
 }

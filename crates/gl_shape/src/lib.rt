@@ -12,7 +12,8 @@ mod walk;
 
 pub use fault::PlaceFault;
 pub use json::{
-    has_inner, has_key, item_count, items_at, json_of, member_count, members_at, text_at, value_of,
+    check_value, has_inner, has_key, item_count, items_at, json_of, member_count, members_at,
+    text_at, value_of,
 };
 pub use names::{is_class_name, is_free_name, is_name};
 pub use pointer::{at_item, at_key};

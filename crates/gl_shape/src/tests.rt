@@ -125,9 +125,13 @@ fn bytes(rt: HostRuntime) -> Result<(), Fail> {
     let alloc = rt.alloc();
     assert!(rt; json_of(alloc, b"[")?.is_none());
     match json_of(alloc, b" 1 ")? {
-        Some(one) => assert!(rt; value_of(alloc, &one)?.same(&Value::Int(1))),
+        Some(one) => {
+            assert!(rt; value_of(alloc, &one)?.same(&Value::Int(1)));
+            assert!(rt; check_value(alloc, &one).is_ok());
+        }
         None => assert!(rt; false),
     }
+    assert!(rt; is_at(&check_value(alloc, &json(alloc, "[1.5]")?), ""));
     Ok(())
 }
 

@@ -1,4 +1,4 @@
-pub mod Codes
+pub mod Fitting
 mod HelperValues
 pub mod Indexes
 pub mod Keeping

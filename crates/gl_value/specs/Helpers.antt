@@ -6,9 +6,8 @@ use Rattle.std.specs.List.{list_any}
 use Rattle.std.specs.Str.{bytes_eq}
 use Rattle.std.specs.Bool.{beq}
 use Rattle.std.specs.Int.{int_min, int_max}
-use Rattle.std.specs.Ordering.{nat_cmp, is_lt, int_eq}
-use Rattle.std.specs.Cmp.Lexicographic.{slice_cmp}
-use Rattle.gl_base.specs.Texts.{Text, bytes_of}
+use Rattle.std.specs.Ordering.{int_eq}
+use Rattle.gl_base.specs.Texts.{Text, text_less}
 use Rattle.gl_base.specs.Names.{at_place}
 use Rattle.gl_value.specs.Value.{Value, undefined, boolean, integer, text, list, pairs, action, Members, no_members, member, values_of, list_of, depth, truthy, same, text_of, property, properties, split}
 
@@ -117,10 +116,6 @@ clamp z = int_max (negsuc 9007199254740990) (int_min (pos 9007199254740991) z)
 -- a value that is nested deeper than 100 is undefined
 abbrev pub not_deep : {O : Type 0} → Value O → Value O
 not_deep v = if nat_lt 100 (depth v) then undefined else v
-
--- the byte order of texts: the order of their encodings
-abbrev pub text_less : Text → Text → Bool
-text_less s t = is_lt (slice_cmp nat_cmp (bytes_of s) (bytes_of t))
 
 -- whether a value is less: by bytes where both are texts, else as numbers
 abbrev pub is_less : {O : Type 0} → Value O → Value O → Bool

@@ -1,5 +1,5 @@
 -- How JSON is read into values. An object's members stand in the byte order of their keys.
-use Rattle.std.specs.Prelude.{ℕ, nat_lt, ℤ, pos, List, [], ◌∷◌, Option, Some, None, Result, Ok, Err, if◌then◌else◌, unwrap_or}
+use Rattle.std.specs.Prelude.{ℕ, nat_lt, ◌-◌, ℤ, pos, List, [], ◌∷◌, Bool, true, ◌&&◌, Option, Some, None, is_none, Result, Ok, Err, if◌then◌else◌, unwrap_or}
 use Rattle.std.specs.Option.{option_or}
 use Rattle.std.specs.Str.{chars}
 use Rattle.gl_base.specs.Texts.{Text}
@@ -42,6 +42,24 @@ abbrev mutual
   pub first_bad_member : json.Members → Option Bad
   first_bad_member json.no_members = None
   first_bad_member (json.member k d ms) = option_or (first_bad d) (first_bad_member ms)
+
+-- no number is bad, and it is nested at most so deep
+abbrev mutual
+  pub fits : ℕ → json.Data → Bool
+  fits most json.null = true
+  fits most (json.boolean b) = true
+  fits most (json.number n) = is_none (number_fault n)
+  fits most (json.string s) = true
+  fits most (json.array ds) = nat_lt 0 most && items_fit (most - 1) ds
+  fits most (json.object ms) = nat_lt 0 most && members_fit (most - 1) ms
+
+  pub items_fit : ℕ → json.Items → Bool
+  items_fit most json.no_items = true
+  items_fit most (json.item d ds) = fits most d && items_fit most ds
+
+  pub members_fit : ℕ → json.Members → Bool
+  members_fit most json.no_members = true
+  members_fit most (json.member k d ms) = fits most d && members_fit most ms
 
 -- the value of JSON that has no bad number
 abbrev mutual

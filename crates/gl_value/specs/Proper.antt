@@ -1,8 +1,7 @@
 -- Which values are proper: their integers keep the bounds, the keys of their records rise, and nothing is nested deeper than 100.
 use Rattle.std.specs.Prelude.{◌≤◌, ◌≤ℤ◌, IsTrue}
-use Rattle.gl_base.specs.Texts.{Text}
+use Rattle.gl_base.specs.Texts.{Text, text_less}
 use Rattle.gl_value.specs.Value.{Value, integer, list, pairs, action, Values, no_values, value, Members, no_members, member, depth}
-use Rattle.gl_value.specs.Helpers.{text_less}
 use Rattle.gl_value.specs.Scalar.{least, greatest}
 
 -- the key is less, by bytes, than the first of the members

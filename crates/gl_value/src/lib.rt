@@ -1,4 +1,4 @@
-//! Values of templates, and texts.
+//! Values of templates. Texts are those of `gl_text`.
 #![tactic(auto)]
 
 mod comparing;
@@ -12,17 +12,14 @@ mod property;
 mod quoting;
 mod record;
 mod scalar;
-mod text;
-mod texts;
 mod value;
 mod writing;
 
-pub use json::JsonFault;
+pub use gl_text::{Text, Texts};
+pub use json::{JsonFault, json_fault};
 pub use named::NamedValues;
 pub use property::{Found, key_of};
 pub use quoting::{push_quoted, quote};
-pub use text::Text;
-pub use texts::Texts;
 pub use value::{Act, DEEPEST, GREATEST, List, Pair, Record, Value};
 
 #[cfg(test)]

@@ -2,8 +2,7 @@
 ghost use Rattle.std.specs.Prelude.{◌≡◌, ◌<◌, ◌↔◌, false, ◌∷◌, ◌++◌, [], IsTrue, IfOk, OnOk, OnErr, string_bytes, encode_utf8_all, length};
 ghost use Rattle.std.specs.Str.{chars, bytes_eq, IsUtf8};
 ghost use Rattle.std.specs.Fmt.{decimal, digits, signed_decimal};
-ghost use Rattle.gl_base.specs.Texts.{is_ascii_text};
-ghost use Rattle.gl_value.specs.Helpers.{text_less};
+ghost use Rattle.gl_base.specs.Texts.{is_ascii_text, text_less};
 
 use std::alloc::{AllocError, Global};
 use std::marker::Model;

@@ -2,7 +2,7 @@ use Rattle.std.proofs.Common.{rules, string_bytes, ◌<◌, ◌^◌, arith, deci
 use Rattle.std.proofs.lemmas.Str.{IsUtf8-string_bytes}
 use Rattle.std.proofs.lemmas.Fmt.{IsAscii-decimal_wide}
 use Rattle.gl_base.proofs.Chars.{chars-append_ascii}
-use Rattle.gl_value.proofs.text.Text.push_number.Goals as goal
+use Rattle.gl_text.proofs.text.Text.push_number.Goals as goal
 
 pub returns : goal.returns
 returns c =

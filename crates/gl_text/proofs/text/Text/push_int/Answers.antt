@@ -4,7 +4,7 @@ use Rattle.std.specs.Fmt.{signed_decimal}
 use Rattle.std.proofs.lemmas.Str.{IsUtf8-string_bytes}
 use Rattle.std.proofs.lemmas.Fmt.{IsAscii-signed}
 use Rattle.gl_base.proofs.Chars.{chars-append_ascii}
-use Rattle.gl_value.proofs.text.Text.push_int.Goals as goal
+use Rattle.gl_text.proofs.text.Text.push_int.Goals as goal
 
 pub returns : goal.returns
 returns c =

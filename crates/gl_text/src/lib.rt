@@ -1,0 +1,11 @@
+//! Texts, and lists of texts. Contracts see a text as the list of its characters.
+#![tactic(auto)]
+
+mod text;
+mod texts;
+
+pub use text::Text;
+pub use texts::Texts;
+
+#[cfg(test)]
+mod tests;
