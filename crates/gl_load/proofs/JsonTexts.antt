@@ -1,6 +1,6 @@
 -- The texts of JSON that is read from UTF-8 are UTF-8: values.
-use Rattle.std.proofs.Common.{◌≡◌, ℕ, zero, suc, List, [], ◌∷◌, Bool, true, false, cond, length, Option, Some, None, refl, subst}
-use Rattle.std.specs.Prelude.{option_map, option_and_then}
+use Rattle.std.proofs.Common.{◌≡◌, ℕ, zero, suc, List, [], ◌∷◌, length, Option, Some, None}
+use Rattle.std.specs.Prelude.{option_and_then}
 use Rattle.std.specs.Ordering.{nat_cmp, match_ordering}
 use Rattle.std.specs.Cmp.Lexicographic.{slice_cmp}
 use Rattle.std.specs.declared.cmp.Ordering.{Ordering}
@@ -15,6 +15,7 @@ use Rattle.serde_json.specs.Find.{get, get_member}
 use Rattle.serde_json.specs.Read.{number_of, of_json, of_items, of_members, max_depth, read}
 use Rattle.gl_meaning.specs.JsonText.{read_json, members_in, items_in, members_at, items_at, text_in, text_at}
 use Rattle.gl_meaning.specs.ManifestRules.{Each}
+use Rattle.gl_manifest.proofs.Given.{Gives, given_map, given_then, Anything, anything, if_given, found_given, members_given}
 use Rattle.gl_load.proofs.JsonTokens.{IsTextToken, tokens_text}
 
 -- What the grammar reads
@@ -63,9 +64,6 @@ end_left (t.number s ∷ ts) h = tt
 end_left (t.boolean b ∷ ts) h = tt
 end_left (t.null ∷ ts) h = tt
 end_left (t.bad ∷ ts) h = tt
-
-abbrev Anything : {A : Type 0} → A → Type 0
-Anything x = Unit {0}
 
 key_read : (ts : List t.Token) → Each IsTextToken ts → Reads Anything (j.read_key ts)
 key_read [] h = tt
@@ -150,22 +148,6 @@ put_text : (k : List ℕ) (x : d.Data) (ms : d.Members) → IsTextData x → Hav
 put_text k x d.no_members h g = (h, tt)
 put_text k x (d.member l e ms) h g = by_order _ _ _ (slice_cmp nat_cmp k l) (h, g) (h, g.1) (g.0, put_text k x ms h g.1)
 
-abbrev pub Gives : {A : Type 0} → (A → Type 0) → Option A → Type 0
-Gives P None = Unit {0}
-Gives P (Some x) = P x
-
-given_map : {A B : Type 0} (P : A → Type 0) (Q : B → Type 0) (f : A → B) → ((x : A) → P x → Q (f x)) → (o : Option A) → Gives P o → Gives Q (option_map f o)
-given_map P Q f h None g = tt
-given_map P Q f h (Some x) g = h x g
-
-given_then : {A B : Type 0} (P : A → Type 0) (Q : B → Type 0) (f : A → Option B) → ((x : A) → P x → Gives Q (f x)) → (o : Option A) → Gives P o → Gives Q (option_and_then f o)
-given_then P Q f h None g = tt
-given_then P Q f h (Some x) g = h x g
-
-anything : {A : Type 0} (o : Option A) → Gives Anything o
-anything None = tt
-anything (Some x) = tt
-
 mutual
   data_text : (x : j.Json) → IsTextJson x → Gives IsTextData (of_json x)
   data_text j.null h = tt
@@ -196,27 +178,15 @@ whole_text (Some p) r = last_text p.0 p.1 r.0
 read_text : (text : List ℕ) → IsUtf8 text → Gives IsTextData (read text)
 read_text text u = given_then IsTextJson IsTextData of_json data_text _ (whole_text (j.value max_depth (tokens text)) (value_read max_depth (tokens text) (tokens_text text u)))
 
-some_given : {A : Type 0} (P : A → Type 0) (o : Option A) (x : A) → Gives P o → o ≡ Some x → P x
-some_given P o x g e = subst (Gives P) e g
-
-if_text : (b : Bool) (o : Option d.Data) (x : d.Data) → (b ≡ true → Gives IsTextData o) → cond b o None ≡ Some x → IsTextData x
-if_text true o x h e = some_given IsTextData o x (h refl) e
-if_text false o x h e = let r : ⊥ = cc in absurd r
-
 pub json_text : (bytes : List ℕ) (x : d.Data) → read_json bytes ≡ Some x → IsTextData x
 unfolding read_json
-json_text bytes x e = if_text (is_utf8 bytes) (read bytes) x (λ u. read_text bytes (IsUtf8-from_is_utf8 bytes u)) e
+json_text bytes x e = if_given IsTextData (is_utf8 bytes) (read bytes) x (λ u. read_text bytes (IsUtf8-from_is_utf8 bytes u)) e
 
 -- Looking into it
 
-found_text : (a b : Option d.Data) (o : Ordering) → Gives IsTextData a → Gives IsTextData b → Gives IsTextData (match_ordering o a b a)
-found_text a b Less p q = p
-found_text a b Equal p q = q
-found_text a b Greater p q = p
-
 member_text : (k : List ℕ) (ms : d.Members) → HaveTextData ms → Gives IsTextData (get_member k ms)
 member_text k d.no_members h = tt
-member_text k (d.member l e ms) h = found_text (get_member k ms) (Some e) (slice_cmp nat_cmp k l) (member_text k ms h.1) h.0
+member_text k (d.member l e ms) h = found_given IsTextData (get_member k ms) (Some e) (slice_cmp nat_cmp k l) (member_text k ms h.1) h.0
 
 get_text : (k : List ℕ) (x : d.Data) → IsTextData x → Gives IsTextData (get k x)
 get_text k d.null h = tt
@@ -239,13 +209,7 @@ text_in_text None g = IsUtf8-nil
 text_in_text (Some x) g = text_is x g
 
 members_are : (o : Option d.Data) → Gives IsTextData o → HaveTextData (members_in o)
-members_are None g = tt
-members_are (Some d.null) g = tt
-members_are (Some (d.boolean b)) g = tt
-members_are (Some (d.number n)) g = tt
-members_are (Some (d.string s)) g = tt
-members_are (Some (d.array ds)) g = tt
-members_are (Some (d.object ms)) g = g
+members_are o g = members_given IsTextData HaveTextData (λ ms h. h) tt o g
 
 items_are : (o : Option d.Data) → Gives IsTextData o → AreTextData (items_in o)
 items_are None g = tt

@@ -1,3 +1,4 @@
 pub mod Holds
+pub mod Order
 pub mod Parts
 pub mod View

@@ -114,6 +114,14 @@ fn has_steps(class: &Class) -> bool {
     sets && step.when.is_some() && action.params.len() == 2 && action.steps.len() == 2
 }
 
+// Whether the fields stand in the order of their names, which is not the file's.
+fn has_order(class: &Class) -> bool {
+    match (class.fields.get(0), class.fields.get(1)) {
+        (Some(first), Some(second)) => first.name.is("l") && second.name.is("n"),
+        _ => false,
+    }
+}
+
 // Whether the getter is a call.
 fn has_getter(class: &Class) -> bool {
     match class.getters.get(0) {
@@ -132,10 +140,18 @@ fn reads(rt: HostRuntime) -> Result<(), Fail> {
     match manifest.classes.get(1) {
         Some(class) => {
             assert!(rt; is_full(class));
+            assert!(rt; has_order(class));
             assert!(rt; has_steps(class));
             assert!(rt; has_getter(class));
         }
         None => assert!(rt; false),
     }
+    Ok(())
+}
+
+#[test]
+fn laws_are_called(_: HostRuntime) -> Result<(), Fail> {
+    laws::says_what_it_holds();
+    laws::names_rise();
     Ok(())
 }
