@@ -1,9 +1,8 @@
 -- The names of a manifest that is read rise.
-use Rattle.std.proofs.Common.{◌≡◌, ◌⊎◌, inl, inr, List, [], ◌∷◌, ℕ, map, true, false, Some, Ok, Err, Option, refl, sym, ap, ◌∙◌, subst}
-use Rattle.std.specs.Prelude.{⊤, ◌&&◌, not, codes, nat_le, IsTrue, Result, IfOk}
+use Rattle.std.proofs.Common.{◌≡◌, inl, inr, List, [], ◌∷◌, ℕ, map, true, false, Some, Ok, Err, refl, sym, ap, ◌∙◌, subst}
+use Rattle.std.specs.Prelude.{⊤, ◌&&◌, not, codes, IsTrue, Result, IfOk}
 use Rattle.std.specs.Ordering.{nat_cmp, is_lt}
 use Rattle.std.specs.Cmp.Lexicographic.{slice_cmp}
-use Rattle.std.specs.Str.{chars}
 use Rattle.std.specs.declared.cmp.Ordering.TheVariants.{Less}
 use Rattle.std.proofs.lemmas.Cmp.{nat_list_cmp_total, tied_itself}
 use Rattle.serde_json.specs.Data as json
@@ -12,7 +11,7 @@ use Rattle.gl_base.specs.Texts.{Text, bytes_of, text_less}
 use Rattle.gl_ast.specs.Template.{Plain, Expr}
 use Rattle.gl_ast.proofs.Forward.{both}
 use Rattle.gl_meaning.specs.App.{Action}
-use Rattle.gl_meaning.specs.JsonText.{members_at, members_in, has_inner, member_count}
+use Rattle.gl_meaning.specs.JsonText.{members_at, has_inner}
 use Rattle.gl_meaning.specs.Known.{Among}
 use Rattle.gl_meaning.specs.Laws.{NoRepeat}
 use Rattle.gl_meaning.specs.Manifest.{Manifest, ClassEntry}
@@ -28,7 +27,7 @@ use Rattle.gl_meaning.specs.declared.manifest.Manifest as code
 use Rattle.gl_meaning.proofs.Forms.{under_sound, if_sound, passed, object_passed, members_passed}
 use Rattle.gl_parse.specs.ReadStmt.{expression_of}
 use Rattle.gl_manifest.specs.Holds.{Spells, Holds}
-use Rattle.gl_manifest.specs.Order.{Rise, names_of, ClassRises, NamesRise}
+use Rattle.gl_manifest.specs.Order.{Rise, ClassRises, NamesRise}
 use Rattle.gl_manifest.specs.View.{Reads}
 use Rattle.gl_manifest.specs.declared.fault.ManifestFault.{ManifestFault}
 use Rattle.gl_manifest.proofs.Holding.{said_holds}

@@ -116,8 +116,8 @@ fn has_steps(class: &Class) -> bool {
 
 // Whether the fields stand in the order of their names, which is not the file's.
 fn has_order(class: &Class) -> bool {
-    match (class.fields.get(0), class.fields.get(1)) {
-        (Some(first), Some(second)) => first.name.is("l") && second.name.is("n"),
+    match class.fields.as_slice() {
+        [first, second] => first.0.is("l") && second.0.is("n"),
         _ => false,
     }
 }
