@@ -42,7 +42,7 @@ twice : NamesRise (of_classes (entry (codes "App") [] [] (codes "a" ∷ codes "a
 unfolding encode_utf8
 twice h = let e = h.each.0.actions.0.0 in cc
 
--- the third class is less than the first alone
+-- a third class that is less than both before it
 out_of_order : NamesRise (of_classes (entry (codes "B") [] [] [] ∷ entry (codes "C") [] [] [] ∷ entry (codes "A") [] [] [] ∷ [])) → ⊥
 unfolding encode_utf8
 out_of_order h = let e = h.classes.0.1.0 in cc
