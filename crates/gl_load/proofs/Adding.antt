@@ -3,9 +3,10 @@ use Rattle.std.proofs.Common.{◌≡◌, List, [], ◌∷◌, ◌++◌, refl, sy
 use Rattle.gl_base.specs.Texts.{Text}
 use Rattle.gl_ast.specs.Template.{Expr, Body}
 use Rattle.gl_meaning.specs.Manifest.{ClassEntry, Manifest}
+use Rattle.gl_program.specs.ClassProgram.{ClassProgram}
+use Rattle.gl_program.specs.Program.{Program}
 use Rattle.gl_opc.specs.Lowers.{LowersExpr}
-use Rattle.gl_opc.specs.Program.{Program}
-use Rattle.gl_opc.specs.Programs.{ClassProgram, Scoped, LowerEach, LowersClass, LowersClasses}
+use Rattle.gl_opc.specs.Programs.{Scoped, LowerEach, LowersClass, LowersClasses}
 use Rattle.gl_load.specs.Adds.{Adds}
 
 module _ (m : Manifest) (c : ClassEntry) where

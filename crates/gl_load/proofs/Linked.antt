@@ -6,9 +6,9 @@ use Rattle.gl_meaning.specs.Known.{Unknown, first_of}
 use Rattle.gl_meaning.specs.Manifest.{ClassEntry, Manifest, app_of, class_of}
 use Rattle.gl_meaning.specs.View.{kind_view}
 use Rattle.gl_meaning.specs.declared.kind.Kind.{Kind}
+use Rattle.gl_program.specs.Program.{Program}
 use Rattle.gl_opc.specs.Links.{IsFirst}
 use Rattle.gl_opc.specs.Lowers.{Lowers, LowersExpr}
-use Rattle.gl_opc.specs.Program.{Program}
 use Rattle.gl_opc.specs.TreeFaults.{Fault, at_stmt, first_fault, first_expr_fault, template_faults, expr_faults}
 use Rattle.gl_opc.specs.declared.fault.LinkFault.{LinkFault}
 use Rattle.gl_opc.specs.declared.fault.LinkFault.TheVariants as v

@@ -1,7 +1,7 @@
 -- Programs that are added to a list.
 use Rattle.std.specs.Prelude.{◌≡◌, List, ◌++◌}
 use Rattle.gl_meaning.specs.Manifest.{ClassEntry, Manifest}
-use Rattle.gl_opc.specs.Program.{Program}
+use Rattle.gl_program.specs.Program.{Program}
 use Rattle.gl_opc.specs.Programs.{Scoped, LowerEach}
 
 -- a program for each of the expressions was added

@@ -3,8 +3,8 @@ use Rattle.std.specs.Prelude.{pos, [], ◌∷◌, true, false, codes, refl}
 use Rattle.gl_value.specs.Value.{boolean, integer, text}
 use Rattle.gl_ast.specs.Template.{literal, this, argument, bare, no_exprs, expr, Body, text_stmt, put, if_stmt, each, let_stmt, end, stmt}
 use Rattle.gl_ops.specs.declared.op.Op.TheVariants as op
+use Rattle.gl_program.specs.Program.{Program}
 use Rattle.gl_opc.specs.Lowers.{Lowers}
-use Rattle.gl_opc.specs.Program.{Program}
 use Rattle.gl_opc.proofs.CaseApp.{manifest, app, on_literals}
 
 -- {{#if this.on}}a{{else}}b{{/if}}

@@ -3,8 +3,8 @@ use Rattle.std.specs.Prelude.{pos, [], ◌∷◌, codes, refl}
 use Rattle.gl_value.specs.Value.{integer}
 use Rattle.gl_ast.specs.Template.{literal, this, argument, bare, no_exprs, expr, fixed, live, attribute, Body, text_stmt, put, component_stmt, yield, end, stmt, no_slots, block}
 use Rattle.gl_ops.specs.declared.op.Op.TheVariants as op
+use Rattle.gl_program.specs.Program.{Program}
 use Rattle.gl_opc.specs.Lowers.{Lowers}
-use Rattle.gl_opc.specs.Program.{Program}
 use Rattle.gl_opc.proofs.CaseApp.{manifest, app, on_literals}
 
 -- <Row @r={{this.some}} id="z" as |x|>{{x}}{{@r}}</Row>

@@ -2,8 +2,8 @@
 use Rattle.std.specs.Prelude.{◌≡◌, [], ◌∷◌, Some, None, codes, false}
 use Rattle.gl_ast.specs.Template.{Expr, literal, this, bare, call, no_exprs, expr, no_named, modifier, put, element, component_stmt, if_stmt, each, let_stmt, yield, end, stmt, no_slots}
 use Rattle.gl_value.specs.Value.{null}
+use Rattle.gl_program.specs.Program.{Program}
 use Rattle.gl_opc.specs.Lowers.{Lowers, LowersExpr}
-use Rattle.gl_opc.specs.Program.{Program}
 use Rattle.gl_opc.proofs.CaseApp.{manifest, app}
 
 -- a name alone, which is a helper's where it is the whole of a mustache

@@ -6,8 +6,9 @@ use Rattle.gl_ast.specs.Template.{literal, this, bare, call, no_exprs, expr, no_
 use Rattle.gl_ops.specs.declared.op.Op.TheVariants as op
 use Rattle.gl_meaning.specs.App.{set_step, call_step}
 use Rattle.gl_meaning.specs.Manifest.{Manifest, ClassEntry}
-use Rattle.gl_opc.specs.Program.{Program}
-use Rattle.gl_opc.specs.Programs.{ClassProgram, LowersApp, LowersClass, LowerEach, actions_exprs}
+use Rattle.gl_program.specs.ClassProgram.{ClassProgram}
+use Rattle.gl_program.specs.Program.{Program}
+use Rattle.gl_opc.specs.Programs.{LowersApp, LowersClass, LowerEach, actions_exprs}
 use Rattle.gl_opc.proofs.CaseApp.{on_literals}
 
 -- The getter is `(not this.on)`. The action has the parameters `id` and `to`. Its first step sets `on` to `(concat to id)`

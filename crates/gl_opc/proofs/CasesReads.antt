@@ -3,8 +3,8 @@ use Rattle.std.specs.Prelude.{pos, negsuc, [], ◌∷◌, false, codes, refl}
 use Rattle.gl_value.specs.Value.{undefined, null, boolean, integer, text}
 use Rattle.gl_ast.specs.Template.{literal, this, argument, bare, call, cat, no_exprs, expr, no_named, fixed, live, attribute, Body, put, component_stmt, each, let_stmt, end, stmt, no_slots, block}
 use Rattle.gl_ops.specs.declared.op.Op.TheVariants as op
+use Rattle.gl_program.specs.Program.{Program}
 use Rattle.gl_opc.specs.Lowers.{Lowers}
-use Rattle.gl_opc.specs.Program.{Program}
 use Rattle.gl_opc.proofs.CaseApp.{manifest, app, on_literals}
 
 -- {{concat undefined false null -1}}

@@ -3,8 +3,8 @@ use Rattle.std.specs.Prelude.{pos, [], ◌∷◌, codes, refl}
 use Rattle.gl_value.specs.Value.{null, integer, text}
 use Rattle.gl_ast.specs.Template.{literal, this, bare, call, cat, no_exprs, expr, no_named, named_expr, fixed, live, attribute, modifier, spread, Body, text_stmt, comment_stmt, put, element, end, stmt}
 use Rattle.gl_ops.specs.declared.op.Op.TheVariants as op
+use Rattle.gl_program.specs.Program.{Program}
 use Rattle.gl_opc.specs.Lowers.{Lowers}
-use Rattle.gl_opc.specs.Program.{Program}
 use Rattle.gl_opc.proofs.CaseApp.{manifest, app, on_literals}
 
 -- <p id="a">hi</p>

@@ -5,8 +5,8 @@ use Rattle.gl_value.specs.Value.{null, boolean, integer}
 use Rattle.gl_ast.specs.Template.{literal, bare, call, no_exprs, expr, no_named, Body, text_stmt, put, component_stmt, if_stmt, let_stmt, end, stmt, no_slots, block}
 use Rattle.gl_ops.specs.declared.op.Op.{Op}
 use Rattle.gl_ops.specs.declared.op.Op.TheVariants as op
+use Rattle.gl_program.specs.Program.{Program, op_at, HasText}
 use Rattle.gl_opc.specs.Lowers.{Lowers}
-use Rattle.gl_opc.specs.Program.{Program, op_at, HasText}
 use Rattle.gl_opc.proofs.CaseApp.{manifest, app, on_literals}
 
 -- a program with one text and one name

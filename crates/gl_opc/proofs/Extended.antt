@@ -7,7 +7,7 @@ use Rattle.gl_ast.specs.Template.{Plain, Expr, literal, this, argument, bare, ca
 use Rattle.gl_ops.specs.declared.op.Op.{Op}
 use Rattle.gl_ops.specs.declared.op.Op.TheVariants as op
 use Rattle.gl_meaning.specs.Manifest.{Manifest, ClassEntry}
-use Rattle.gl_opc.specs.Program.{Program, Extends, Stands}
+use Rattle.gl_program.specs.Program.{Program, Extends, Stands}
 use Rattle.gl_opc.specs.Spans.{LiteralAt, SegmentsAt, PathAt, HelperAt, NameAt, ExprAt, ExprsAt, NamedAt, ValueAt, PartAt, PartsAt, ArgumentsAt, ParametersAt, BareAt, StmtAt, BodyAt, BlocksAt}
 
 -- nothing is lost at once, or in two steps

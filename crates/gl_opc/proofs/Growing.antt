@@ -4,7 +4,7 @@ use Rattle.std.specs.Prelude.{option_and_then}
 use Rattle.gl_base.specs.Texts.{Text}
 use Rattle.gl_ops.specs.Words.{decoded}
 use Rattle.gl_ops.specs.declared.op.Op.{Op}
-use Rattle.gl_opc.specs.Program.{Program, op_at, Extends}
+use Rattle.gl_program.specs.Program.{Program, op_at, Extends}
 
 -- what stands in a list stands in it with more at the end
 still : {A : Type 0} (xs ys : List A) (i : ℕ) (a : A) → slice_get xs i ≡ Some a → slice_get (xs ++ ys) i ≡ Some a

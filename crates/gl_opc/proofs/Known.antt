@@ -13,10 +13,10 @@ use Rattle.gl_ops.specs.declared.op.Op.{Op}
 use Rattle.gl_ops.specs.declared.op.Op.TheVariants.{Field, Getter, Action}
 use Rattle.gl_meaning.specs.Known.{Kind, Unknown, local_kind, unless_known, helper_unknown, has_member, has_class, expr_unknowns, exprs_unknowns, named_unknowns, value_unknowns, part_unknowns, stmt_unknowns, body_unknowns, slots_unknowns}
 use Rattle.gl_meaning.specs.Manifest.{Manifest, ClassEntry, app_of, class_of, classes_of}
+use Rattle.gl_program.specs.Program.{Program}
 use Rattle.gl_opc.specs.TreeFaults.{Fault, template_faults, expr_faults, at_stmt}
 use Rattle.gl_opc.specs.Lowers.{Lowers, LowersExpr}
 use Rattle.gl_opc.specs.Numbers.{number_in, keys, helper_number, member_op}
-use Rattle.gl_opc.specs.Program.{Program}
 use Rattle.gl_opc.specs.Spans.{NameAt, ExprAt, ExprsAt, NamedAt, ValueAt, PartAt, PartsAt, ArgumentsAt, StmtAt, BodyAt, BlocksAt}
 use Rattle.gl_opc.proofs.TreeFaults.{unknowns_of, body_faults-unknowns}
 

@@ -14,11 +14,11 @@ use Rattle.gl_meaning.specs.Manifest.{Manifest, ClassEntry, app_of, class_of}
 use Rattle.gl_wire.specs.Symbols.{symbols_of, expr_symbols_of, body_mentions, expr_mentions}
 use Rattle.gl_wire.specs.Wire as w
 use Rattle.gl_wire.specs.WireOf.{body_wire, expr_wire, wire_of, expr_wire_of}
+use Rattle.gl_program.specs.Program.{Program, Stands}
 use Rattle.gl_opc.specs.Coding.{body_code, expr_code, template_code, expression_code}
 use Rattle.gl_opc.specs.IsProgram.{IsProgramOf}
 use Rattle.gl_opc.specs.Lowers.{Lowers, LowersExpr}
 use Rattle.gl_opc.specs.Piece.{Code, start, after, op_piece}
-use Rattle.gl_opc.specs.Program.{Program, Stands}
 use Rattle.gl_opc.specs.WireFaults as wire
 use Rattle.gl_opc.proofs.Codable.{CodableBody, CodableExpr, template_codable, expression_codable}
 use Rattle.gl_opc.proofs.LoweredExprs.{expr_lowered}

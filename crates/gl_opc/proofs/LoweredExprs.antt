@@ -13,10 +13,10 @@ use Rattle.gl_meaning.specs.Manifest.{Manifest, ClassEntry, app_of, class_of}
 use Rattle.gl_wire.specs.Symbols.{place_of, expr_mentions, exprs_mentions, named_mentions}
 use Rattle.gl_wire.specs.Wire as w
 use Rattle.gl_wire.specs.WireOf.{followed, path_of, expr_wire, exprs_wire, named_wire}
+use Rattle.gl_program.specs.Program.{Program, Stands}
 use Rattle.gl_opc.specs.Coding as code
 use Rattle.gl_opc.specs.Numbers.{helper_number, member_op}
 use Rattle.gl_opc.specs.Piece.{Place, Piece, nothing, ◌⨾◌, op_piece, text_op, name_op}
-use Rattle.gl_opc.specs.Program.{Program, Stands}
 use Rattle.gl_opc.specs.Spans.{count_exprs, count_named, count_both, LiteralAt, SegmentsAt, HelperAt, NameAt, ExprAt, ExprsAt, NamedAt}
 use Rattle.gl_opc.proofs.Codable.{CodablePlain, is_marked, CodableExpr, CodableExprs, CodableNamed}
 use Rattle.gl_opc.proofs.Places.{From, in_turn, none, one, at_address, text_one, name_one, int_one, number_one, op_one}

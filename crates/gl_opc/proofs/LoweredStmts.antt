@@ -9,10 +9,10 @@ use Rattle.gl_meaning.specs.Known as k
 use Rattle.gl_meaning.specs.Manifest.{Manifest, ClassEntry, app_of, class_of}
 use Rattle.gl_wire.specs.Symbols.{with_names, place_of, value_mentions, part_mentions, parts_mentions, arguments_mentions, stmt_mentions, body_mentions, slots_mentions}
 use Rattle.gl_wire.specs.WireOf.{places_of, expr_wire, exprs_wire, named_wire, value_wire, part_wire, parts_wire, arguments_wire, stmt_wire, body_wire, slots_wire}
+use Rattle.gl_program.specs.Program.{Program, Stands}
 use Rattle.gl_opc.specs.Coding as code
 use Rattle.gl_opc.specs.Numbers.{class_number, modifier_number, parameter_symbol, item_op}
 use Rattle.gl_opc.specs.Piece.{Place, Piece, ◌⨾◌, op_piece, with_text, with_name, text_op, name_op, op_where, skipping, forked}
-use Rattle.gl_opc.specs.Program.{Program, Stands}
 use Rattle.gl_opc.specs.Spans.{if_op, ValueAt, PartAt, PartsAt, ArgumentsAt, ParametersAt, BareAt, StmtAt, BodyAt, BlocksAt}
 use Rattle.gl_opc.proofs.Codable.{CodableValue, CodablePart, CodableParts, CodableArguments, CodableStmt, CodableBody, CodableSlots}
 use Rattle.gl_opc.proofs.LoweredExprs.{both_none, is_known, exprs_counted, both_counted, expr_lowered, exprs_lowered, named_lowered}

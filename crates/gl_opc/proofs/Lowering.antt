@@ -8,16 +8,16 @@ use Rattle.gl_meaning.specs.Known.{first_of}
 use Rattle.gl_meaning.specs.Manifest.{Manifest, ClassEntry}
 use Rattle.gl_wire.specs.Wire as w
 use Rattle.gl_wire.specs.WireOf.{wire_of, expr_wire_of}
+use Rattle.gl_program.specs.View.{program_view}
+use Rattle.gl_program.specs.declared.program.Program.{Program}
 use Rattle.gl_opc.specs.Coding.{template_code, expression_code}
 use Rattle.gl_opc.specs.IsProgram.{IsProgramOf}
 use Rattle.gl_opc.specs.Links.{IsFirst}
 use Rattle.gl_opc.specs.Lowers.{Lowers, LowersExpr}
 use Rattle.gl_opc.specs.Piece.{start}
 use Rattle.gl_opc.specs.TreeFaults.{at_stmt, first_fault, first_expr_fault}
-use Rattle.gl_opc.specs.View.{program_view}
 use Rattle.gl_opc.specs.WireFaults.{body_faults, expr_unknowns}
 use Rattle.gl_opc.specs.declared.fault.LinkFault.{LinkFault}
-use Rattle.gl_opc.specs.declared.program.Program.{Program}
 use Rattle.gl_opc.proofs.Lowered.{template_lowers, expression_lowers}
 use Rattle.gl_opc.proofs.WireUnknowns.{template_faults_wire, expr_faults_wire}
 

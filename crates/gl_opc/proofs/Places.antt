@@ -3,8 +3,8 @@ use Rattle.std.proofs.Common.{◌≡◌, ℕ, zero, suc, ◌+◌, ℤ, List, [],
 use Rattle.gl_base.specs.Texts.{Text}
 use Rattle.gl_ops.specs.declared.op.Op.{Op}
 use Rattle.gl_ops.specs.declared.op.Op.TheVariants as op
+use Rattle.gl_program.specs.Program.{Program, op_at, Stands, HasText, HasName, HasInt}
 use Rattle.gl_opc.specs.Piece.{Code, ◌⊕◌, Place, after, Piece, nothing, ◌⨾◌, one_op, op_piece, with_text, with_name, with_int, text_op, name_op, int_op, op_where, op_if, next, skipping, forked}
-use Rattle.gl_opc.specs.Program.{Program, op_at, Stands, HasText, HasName, HasInt}
 
 -- Lists in lists
 

@@ -5,12 +5,12 @@ use Rattle.gl_meaning.specs.Known.{Unknown, first_of}
 use Rattle.gl_ops.specs.declared.op.Op.TheVariants.{Done}
 use Rattle.gl_ops.specs.Words.{decoded}
 use Rattle.gl_wire.specs.Wire as w
+use Rattle.gl_program.specs.Program.{Program}
 use Rattle.gl_opc.specs.Coding.{body_code, expr_code, template_code, expression_code}
 use Rattle.gl_opc.specs.IsProgram.{IsProgramOf}
 use Rattle.gl_opc.specs.Linked.{Context, State, Step, Told, op_added, body_linked, expr_linked}
 use Rattle.gl_opc.specs.Links.{IsFirst}
 use Rattle.gl_opc.specs.Piece.{Code, Piece, no_code, ◌⨾◌, op_piece, start}
-use Rattle.gl_opc.specs.Program.{Program}
 use Rattle.gl_opc.specs.TreeFaults.{Fault, at_stmt}
 use Rattle.gl_opc.specs.WireFaults.{count_body, body_faults, expr_unknowns}
 use Rattle.gl_opc.specs.declared.fault.LinkFault.{LinkFault}

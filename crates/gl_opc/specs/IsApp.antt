@@ -5,7 +5,8 @@ use Rattle.gl_ast.specs.Template.{Body}
 use Rattle.gl_meaning.specs.Known.{Known, HasNoCycle}
 use Rattle.gl_meaning.specs.Manifest.{Manifest, app_of}
 use Rattle.gl_meaning.specs.ManifestRules.{Each}
-use Rattle.gl_opc.specs.Programs.{ClassProgram, LowersApp}
+use Rattle.gl_program.specs.ClassProgram.{ClassProgram}
+use Rattle.gl_opc.specs.Programs.{LowersApp}
 
 -- The programs are those of templates that some bytes spell; with these templates every name of the application is known, and
 -- no getter reaches itself.

@@ -6,11 +6,8 @@ pub mod Links
 pub mod Lowers
 pub mod Numbers
 pub mod Piece
-pub mod Program
-pub mod ProgramCode
 pub mod Programs
 pub mod Spans
 pub mod State
 pub mod TreeFaults
-pub mod View
 pub mod WireFaults

@@ -5,7 +5,7 @@ use Rattle.gl_ast.specs.Template.{Expr, Body}
 use Rattle.gl_ops.specs.declared.op.Op.TheVariants.{Done}
 use Rattle.gl_meaning.specs.Manifest.{Manifest, ClassEntry}
 use Rattle.gl_wire.specs.Symbols.{symbols_of, expr_symbols_of}
-use Rattle.gl_opc.specs.Program.{Program, Stands}
+use Rattle.gl_program.specs.Program.{Program, Stands}
 use Rattle.gl_opc.specs.Spans.{ExprAt, BodyAt}
 
 -- The words of the template stand from address 0 on, and Done is the last.

@@ -5,14 +5,9 @@ use Rattle.gl_base.specs.Texts.{Text}
 use Rattle.gl_ast.specs.Template.{Expr, Exprs, no_exprs, expr, Body}
 use Rattle.gl_meaning.specs.App.{Step, set_step, call_step, Action}
 use Rattle.gl_meaning.specs.Manifest.{Manifest, ClassEntry}
+use Rattle.gl_program.specs.ClassProgram.{ClassProgram}
+use Rattle.gl_program.specs.Program.{Program}
 use Rattle.gl_opc.specs.Lowers.{Lowers, LowersExpr}
-use Rattle.gl_opc.specs.Program.{Program}
-
--- a class's programs: that of its template, those of its getters, and those of its actions
-pub record ClassProgram : Type 0 where
-  pub template : Program
-  pub getters : List Program
-  pub actions : List Program
 
 -- an expression with the parameters in scope
 abbrev pub Scoped : Type 0

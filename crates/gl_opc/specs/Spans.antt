@@ -8,8 +8,8 @@ use Rattle.gl_ops.specs.declared.op.Op.{Op}
 use Rattle.gl_ops.specs.declared.op.Op.TheVariants as op
 use Rattle.gl_meaning.specs.Manifest.{Manifest, ClassEntry}
 use Rattle.gl_wire.specs.Symbols.{place_of}
+use Rattle.gl_program.specs.Program.{Program, Stands, HasText, HasName, HasInt}
 use Rattle.gl_opc.specs.Numbers.{class_number, modifier_number, helper_number, member_op, item_op}
-use Rattle.gl_opc.specs.Program.{Program, Stands, HasText, HasName, HasInt}
 
 -- how many expressions there are
 abbrev pub count_exprs : Exprs → ℕ

@@ -1,7 +1,7 @@
 use Rattle.std.proofs.Common.{sym}
 use Rattle.gl_ast.specs.View.{expr_view}
 use Rattle.gl_meaning.specs.View.{manifest_view, class_view}
-use Rattle.gl_opc.specs.View.{program_view}
+use Rattle.gl_program.specs.View.{program_view}
 use Rattle.gl_load.proofs.Linked.{expr_lowered, expr_refused}
 use Rattle.gl_load.proofs.exprs.expr_program.Goals as goal
 

@@ -5,7 +5,7 @@ use Rattle.std.proofs.lemmas.Result.{err_from_is_err_and}
 use Rattle.gl_base.proofs.Lists.{drop_item}
 use Rattle.gl_meaning.specs.ManifestRules.{Each}
 use Rattle.gl_meaning.specs.View.{manifest_view, class_view, seen_classes}
-use Rattle.gl_opc.specs.View.{class_program_view}
+use Rattle.gl_program.specs.View.{class_program_view}
 use Rattle.gl_load.specs.Names.{class_known, classes_known}
 use Rattle.gl_load.specs.Spelled.{IsSpelledClass}
 use Rattle.gl_load.specs.Trees.{tree_of}

@@ -1,5 +1,5 @@
 use Rattle.gl_meaning.specs.View.{manifest_view, class_view}
-use Rattle.gl_opc.specs.View.{program_view}
+use Rattle.gl_program.specs.View.{program_view}
 use Rattle.gl_load.specs.Trees.{tree_of}
 use Rattle.gl_load.proofs.Linked.{template_lowered, template_refused}
 use Rattle.std.proofs.Common.{sym}

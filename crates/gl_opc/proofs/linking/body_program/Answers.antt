@@ -1,8 +1,8 @@
 use Rattle.std.proofs.Common.{◌≡◌, Ok, ap, ◌∙◌, subst}
 use Rattle.gl_wire.specs.Wire.{body_of}
+use Rattle.gl_program.specs.View.{program_view}
 use Rattle.gl_opc.specs.Linked.{Told, body_linked}
 use Rattle.gl_opc.specs.State.{context_view, state_view}
-use Rattle.gl_opc.specs.View.{program_view}
 use Rattle.gl_opc.proofs.Whole.{body_known, body_done, body_told, program_of, err_first, empty}
 use Rattle.gl_opc.proofs.linking.body_program.Goals as goal
 

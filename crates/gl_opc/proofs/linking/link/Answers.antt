@@ -4,11 +4,11 @@ use Rattle.gl_meaning.specs.Known.{first_of}
 use Rattle.gl_meaning.specs.View.{manifest_view, class_view}
 use Rattle.gl_wire.specs.View.{wire_view}
 use Rattle.gl_wire.specs.Wire.{body_of}
+use Rattle.gl_program.specs.View.{program_view}
 use Rattle.gl_opc.specs.Coding.{template_code}
 use Rattle.gl_opc.specs.IsProgram.{IsProgramOf}
 use Rattle.gl_opc.specs.Links.{IsFirst}
 use Rattle.gl_opc.specs.Piece.{start}
-use Rattle.gl_opc.specs.View.{program_view}
 use Rattle.gl_opc.specs.WireFaults.{body_faults}
 use Rattle.gl_opc.proofs.Lowering.{lowers_all, first_all}
 use Rattle.gl_opc.proofs.linking.link.Goals as goal

@@ -1,6 +1,6 @@
 // A list of programs.
 ghost use Rattle.std.specs.Prelude.{◌≡◌, ◌↔◌, [], ◌∷◌, ◌++◌, IsTrue, OnOk, OnErr, length, option_map, slice_get};
-ghost use Rattle.gl_opc.specs.View.{program_view, seen_programs};
+ghost use Rattle.gl_program.specs.View.{program_view, seen_programs};
 
 use crate::Program;
 use std::alloc::{AllocError, Global};
@@ -15,14 +15,14 @@ pub struct ProgramList {
 impl Model for ProgramList {
     ghost use Rattle.std.specs.Prelude.{List};
     ghost use Rattle.std.specs.Coded.{coded_list};
-    ghost use Rattle.gl_opc.specs.Program as s;
-    ghost use Rattle.gl_opc.specs.ProgramCode.{program_code};
+    ghost use Rattle.gl_program.specs.Program as s;
+    ghost use Rattle.gl_program.specs.ProgramCode.{program_code};
 
     ghost Value = { List s.Program };
 
     ghost coded = { coded_list program_code };
 
-    ghost use Rattle.gl_opc.specs.View.{seen_programs};
+    ghost use Rattle.gl_program.specs.View.{seen_programs};
 
     ghost view = { λ a. seen_programs a.list.items };
 }

@@ -1,6 +1,6 @@
 // The programs of an application.
 ghost use Rattle.std.specs.Prelude.{◌≡◌, ◌↔◌, [], ◌∷◌, ◌++◌, IsTrue, OnOk, OnErr, length, option_map, slice_get};
-ghost use Rattle.gl_opc.specs.View.{class_program_view, seen_class_programs};
+ghost use Rattle.gl_program.specs.View.{class_program_view, seen_class_programs};
 
 use crate::ClassProgram;
 use std::alloc::{AllocError, Global};
@@ -16,14 +16,14 @@ pub struct Programs {
 impl Model for Programs {
     ghost use Rattle.std.specs.Prelude.{List};
     ghost use Rattle.std.specs.Coded.{coded_list};
-    ghost use Rattle.gl_opc.specs.Programs as s;
-    ghost use Rattle.gl_opc.specs.ProgramCode.{class_program_code};
+    ghost use Rattle.gl_program.specs.ClassProgram as s;
+    ghost use Rattle.gl_program.specs.ProgramCode.{class_program_code};
 
     ghost Value = { List s.ClassProgram };
 
     ghost coded = { coded_list class_program_code };
 
-    ghost use Rattle.gl_opc.specs.View.{seen_class_programs};
+    ghost use Rattle.gl_program.specs.View.{seen_class_programs};
 
     ghost view = { λ a. seen_class_programs a.list.items };
 }

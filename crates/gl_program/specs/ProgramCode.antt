@@ -2,9 +2,11 @@
 use Rattle.std.specs.Prelude.{ℕ, ℤ, List, refl}
 use Rattle.std.specs.Coded.{Coded, code_by, coded×, coded_list, coded_ℕ, coded_ℤ}
 use Rattle.gl_base.specs.Texts.{Text}
-use Rattle.gl_meaning.specs.AppCode.{texts_code}
-use Rattle.gl_opc.specs.Program.{Program}
-use Rattle.gl_opc.specs.Programs.{ClassProgram}
+use Rattle.gl_program.specs.ClassProgram.{ClassProgram}
+use Rattle.gl_program.specs.Program.{Program}
+
+abbrev pub texts_code : Coded (List Text)
+texts_code = coded_list (coded_list coded_ℕ)
 
 abbrev pub ProgramParts : Type 0
 ProgramParts = (List ℕ × List Text) × (List Text × List ℤ)

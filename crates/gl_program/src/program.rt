@@ -1,6 +1,6 @@
 // A program.
 ghost use Rattle.std.specs.Prelude.{◌≡◌, []};
-ghost use Rattle.gl_opc.specs.View.{program_view};
+ghost use Rattle.gl_program.specs.View.{program_view};
 
 use crate::{Ints, Words};
 use gl_value::Texts;

@@ -1,0 +1,4 @@
+pub mod ClassProgram
+pub mod Program
+pub mod ProgramCode
+pub mod View
