@@ -6,6 +6,7 @@ mod cursor;
 mod decode;
 pub mod expr;
 mod fault;
+pub mod laws;
 pub mod name;
 mod number;
 mod operand;

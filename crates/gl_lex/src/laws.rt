@@ -1,10 +1,6 @@
 //! Laws that the definitions keep, each the contract of a function that does nothing.
-ghost use Rattle.std.specs.Prelude.{ℕ, List, ◌≡◌, map};
-ghost use Rattle.gl_names.specs.References.{reference_rows};
-ghost use Rattle.gl_names.specs.Void.{void_rows};
-ghost use Rattle.gl_ast.specs.References.{references};
+ghost use Rattle.std.specs.Prelude.{ℕ, List, ◌≡◌};
 ghost use Rattle.gl_ast.specs.Tokens.{IsTokens, IsLoneTokens};
-ghost use Rattle.gl_ast.specs.Void.{void_names};
 ghost use Rattle.gl_ast.specs.declared.token.Token.{Token};
 
 /// A text has at most one reading as a template.
@@ -15,16 +11,4 @@ pub fn one_reading()
 /// A text has at most one reading as an expression that stands alone.
 pub fn one_lone_reading()
     ensures { (text : List ℕ) (list other : List Token) → IsLoneTokens text list → IsLoneTokens text other → list ≡ other }
-{}
-
-/// The character references of the definitions are the rows of the table.
-#[tactic(auto, unfolding(gl_ast::specs::References::references, gl_names::specs::References::reference_rows))]
-pub fn reference_table()
-    ensures { references ≡ reference_rows }
-{}
-
-/// The elements without an end tag of the definitions are the names of the table.
-#[tactic(auto, unfolding(gl_ast::specs::Void::void_names, gl_names::specs::Void::void_rows))]
-pub fn void_table()
-    ensures { void_names ≡ map (λ r. r.0) void_rows }
 {}

@@ -19,4 +19,8 @@ pub use templates::Templates;
 pub use whole::{Loaded, load};
 
 #[cfg(test)]
+mod program_tests;
+#[cfg(test)]
 mod tests;
+#[cfg(test)]
+mod wire_tests;

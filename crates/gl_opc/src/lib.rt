@@ -13,8 +13,6 @@ mod link_part;
 mod link_stmt;
 mod linker;
 mod linking;
-#[cfg(test)]
-mod tests;
 
 pub use app::App;
 pub use fault::LinkFault;

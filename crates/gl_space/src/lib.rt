@@ -4,8 +4,6 @@
 mod line;
 mod mark;
 mod pass;
-#[cfg(test)]
-mod tests;
 mod trim;
 
 pub use pass::settle;

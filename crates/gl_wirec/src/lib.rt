@@ -9,7 +9,5 @@ mod mentions;
 mod names;
 mod part_wire;
 mod stmt_wire;
-#[cfg(test)]
-mod tests;
 
 pub use compiling::{compile, expression};

@@ -1,5 +1,6 @@
-use super::*;
+// White-space control and lone tags over the tokens of templates.
 use gl_ast::Tokens;
+use gl_space::settle;
 use std::alloc::{AllocError, Global};
 use std::test::Fail;
 

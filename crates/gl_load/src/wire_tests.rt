@@ -1,8 +1,8 @@
 // Templates and expressions, each with its wire.
-use super::*;
 use gl_parse::template;
 use gl_value::{Text, Texts};
 use gl_wire::{WireExpr, to_text};
+use gl_wirec::{compile, expression};
 use std::alloc::Global;
 use std::process::Abort;
 use std::test::Fail;

@@ -1,7 +1,7 @@
 // Templates with their programs, and with their first unknown names.
-use super::*;
 use gl_ast::{Expr, Lit, NamedExpr};
 use gl_meaning::{Action, Actions, Class, Classes, Fields, Getters, Kind, Manifest, Steps};
+use gl_opc::{Ints, LinkFault, Program, link, link_expression};
 use gl_parse::template;
 use gl_value::{Text, Texts, Value};
 use gl_wirec::compile;
