@@ -1,9 +1,6 @@
 pub mod Adding
 pub mod Faults
 pub mod Fetch
-pub mod JsonContent
-pub mod JsonTexts
-pub mod JsonTokens
 pub mod Linked
 pub mod ManifestSpelled
 pub mod Spelled

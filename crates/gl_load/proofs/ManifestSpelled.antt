@@ -17,7 +17,7 @@ use Rattle.gl_parse.proofs.SpellsRead.{read_spells_expr}
 use Rattle.gl_manifest.specs.Holds.{Spells}
 use Rattle.gl_manifest.proofs.Holding.{said_holds}
 use Rattle.gl_load.specs.Spelled.{IsExpression, AreExpressions, IsSpelledWhen, IsSpelledStep, IsSpelledGetter, IsSpelledAction, IsSpelledClass, IsSpelledManifest}
-use Rattle.gl_load.proofs.JsonTexts.{IsTextData, AreTextData, HaveTextData, json_text, text_in_text, text_at_text, members_at_text, items_at_text}
+use Rattle.gl_manifest.proofs.JsonTexts.{IsTextData, AreTextData, HaveTextData, json_text, text_in_text, text_at_text, members_at_text, items_at_text}
 
 each_member : {A : Type 0} (R : List ℕ → d.Data → A → Type 0) (P : A → Type 0) → ((k : List ℕ) (x : d.Data) (y : A) → IsTextData x → R k x y → P y) → (ms : d.Members) (ys : List A) → HaveTextData ms → MembersAre R ms ys → Each P ys
 each_member R P gives d.no_members [] h r = tt

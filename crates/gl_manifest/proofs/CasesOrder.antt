@@ -5,7 +5,7 @@ use Rattle.gl_base.specs.Texts.{Text}
 use Rattle.gl_value.specs.Value.{integer}
 use Rattle.gl_ast.specs.Template.{bare}
 use Rattle.gl_meaning.specs.Manifest.{Manifest, ClassEntry}
-use Rattle.gl_manifest.specs.Order.{NamesRise}
+use Rattle.gl_meaning.specs.Order.{NamesRise}
 
 -- a class with these names
 abbrev entry : Text → List Text → List Text → List Text → ClassEntry

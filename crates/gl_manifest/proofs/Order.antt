@@ -1,6 +1,6 @@
 -- The names of a manifest that is read rise.
 use Rattle.std.proofs.Common.{◌≡◌, inl, inr, List, [], ◌∷◌, ℕ, map, true, false, Some, Ok, Err, refl, sym, ap, ◌∙◌, subst}
-use Rattle.std.specs.Prelude.{⊤, ◌&&◌, not, codes, IsTrue, Result, IfOk}
+use Rattle.std.specs.Prelude.{⊤, ◌&&◌, not, codes, IsTrue}
 use Rattle.std.specs.Ordering.{nat_cmp, is_lt}
 use Rattle.std.specs.Cmp.Lexicographic.{slice_cmp}
 use Rattle.std.specs.declared.cmp.Ordering.TheVariants.{Less}
@@ -21,15 +21,11 @@ use Rattle.gl_meaning.specs.ManifestOf.{read_manifest, said}
 use Rattle.gl_meaning.specs.ManifestRules.{Each}
 use Rattle.gl_meaning.specs.ManifestShape.{action_check, field_check, getter_check, class_member, class_check, manifest_member, manifest_check}
 use Rattle.gl_meaning.specs.NameTests.{is_free_name, is_class_name}
-use Rattle.gl_meaning.specs.View.{manifest_view}
 use Rattle.gl_meaning.specs.Walk.{Found, check_members}
-use Rattle.gl_meaning.specs.declared.manifest.Manifest as code
 use Rattle.gl_meaning.proofs.Forms.{under_sound, if_sound, passed, object_passed, members_passed}
 use Rattle.gl_parse.specs.ReadStmt.{expression_of}
 use Rattle.gl_manifest.specs.Holds.{Spells, Holds}
-use Rattle.gl_manifest.specs.Order.{Rise, ClassRises, NamesRise}
-use Rattle.gl_manifest.specs.View.{Reads}
-use Rattle.gl_manifest.specs.declared.fault.ManifestFault.{ManifestFault}
+use Rattle.gl_meaning.specs.Order.{Rise, ClassRises, NamesRise}
 use Rattle.gl_manifest.proofs.Holding.{said_holds}
 use Rattle.gl_manifest.proofs.Keys.{IsFirst, IsOrdered, KeysRise, json_ordered, member_ordered, members_in_rise}
 use Rattle.gl_manifest.proofs.Names.{free_bytes, class_bytes}
@@ -58,7 +54,7 @@ rise_differ (t ∷ ts) r = (less_than_all t ts r.0, rise_differ ts r.1)
 -- Names of members
 
 -- it is the name for a key that has passed its rule
-abbrev Names : {A : Type 0} → (List ℕ → json.Data → Found ⊤) → (List ℕ → json.Data → A → Type 0) → (A → Text) → Type 0
+abbrev pub Names : {A : Type 0} → (List ℕ → json.Data → Found ⊤) → (List ℕ → json.Data → A → Type 0) → (A → Text) → Type 0
 Names {A} rule R name = (k : List ℕ) (d : json.Data) (x : A) → rule k d ≡ Ok tt → R k d x → bytes_of (name x) ≡ k
 
 less_texts : (t u : Text) (k l : List ℕ) → bytes_of t ≡ k → bytes_of u ≡ l → slice_cmp nat_cmp k l ≡ Less → IsTrue (text_less t u)
@@ -91,17 +87,17 @@ each_is rule R P gives (json.member k d ms) (x ∷ xs) rise sound are =
 
 -- The manifest's
 
-action_name : (k : List ℕ) (d : json.Data) (x : Text × Action) → action_check k d ≡ Ok tt → IsAction Spells k d x → bytes_of x.0 ≡ k
+pub action_name : (k : List ℕ) (d : json.Data) (x : Text × Action) → action_check k d ≡ Ok tt → IsAction Spells k d x → bytes_of x.0 ≡ k
 unfolding action_check
 action_name k d x sound is = ap bytes_of is.name ∙ free_bytes k (if_sound (is_free_name k) _ sound).0
 
-field_name : (class : json.Data) (k : List ℕ) (d : json.Data) (f : Text × Plain) → field_check class k d ≡ Ok tt → IsField k d f → bytes_of f.0 ≡ k
+pub field_name : (class : json.Data) (k : List ℕ) (d : json.Data) (f : Text × Plain) → field_check class k d ≡ Ok tt → IsField k d f → bytes_of f.0 ≡ k
 unfolding field_check
 field_name class k d f sound is =
     let named = if_sound (is_free_name k && not (has_inner (codes "actions") k class)) _ sound in
     ap bytes_of is.0 ∙ free_bytes k (both (is_free_name k) _ named.0).0
 
-getter_name : (class : json.Data) (k : List ℕ) (d : json.Data) (g : Text × Expr) → getter_check class k d ≡ Ok tt → IsGetter Spells k d g → bytes_of g.0 ≡ k
+pub getter_name : (class : json.Data) (k : List ℕ) (d : json.Data) (g : Text × Expr) → getter_check class k d ≡ Ok tt → IsGetter Spells k d g → bytes_of g.0 ≡ k
 unfolding getter_check
 getter_name class k d g sound is =
     let named = if_sound (is_free_name k && not (has_inner (codes "actions") k class) && not (has_inner (codes "fields") k class)) _ sound in
@@ -153,7 +149,3 @@ holds_rises bytes m h =
 -- the names of the manifest of any bytes rise
 pub read_rises : (bytes : List ℕ) (m : Manifest) → read_manifest expression_of bytes ≡ said m → NamesRise m
 read_rises bytes m e = holds_rises bytes m (said_holds bytes m e)
-
-pub keeps_order : (bytes : List ℕ) (r : Result code.Manifest ManifestFault) → Reads r (read_manifest expression_of bytes) → IfOk r (λ m. NamesRise (manifest_view m))
-keeps_order bytes (Ok m) h = read_rises bytes (manifest_view m) h
-keeps_order bytes (Err e) h = tt

@@ -1,4 +1,3 @@
 pub mod Holds
-pub mod Order
 pub mod Parts
 pub mod View

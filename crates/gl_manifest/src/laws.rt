@@ -6,7 +6,7 @@ ghost use Rattle.gl_meaning.specs.Manifest as m;
 ghost use Rattle.gl_meaning.specs.ManifestOf.{read_manifest, said};
 ghost use Rattle.gl_parse.specs.ReadStmt.{expression_of};
 ghost use Rattle.gl_manifest.specs.Holds.{Holds};
-ghost use Rattle.gl_manifest.specs.Order.{Rise, NamesRise};
+ghost use Rattle.gl_meaning.specs.Order.{Rise, NamesRise};
 
 /// Bytes say a manifest exactly where they hold JSON of the form of a manifest, and it is the manifest of that JSON.
 #[tactic(auto, using(crate::proofs::Holding::held))]

@@ -11,10 +11,12 @@ pub mod Laws
 pub mod Manifest
 pub mod ManifestIs
 pub mod ManifestLimits
+pub mod ManifestNames
 pub mod ManifestOf
 pub mod ManifestRules
 pub mod ManifestShape
 pub mod NameTests
+pub mod Order
 pub mod Parts
 pub mod Path
 pub mod PathCode

@@ -9,7 +9,7 @@ use Rattle.json.specs.Word.{head, ends_word, after_number, number_before, litera
 use Rattle.std.specs.List.{starts_with}
 use Rattle.json.specs.Lex.{Lexeme, token, comma, colon, Class, quote, backslash, operator, space, other, class, operator_lexeme, string_token, Mode, between, in_word, in_string, in_escape, lex_byte, lex, Place, fresh, after_value, after_comma, after_key, begins_colon, if_allowed, place_token, punctuate, tokens}
 use Rattle.gl_meaning.specs.ManifestRules.{Each}
-use Rattle.gl_load.proofs.JsonContent.{beside_ascii, string_text}
+use Rattle.gl_manifest.proofs.JsonContent.{beside_ascii, string_text}
 
 abbrev pub IsTextToken : Token → Type 0
 IsTextToken (key s) = IsUtf8 s

@@ -16,7 +16,7 @@ use Rattle.serde_json.specs.Read.{number_of, of_json, of_items, of_members, max_
 use Rattle.gl_meaning.specs.JsonText.{read_json, members_in, items_in, members_at, items_at, text_in, text_at}
 use Rattle.gl_meaning.specs.ManifestRules.{Each}
 use Rattle.gl_manifest.proofs.Given.{Gives, given_map, given_then, Anything, anything, if_given, found_given, members_given}
-use Rattle.gl_load.proofs.JsonTokens.{IsTextToken, tokens_text}
+use Rattle.gl_manifest.proofs.JsonTokens.{IsTextToken, tokens_text}
 
 -- What the grammar reads
 
