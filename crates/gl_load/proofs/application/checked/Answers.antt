@@ -1,6 +1,6 @@
 use Rattle.std.proofs.Math.Logic.{∥∥₁_map}
 use Rattle.gl_load.proofs.application.checked.Goals as goal
 
-pub new-requires : goal.new-requires
-new-requires c =
+pub new-requires-made : goal.new-requires-made
+new-requires-made c =
     ∥∥₁_map c.spelled.ensures (λ s. (c.args.templates, (s, c.in_ok-programs.ensures.lowers, c.in_ok-programs.ensures.known, c.in_ok-no_cycle.ensures.none c.args.templates)))
