@@ -15,9 +15,10 @@ use Rattle.gl_opc.specs.IsProgram.{IsProgramOf}
 use Rattle.gl_opc.specs.Links.{IsFirst}
 use Rattle.gl_opc.specs.Lowers.{Lowers, LowersExpr}
 use Rattle.gl_opc.specs.Piece.{start}
-use Rattle.gl_opc.specs.TreeFaults.{at_stmt, first_fault, first_expr_fault}
+use Rattle.gl_opc.specs.TreeFaults.{at_stmt, template_faults, expr_faults, first_fault, first_expr_fault}
 use Rattle.gl_opc.specs.WireFaults.{body_faults, expr_unknowns}
 use Rattle.gl_opc.specs.declared.fault.LinkFault.{LinkFault}
+use Rattle.gl_opc.proofs.Known.{template_known, expression_known}
 use Rattle.gl_opc.proofs.Lowered.{template_lowers, expression_lowers}
 use Rattle.gl_opc.proofs.WireUnknowns.{template_faults_wire, expr_faults_wire}
 
@@ -27,6 +28,19 @@ module _ (m : Manifest) (c : ClassEntry) where
       → IfOk r (λ p. (b : Body) → IsTemplate b → wire_of b ≡ v → Lowers (program_view p) b m c)
   lowers_all v (Ok p) made known = λ b is e. template_lowers (program_view p) m c b v is e known made
   lowers_all v (Err f) made known = tt
+
+  -- in what is lowered every name is known
+  pub known_all : (v : w.Wire) (r : Result Program LinkFault)
+      → IfOk r (λ p. (b : Body) → IsTemplate b → wire_of b ≡ v → Lowers (program_view p) b m c)
+      → IfOk r (λ p. (b : Body) → IsTemplate b → wire_of b ≡ v → template_faults m c b ≡ [])
+  known_all v (Ok p) lowers = λ b is e. template_known (program_view p) b m c (lowers b is e)
+  known_all v (Err f) lowers = tt
+
+  pub known_each : (v : w.ExprWire) (r : Result Program LinkFault)
+      → IfOk r (λ p. (bytes : List ℕ) (e : Expr) (params : List Text) → SpellsExpr bytes e → expr_wire_of params e ≡ v → LowersExpr (program_view p) e params m c)
+      → IfOk r (λ p. (bytes : List ℕ) (e : Expr) (params : List Text) → SpellsExpr bytes e → expr_wire_of params e ≡ v → expr_faults m c params e ≡ [])
+  known_each v (Ok p) lowers = λ bytes e params spelled f. expression_known (program_view p) e params m c (lowers bytes e params spelled f)
+  known_each v (Err f) lowers = tt
 
   pub first_all : (v : w.Wire) (r : Result Program LinkFault)
       → IfErr r (λ e. IsFirst e (first_of (body_faults m c 0 v.body)))

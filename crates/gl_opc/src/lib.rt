@@ -8,6 +8,7 @@
 mod app;
 mod context;
 mod fault;
+pub mod laws;
 mod link_expr;
 mod link_part;
 mod link_stmt;

@@ -8,7 +8,7 @@ ghost use Rattle.gl_meaning.specs.View.{manifest_view, class_view};
 ghost use Rattle.gl_program.specs.View.{program_view};
 ghost use Rattle.gl_opc.specs.Coding.{template_code, expression_code};
 ghost use Rattle.gl_opc.specs.IsProgram.{IsProgramOf};
-ghost use Rattle.gl_opc.specs.TreeFaults.{at_stmt, first_fault, first_expr_fault};
+ghost use Rattle.gl_opc.specs.TreeFaults.{at_stmt, template_faults, expr_faults, first_fault, first_expr_fault};
 ghost use Rattle.gl_opc.specs.Links.{IsFirst};
 ghost use Rattle.gl_opc.specs.Lowers.{Lowers, LowersExpr};
 ghost use Rattle.gl_opc.specs.Piece.{start};
@@ -63,6 +63,8 @@ pub fn link(
 ) -> Result<Program, LinkFault>
     ensures lowers { IfOk result (λ p. (b : Body) → IsTemplate b → wire_of b ≡ wire_view wire.now
         → Lowers (program_view p) b (manifest_view manifest.now) (class_view class.now)) }
+    ensures known { IfOk result (λ p. (b : Body) → IsTemplate b → wire_of b ≡ wire_view wire.now
+        → template_faults (manifest_view manifest.now) (class_view class.now) b ≡ []) }
     ensures unknown { IfErr result (λ e. (b : Body) → IsTemplate b → wire_of b ≡ wire_view wire.now
         → IsFirst e (first_fault (manifest_view manifest.now) (class_view class.now) b)) }
 {
@@ -86,6 +88,8 @@ pub fn link_expression(
 ) -> Result<Program, LinkFault>
     ensures lowers { IfOk result (λ p. (bytes : List ℕ) (e : Expr) (params : List Text) → SpellsExpr bytes e → expr_wire_of params e ≡ expr_wire_view wire.now
         → LowersExpr (program_view p) e params (manifest_view manifest.now) (class_view class.now)) }
+    ensures known { IfOk result (λ p. (bytes : List ℕ) (e : Expr) (params : List Text) → SpellsExpr bytes e → expr_wire_of params e ≡ expr_wire_view wire.now
+        → expr_faults (manifest_view manifest.now) (class_view class.now) params e ≡ []) }
     ensures unknown { IfErr result (λ f. (bytes : List ℕ) (e : Expr) (params : List Text) → SpellsExpr bytes e → expr_wire_of params e ≡ expr_wire_view wire.now
         → IsFirst f (first_expr_fault (manifest_view manifest.now) (class_view class.now) params e)) }
 {

@@ -10,7 +10,7 @@ use Rattle.gl_opc.specs.IsProgram.{IsProgramOf}
 use Rattle.gl_opc.specs.Links.{IsFirst}
 use Rattle.gl_opc.specs.Piece.{start}
 use Rattle.gl_opc.specs.WireFaults.{body_faults}
-use Rattle.gl_opc.proofs.Lowering.{lowers_all, first_all}
+use Rattle.gl_opc.proofs.Lowering.{lowers_all, known_all, first_all}
 use Rattle.gl_opc.proofs.linking.link.Goals as goal
 
 pub returns-clause-lowers : goal.returns-clause-lowers
@@ -30,3 +30,6 @@ returns-clause-unknown c =
     let k = class_view c.args.class.now in
     let r = c.body_program.result in
     first_all m k (wire_view c.args.wire.now) r (subst (λ b. IfErr r (λ e. IsFirst e (first_of (body_faults m k 0 b)))) (ap body_of c.body.ensures) c.body_program.ensures.unknown)
+
+pub returns-clause-known : goal.returns-clause-known
+returns-clause-known c = known_all (manifest_view c.args.manifest.now) (class_view c.args.class.now) (wire_view c.args.wire.now) c.body_program.result (returns-clause-lowers c)
