@@ -51,11 +51,12 @@ not_less_both_ways m n one other =
 number_by_less : (names : List Text) → Rise names → (m n : Text) (i k : ℕ) → number_in names m ≡ Some i → number_in names n ≡ Some k → IsTrue (text_less m n) → (k < i → ⊥) × (i ≡ k → ⊥)
 number_by_less names rise m n i k at_m at_n less =
     let f = numbered_is m names i at_m in
-    let g = numbered_is n names k at_n in
-    (λ after. not_less_both_ways m n less (less_by_number names rise n m k i at_n at_m after),
-     λ same. let one : m ≡ n = f.1 ∙ (ap (λ j. get_or names j []) same ∙ sym g.1) in
-             let itself = subst (λ x. IsTrue (text_less m x)) (sym one) less in
-             not_less_both_ways m m itself itself)
+    let g = numbered_is n names k at_n in (
+      λ after. not_less_both_ways m n less (less_by_number names rise n m k i at_n at_m after),
+      λ same. let one : m ≡ n = f.1 ∙ (ap (λ j. get_or names j []) same ∙ sym g.1) in
+          let itself = subst (λ x. IsTrue (text_less m x)) (sym one) less in
+          not_less_both_ways m m itself itself,
+    )
 
 is_before : (i k : ℕ) → (k < i → ⊥) × (i ≡ k → ⊥) → i < k
 is_before i k not = omega (arith, not.0, not.1)

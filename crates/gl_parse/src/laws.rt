@@ -1,7 +1,9 @@
 //! Laws that the grammar keeps, each the contract of a function that does nothing.
-ghost use Rattle.std.specs.Prelude.{ℕ, List, ◌≡◌};
+ghost use Rattle.std.specs.Prelude.{ℕ, List, Some, true, ◌≡◌};
+ghost use Rattle.std.specs.Str.{is_utf8};
 ghost use Rattle.gl_ast.specs.Grammar.{Spells, SpellsExpr};
 ghost use Rattle.gl_ast.specs.Template.{Body, Expr};
+ghost use Rattle.gl_parse.specs.ReadStmt.{template_of, expression_of};
 
 /// No bytes spell two templates.
 pub fn one_template()
@@ -11,4 +13,14 @@ pub fn one_template()
 /// No text spells two expressions.
 pub fn one_expression()
     ensures { (text : List ℕ) (expr other : Expr) → SpellsExpr text expr → SpellsExpr text other → expr ≡ other }
+{}
+
+/// The functions by which the parser reads give exactly what the grammar's relation says: the tree of a template's bytes is the one that they spell, and
+/// none where they spell none; the expression of a text in UTF-8 likewise.
+#[tactic(auto, using(crate::proofs::SpellsRead::read_spells, crate::proofs::SpellsRead::spells_read, crate::proofs::SpellsRead::read_spells_expr, crate::proofs::SpellsRead::spells_read_expr))]
+pub fn read_as_spelled()
+    ensures read { (bytes : List ℕ) (tree : Body) → template_of bytes ≡ Some tree → Spells bytes tree }
+    ensures spelled { (bytes : List ℕ) (tree : Body) → Spells bytes tree → template_of bytes ≡ Some tree }
+    ensures read_expression { (text : List ℕ) (expr : Expr) → is_utf8 text ≡ true → expression_of text ≡ Some expr → SpellsExpr text expr }
+    ensures spelled_expression { (text : List ℕ) (expr : Expr) → SpellsExpr text expr → expression_of text ≡ Some expr }
 {}
