@@ -1,3 +1,4 @@
 pub mod Faults
 pub mod ScriptIs
+pub mod ScriptOver
 pub mod View
