@@ -42,6 +42,7 @@ pub struct Application {
 // What the bytes of a manifest say.
 fn manifest_of(alloc: Global, bytes: &[u8]) -> Result<Manifest, LoadCause>
     ensures told { Gives manifest_view result (manifest_read (read_manifest expression_of bytes.now)) }
+    ensures limits { IfOk result (λ m. KeepsLimits (manifest_view m)) }
     ensures rules { IfOk result (λ m. KeepsRules (manifest_view m)) }
     ensures spelled { IfOk result (λ m. IsSpelledManifest (manifest_view m)) }
     ensures causes { IfErr result (λ e. (misses misses_now faults faults_now : ℕ) → HasCause e misses misses_now faults faults_now) }
@@ -60,6 +61,7 @@ fn manifest_of(alloc: Global, bytes: &[u8]) -> Result<Manifest, LoadCause>
 fn manifest_file<S: Shelf>(alloc: Global, shelf: &mut S, name: &str) -> Result<Manifest, LoadCause>
     ensures keeps { S.holds shelf.new ≡ S.holds shelf.old }
     ensures told { (files : List Entry) → S.holds shelf.old ≡ Some files → Gives manifest_view result (manifest_in files (chars name.now)) }
+    ensures limits { IfOk result (λ m. KeepsLimits (manifest_view m)) }
     ensures rules { IfOk result (λ m. KeepsRules (manifest_view m)) }
     ensures spelled { IfOk result (λ m. IsSpelledManifest (manifest_view m)) }
     ensures causes { IfErr result (λ e. HasCause e (S.misses shelf.old) (S.misses shelf.new) (S.faults shelf.old) (S.faults shelf.new)) }
@@ -75,6 +77,7 @@ fn manifest_in<S: Shelf>(alloc: Global, shelf: &mut S, name: &str) -> Result<Man
     ensures keeps { S.holds shelf.new ≡ S.holds shelf.old }
     ensures told { (files : List Entry) → S.holds shelf.old ≡ Some files
         → Loads manifest_view result (in_file (chars name.now) (manifest_in files (chars name.now))) }
+    ensures limits { IfOk result (λ m. KeepsLimits (manifest_view m)) }
     ensures rules { IfOk result (λ m. KeepsRules (manifest_view m)) }
     ensures spelled { IfOk result (λ m. IsSpelledManifest (manifest_view m)) }
     ensures causes { IfErr result (λ f. HasCause f.cause (S.misses shelf.old) (S.misses shelf.new) (S.faults shelf.old) (S.faults shelf.new)) }
@@ -127,6 +130,7 @@ fn checked(
     manifest: Manifest,
     templates: Templates,
 ) -> Result<Application, LoadFault>
+    requires limits { KeepsLimits (manifest_view manifest) }
     requires rules { KeepsRules (manifest_view manifest) }
     requires spelled { IsSpelledManifest (manifest_view manifest) }
     requires many { length templates ≡ length manifest.classes }

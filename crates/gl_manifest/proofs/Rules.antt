@@ -14,7 +14,7 @@ use Rattle.gl_meaning.specs.ManifestIs.{MembersAre, IsAction, IsField, IsGetter,
 use Rattle.gl_meaning.specs.ManifestLimits as most
 use Rattle.gl_meaning.specs.ManifestNames.{ClassNames, KeepsRules}
 use Rattle.gl_meaning.specs.ManifestOf.{read_manifest, said}
-use Rattle.gl_meaning.specs.ManifestRules.{Each}
+use Rattle.gl_meaning.specs.ManifestRules.{Each, KeepsLimits}
 use Rattle.gl_meaning.specs.ManifestShape.{action_member, action_check, field_check, getter_check, file_check, class_member, class_check, manifest_member, manifest_check}
 use Rattle.gl_meaning.specs.NameTests.{is_free_name, is_class_name}
 use Rattle.gl_meaning.specs.View.{manifest_view}
@@ -115,3 +115,7 @@ read_rules bytes m e = record {
 pub keeps_rules : (bytes : List ℕ) (r : Result code.Manifest ManifestFault) → Reads r (read_manifest expression_of bytes) → IfOk r (λ m. KeepsRules (manifest_view m))
 keeps_rules bytes (Ok m) h = read_rules bytes (manifest_view m) h
 keeps_rules bytes (Err e) h = tt
+
+pub keeps_limits : (bytes : List ℕ) (r : Result code.Manifest ManifestFault) → Reads r (read_manifest expression_of bytes) → IfOk r (λ m. KeepsLimits (manifest_view m))
+keeps_limits bytes (Ok m) h = read_keeps expression_of bytes (manifest_view m) h
+keeps_limits bytes (Err e) h = tt

@@ -2,6 +2,7 @@
 ghost use Rattle.std.specs.Prelude.{IfOk};
 ghost use Rattle.gl_meaning.specs.ManifestNames.{KeepsRules};
 ghost use Rattle.gl_meaning.specs.ManifestOf.{read_manifest};
+ghost use Rattle.gl_meaning.specs.ManifestRules.{KeepsLimits};
 ghost use Rattle.gl_meaning.specs.View.{manifest_view};
 ghost use Rattle.gl_parse.specs.ReadStmt.{expression_of};
 ghost use Rattle.gl_manifest.specs.View.{Reads};
@@ -37,9 +38,10 @@ fn said(alloc: Global, bytes: &[u8]) -> Result<Manifest, ManifestFault>
 /// the JSON is not of the form of a manifest, at the first place that is not; `NotInGrammar` exactly where it is of the
 /// form and a text in it spells no expression, or no path of an argument where it is a `call`, at the first such text.
 /// What is read keeps the rules of manifests: the limits, the order of names, and which names differ.
-#[tactic(auto, using(crate::proofs::Rules::keeps_rules))]
+#[tactic(auto, using(crate::proofs::Rules::keeps_limits, crate::proofs::Rules::keeps_rules))]
 pub fn read(alloc: Global, bytes: &[u8]) -> Result<Manifest, ManifestFault>
     ensures reads { Reads result (read_manifest expression_of bytes.now) }
+    ensures limits { IfOk result (λ m. KeepsLimits (manifest_view m)) }
     ensures rules { IfOk result (λ m. KeepsRules (manifest_view m)) }
 {
     said(alloc, bytes)

@@ -10,7 +10,6 @@ ghost use Rattle.gl_opc.specs.Numbers.{number_in};
 ghost use Rattle.gl_opc.specs.TreeFaults.{template_faults, expr_faults};
 
 /// Where a program lowers a template, or an expression with parameters in scope, every name in it is known.
-#[tactic(auto, using(crate::proofs::Known::template_known, crate::proofs::Known::expression_known))]
 pub fn lowered_is_known()
     ensures template { (p : p.Program) (b : t.Body) (m : m.Manifest) (c : m.ClassEntry) → Lowers p b m c → template_faults m c b ≡ [] }
     ensures expression { (p : p.Program) (e : t.Expr) (params : List Text) (m : m.Manifest) (c : m.ClassEntry) → LowersExpr p e params m c → expr_faults m c params e ≡ [] }
@@ -18,7 +17,6 @@ pub fn lowered_is_known()
 
 /// Where names rise by bytes, as those of an application's classes, and of a class's fields, getters and actions do, their numbers are by that order:
 /// the number of one is less than that of another exactly where the name is.
-#[tactic(auto, using(crate::proofs::NumbersRise::numbers_rise))]
 pub fn numbers_rise()
     ensures { (names : List Text) → Rise names → (m n : Text) (i k : ℕ) → number_in names m ≡ Some i → number_in names n ≡ Some k → (i < k) ↔ IsTrue (text_less m n) }
 {}

@@ -17,7 +17,6 @@ pub fn one_expression()
 
 /// The functions by which the parser reads give exactly what the grammar's relation says: the tree of a template's bytes is the one that they spell, and
 /// none where they spell none; the expression of a text in UTF-8 likewise.
-#[tactic(auto, using(crate::proofs::SpellsRead::read_spells, crate::proofs::SpellsRead::spells_read, crate::proofs::SpellsRead::read_spells_expr, crate::proofs::SpellsRead::spells_read_expr))]
 pub fn read_as_spelled()
     ensures read { (bytes : List ℕ) (tree : Body) → template_of bytes ≡ Some tree → Spells bytes tree }
     ensures spelled { (bytes : List ℕ) (tree : Body) → Spells bytes tree → template_of bytes ≡ Some tree }
