@@ -14,14 +14,14 @@ use gl_meaning::Manifest;
 pub struct App {
     manifest: Manifest,
     programs: Programs,
-    pub ghost rules: { KeepsRules (manifest_view manifest) },
+    pub ghost rules: { ∥ KeepsRules (manifest_view manifest) ∥₁ },
     pub ghost made: { IsAppOf (manifest_view manifest) programs },
 }
 
 impl App {
     /// The application of this manifest with these programs. It takes no memory.
     pub fn new(manifest: Manifest, programs: Programs) -> App
-        requires rules { KeepsRules (manifest_view manifest) }
+        requires rules { ∥ KeepsRules (manifest_view manifest) ∥₁ }
         requires made { IsAppOf (manifest_view manifest) programs }
         ensures manifest { result.manifest ≡ manifest }
         ensures programs { result.programs ≡ programs }
@@ -31,7 +31,7 @@ impl App {
 
     /// What each application keeps. It does nothing.
     pub fn keeps(&self)
-        ensures rules { KeepsRules (manifest_view self.now.manifest) }
+        ensures rules { ∥ KeepsRules (manifest_view self.now.manifest) ∥₁ }
         ensures made { IsAppOf (manifest_view self.now.manifest) self.now.programs }
     {}
 
