@@ -38,7 +38,7 @@ named_there rule R name names n (json.member k d ms) [] sound are among = absurd
 named_there rule R name names n (json.member k d ms) (x ∷ xs) sound are (inl same) =
     let s = under_sound _ (rule k d) (check_members rule ms) sound in
     let is : bytes_of n ≡ k = ap bytes_of same ∙ names k d x s.0 are.0 in
-    rw is (here_by k d ms)
+    subst (λ x. is_some (get_member x (json.member k d ms)) ≡ true) (sym is) (here_by k d ms)
 named_there rule R name names n (json.member k d ms) (x ∷ xs) sound are (inr among) =
     let s = under_sound _ (rule k d) (check_members rule ms) sound in
     there_by (slice_cmp nat_cmp (bytes_of n) k) (bytes_of n) d ms (named_there rule R name names n ms xs s.1 are.1 among)
