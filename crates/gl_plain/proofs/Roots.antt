@@ -1,0 +1,223 @@
+-- The laws of the machine.
+use Rattle.std.proofs.Common.{◌<◌, ◌≡◌, ℕ, zero, suc, max, ◌+◌, Bool, true, false, List, [], ◌∷◌, ◌++◌, Option, Some, None, refl, sym, ◌∙◌, ap, ap₂, subst, arith}
+use Rattle.std.specs.Prelude.{not, ◌&&◌, ◌||◌}
+use Rattle.gl_meaning.specs.App.{App}
+use Rattle.gl_meaning.specs.Path.{Path}
+use Rattle.gl_meaning.specs.Scope.{scope, nothing_passed}
+use Rattle.gl_meaning.specs.Eval.{Store, class_at}
+use Rattle.gl_meaning.specs.Render as r
+use Rattle.gl_meaning.specs.Render.{draw, components_at, fits, Forest, join, forest_of, Piece, piece_fits}
+use Rattle.gl_plain.specs.Ids.{a_ref, Id, instance_id, occurs}
+use Rattle.gl_plain.specs.State.{Names, names_by, Inst, mscope, mnothing, State, pair_of, Thing}
+use Rattle.gl_plain.specs.Live
+use Rattle.gl_plain.specs.Live.{Live, Lives, Items, times, times_in, is_deep, are_deep, items_deep, AttrSpot, ModSpot}
+use Rattle.gl_plain.specs.Grow.{grow_components}
+use Rattle.gl_plain.specs.Renew.{renew_root, renew_body}
+use Rattle.gl_plain.specs.Drawn.{drawn, drawn_in, drawn_items, drawn_comment, drawn_attrs, drawn_places, leaf_piece}
+use Rattle.gl_plain.specs.Stands.{top, Owned, StandIn}
+use Rattle.gl_plain.specs.Machine.{no_place, RootStands, OnlyTouched}
+use Rattle.gl_plain.specs.Laws.{StandingShows, DeepIsDeep, AppendedStands, UpdatedStands, UpdateLeavesOthers, IdsAreKept, LaidStands, FreshIsIdle}
+use Rattle.gl_plain.proofs.Moves.{Moves, owned_after, left_owned, right_owned, recount, no_move, is_old, hit_self}
+use Rattle.gl_plain.proofs.Binding.{in_top}
+use Rattle.gl_plain.proofs.Stay.{cells_stay, left_above, right_above}
+use Rattle.gl_plain.specs.Laid.{rest, CellsHold}
+use Rattle.gl_plain.proofs.Laid.{laid_in}
+use Rattle.gl_plain.specs.Guards.{NoneStale}
+use Rattle.gl_plain.proofs.Idle.{body_idle}
+use Rattle.gl_plain.proofs.Cells.{cells_at}
+use Rattle.gl_plain.proofs.Layers.{app_grows}
+use Rattle.gl_plain.proofs.Rereads.{Cold}
+use Rattle.gl_plain.proofs.Renewing.{Ready, made_old, from_after, idle_before, idle_same}
+use Rattle.gl_plain.proofs.Renews.{body_renews}
+use Rattle.gl_plain.proofs.ElementRenews.{element_is}
+use Rattle.gl_plain.proofs.Shown.{scope_itself, shows_in}
+
+-- the root's scope
+root_ready : (app : App) (σ τ : Store) (st : State) (i : Inst) (made : List Id) (args : Names) → Owned st (λ q. occurs q made) → i.path ≡ [] → args ≡ []
+    → Rattle.gl_plain.specs.Stands.CellsStand app σ τ st.look i made → OnlyTouched app σ τ st → Ready app σ τ (max 0 (top made)) st (mscope i args [] mnothing) no_place no_place
+root_ready app σ τ st i made args o path none held cells = record {
+  low = made_old app σ τ 0 st made (omega arith) o;
+  scope = record {
+    low = ((λ x e. let h = in_top _ made (held x e).0 in omega (arith, h)), subst (λ y. Rattle.gl_plain.specs.Stands.NamesBelow (max 0 (top made)) y) (sym none) tt, tt, tt);
+    is = ap₂ (λ x y. scope x (names_by (pair_of st.look) y) [] nothing_passed) path none;
+    cells = (cells_at app σ τ st.look i made held, tt);
+  };
+  keeps = scope_itself (Cold st) no_place;
+  cells = cells;
+}
+
+root_appended : (app : App) (τ : Store) (m : ℕ) (st : State) → let y = grow_components m app τ [] [] [] None mnothing st in
+    Moves st y.1 (λ q. 0) (λ q. times q y.0) × RootStands app τ τ y.1.look m y.0
+root_appended app τ zero st = (no_move st, refl)
+root_appended app τ (suc m) st =
+    let g = app_grows app τ m st in
+    let y = grow_components (suc m) app τ [] [] [] None mnothing st in (
+      recount st y.1 (λ q. 0) (λ q. 0) (λ q. times q y.0) (λ q. occurs q g.all + times_in q g.lives) (λ q. refl) (λ q. ap (times q) g.is) g.moves,
+      subst (RootStands app τ τ y.1.look (suc m)) (sym g.is) ((g.own, g.row), g.path, refl, g.cells, g.from, g.stands),
+    )
+
+pub appended_stands : AppendedStands
+appended_stands app τ st =
+    let h = root_appended app τ app.limit st in
+    let y = grow_components app.limit app τ [] [] [] None mnothing st in
+    record { owned = owned_after st y.1 (λ q. 0) (λ q. times q y.0) h.0; stands = h.1 }
+
+root_updated : (app : App) (σ τ : Store) (m : ℕ) (st : State) (l : Live) → Owned st (λ q. times q l) → RootStands app σ τ st.look m l → OnlyTouched app σ τ st
+    → let y = renew_root m app τ l st in Moves st y.1 (λ q. times q l) (λ q. times q y.0) × RootStands app τ τ y.1.look m y.0
+root_updated app σ τ (suc m) st (Live.component_live i made gm args None ls) o h cells =
+    let ca : Id → ℕ = λ q. occurs q made in
+    let cb : Id → ℕ = λ q. times_in q ls in
+    let ready = root_ready app σ τ st i made args (left_owned st ca cb o) h.1 h.2 h.3 cells in
+    let b = max 0 (top made) in
+    let ms = mscope i args [] mnothing in
+    let c = (class_at app []).template in
+    let g = body_renews app σ τ (element_is app σ τ) m c ls b no_place no_place ms [] 0 st (right_owned st ca cb o) h.4 h.5 ready in
+    let y = renew_body app τ m ms [] 0 c ls st in
+    let cz : Id → ℕ = λ q. times_in q y.0 in
+    let kept = idle_same app σ τ st y.1 ca cb cz o g.moves in (
+      idle_before app σ τ st y.1 ca cb cz o g.moves,
+      ((h.0.0, kept (instance_id i.id) h.0.0 ∙ h.0.1), h.1, h.2, cells_stay app st.look y.1.look τ τ i made kept h.3, from_after app σ τ b st y.1 cb cz ready.low h.4 g.moves, g.stands),
+    )
+root_updated app σ τ zero st (Live.deep_live q) o h cells = (Rattle.gl_plain.proofs.Rereads.same_moves st (λ q'. 0) o, h)
+root_updated app σ τ _ st _ o h cells = absurd h
+
+pub updated_stands : UpdatedStands
+updated_stands app σ τ st l h cells =
+    let g = root_updated app σ τ app.limit st l h.owned h.stands cells in
+    let y = renew_root app.limit app τ l st in
+    record { owned = owned_after st y.1 (λ q. times q l) (λ q. times q y.0) g.0; stands = g.1 }
+
+pub update_leaves_others : UpdateLeavesOthers
+update_leaves_others app σ τ st l h cells = let g = root_updated app σ τ app.limit st l h.owned h.stands cells in (g.0.kept, g.0.more, g.0.fewer, λ q w z. g.0.gone q (is_old st (λ i. times i l) h.owned q w) w z)
+
+root_shows : (app : App) (τ : Store) (m : ℕ) (st : State) (l : Live) → Owned st (λ q. times q l) → RootStands app τ τ st.look m l → drawn st.look [] l ≡ components_at m app τ [] [] nothing_passed
+root_shows app τ (suc m) st (Live.component_live i made gm args None ls) o h =
+    let ca : Id → ℕ = λ q. occurs q made in
+    let cb : Id → ℕ = λ q. times_in q ls in
+    let ready = root_ready app τ τ st i made args (left_owned st ca cb o) h.1 h.2 h.3 (λ j x e. refl) in
+    let g = shows_in app τ st m (max 0 (top made)) no_place (mscope i args [] mnothing) nothing_passed [] 0 (class_at app []).template ls refl (right_owned st ca cb o) h.5 ready in
+    ap₂ (λ (j : Path) y. r.single (r.component j (scope j (names_by (pair_of st.look) y) [] nothing_passed) (drawn_in st.look j 0 ls))) h.1 h.2
+    ∙ ap (λ f. r.single (r.component [] no_place f)) g.is
+root_shows app τ zero st (Live.deep_live q) o h = ap (λ j. r.single (r.too_deep j)) h
+root_shows app τ _ st _ o h = absurd h
+
+pub standing_shows : StandingShows
+standing_shows app τ st l h = root_shows app τ app.limit st l h.owned h.stands
+
+root_laid : (app : App) (σ τ τ' : Store) (m : ℕ) (st st' : State) (l : Live) → RootStands app σ τ st.look m l → ((q : Id) → 0 < rest q l → st'.look q ≡ st.look q) → CellsHold app τ' st'.look l
+    → RootStands app σ τ' st'.look m l
+root_laid app σ τ τ' (suc m) st st' (Live.component_live i made gm args None ls) h same cs = (
+  (h.0.0, same (instance_id i.id) (left_above _ _ (left_above _ _ (hit_self _))) ∙ h.0.1),
+  h.1,
+  h.2,
+  cs.0,
+  h.4,
+  laid_in app st.look st'.look σ τ τ' m _ _ _ [] 0 (class_at app []).template ls (λ q w. same q (right_above _ _ w)) cs.1 h.5,
+)
+root_laid app σ τ τ' zero st st' (Live.deep_live q) h same cs = h
+root_laid app σ τ τ' _ st st' _ h same cs = absurd h
+
+pub laid_stands : LaidStands
+laid_stands app σ τ τ' st st' l h same next cs = record {
+  owned = record { once = h.owned.once; old = λ q le. h.owned.old q (let e = next q.kind in omega (arith, le, e)) };
+  stands = root_laid app σ τ τ' app.limit st st' l h.stands same cs;
+}
+
+root_keeps : (app : App) (σ τ : Store) (m : ℕ) (st : State) (l : Live) → Owned st (λ q. times q l) → RootStands app σ τ st.look m l → OnlyTouched app σ τ st
+    → Rattle.gl_plain.specs.Keeps.Keeps st.next l (renew_root m app τ l st).0
+root_keeps app σ τ (suc m) st (Live.component_live i made gm args None ls) o h cells =
+    let ca : Id → ℕ = λ q. occurs q made in
+    let cb : Id → ℕ = λ q. times_in q ls in
+    let ready = root_ready app σ τ st i made args (left_owned st ca cb o) h.1 h.2 h.3 cells in
+    let g = body_renews app σ τ (element_is app σ τ) m (class_at app []).template ls (max 0 (top made)) no_place no_place (mscope i args [] mnothing) [] 0 st (right_owned st ca cb o) h.4 h.5 ready in
+    (refl, refl, refl, refl, g.keeps)
+root_keeps app σ τ zero st (Live.deep_live q) o h cells = refl
+root_keeps app σ τ _ st _ o h cells = absurd h
+
+pub ids_are_kept : IdsAreKept
+ids_are_kept app σ τ st l h cells = root_keeps app σ τ app.limit st l h.owned h.stands cells
+
+root_idle : (app : App) (σ τ : Store) (m : ℕ) (st : State) (l : Live) → Owned st (λ q. times q l) → RootStands app σ τ st.look m l → OnlyTouched app σ τ st → NoneStale st l
+    → renew_root m app τ l st ≡ (l, st)
+root_idle app σ τ (suc m) st (Live.component_live i made gm args None ls) o h cells f =
+    let ca : Id → ℕ = λ q. occurs q made in
+    let cb : Id → ℕ = λ q. times_in q ls in
+    let ready = root_ready app σ τ st i made args (left_owned st ca cb o) h.1 h.2 h.3 cells in
+    ap (λ (y : Lives × State). (Live.component_live i made gm args None y.0, y.1))
+    (body_idle app σ τ st m (class_at app []).template ls (max 0 (top made)) no_place no_place (mscope i args [] mnothing) [] 0 (right_owned st ca cb o) h.5 ready f)
+root_idle app σ τ zero st (Live.deep_live q) o h cells f = refl
+root_idle app σ τ _ st _ o h cells f = absurd h
+
+pub fresh_is_idle : FreshIsIdle
+fresh_is_idle app σ τ st l h cells f = root_idle app σ τ app.limit st l h.owned h.stands cells f
+
+-- Where a component would stand too deep
+
+join_fits : (f g : Forest) → fits (join f g) ≡ (fits f && fits g)
+join_fits r.no_pieces g = refl
+join_fits (r.piece q f) g = ap (λ b. piece_fits q && b) (join_fits f g) ∙ assoc (piece_fits q) (fits f) (fits g) where
+  assoc : (a b c : Bool) → (a && (b && c)) ≡ ((a && b) && c)
+  assoc true b c = refl
+  assoc false b c = refl
+
+and_true : (a : Bool) → (a && true) ≡ a
+and_true true = refl
+and_true false = refl
+
+not_or : (a b : Bool) → (not a && not b) ≡ not (a || b)
+not_or true b = refl
+not_or false b = refl
+
+module _ (look : Id → Option Thing) where
+  leaf_fits : (p : Path) (o : Option Thing) → piece_fits (leaf_piece p o) ≡ true
+  leaf_fits p None = refl
+  leaf_fits p (Some (Rattle.gl_plain.specs.State.content (Rattle.gl_plain.specs.State.text_content z))) = refl
+  leaf_fits p (Some (Rattle.gl_plain.specs.State.content (Rattle.gl_plain.specs.State.comment_content z))) = refl
+  leaf_fits p (Some (Rattle.gl_plain.specs.State.content (Rattle.gl_plain.specs.State.element_content z xs))) = refl
+  leaf_fits p (Some (Rattle.gl_plain.specs.State.row z)) = refl
+  leaf_fits p (Some (Rattle.gl_plain.specs.State.instance_row z)) = refl
+  leaf_fits p (Some (Rattle.gl_plain.specs.State.block_row z)) = refl
+  leaf_fits p (Some (Rattle.gl_plain.specs.State.modifier_row z)) = refl
+
+  comment_fits : (p : Path) (o : Option ℕ) (f : Forest) (b : Bool) → fits f ≡ b → fits (join f (drawn_comment look p o)) ≡ b
+  comment_fits p None f b e = join_fits f r.no_pieces ∙ (and_true (fits f) ∙ e)
+  comment_fits p (Some n) f b e =
+      join_fits f (r.single (leaf_piece (Rattle.gl_meaning.specs.Path.empty ∷ p) (look (Rattle.gl_plain.specs.Ids.node n))))
+      ∙ (ap (λ c. fits f && (c && true)) (leaf_fits (Rattle.gl_meaning.specs.Path.empty ∷ p) (look (Rattle.gl_plain.specs.Ids.node n))) ∙ (and_true (fits f) ∙ e))
+
+  attrs_fit : (p : Path) (xs : List AttrSpot) (qs : List Piece) → fits (forest_of (drawn_attrs look p xs ++ qs)) ≡ fits (forest_of qs)
+  attrs_fit p [] qs = refl
+  attrs_fit p (x ∷ xs) qs = attrs_fit p xs qs
+
+  places_fit : (p : Path) (i : ℕ) (zs : List ModSpot) → fits (forest_of (drawn_places look p i zs)) ≡ true
+  places_fit p i [] = refl
+  places_fit p i (z ∷ zs) = places_fit p (suc i) zs
+
+  mutual
+    fits_is : (p : Path) (l : Live) → fits (drawn look p l) ≡ not (is_deep l)
+    fits_is p (Live.still n) = ap (λ b. b && true) (leaf_fits p (look (Rattle.gl_plain.specs.Ids.node n)))
+    fits_is p (Live.put_live n z) = ap (λ b. b && true) (leaf_fits p (look (Rattle.gl_plain.specs.Ids.node n)))
+    fits_is p (Live.element_live n xs zs ls) =
+        join_fits (forest_of (drawn_attrs look p xs ++ drawn_places look p 0 zs)) _
+        ∙ (ap (λ b. b && (fits (drawn_in look p 0 ls) && true)) (attrs_fit p xs (drawn_places look p 0 zs) ∙ places_fit p 0 zs) ∙ (and_true (fits (drawn_in look p 0 ls)) ∙ all_fit p 0 ls))
+    fits_is p (Live.branch_live z true k ls) = and_true _ ∙ comment_fits (Rattle.gl_meaning.specs.Path.main ∷ p) k (drawn_in look (Rattle.gl_meaning.specs.Path.main ∷ p) 0 ls) (not (are_deep ls)) (all_fit (Rattle.gl_meaning.specs.Path.main ∷ p) 0 ls)
+    fits_is p (Live.branch_live z false k ls) = and_true _ ∙ comment_fits (Rattle.gl_meaning.specs.Path.otherwise ∷ p) k (drawn_in look (Rattle.gl_meaning.specs.Path.otherwise ∷ p) 0 ls) (not (are_deep ls)) (all_fit (Rattle.gl_meaning.specs.Path.otherwise ∷ p) 0 ls)
+    fits_is p (Live.listed z is) = and_true _ ∙ items_fit (Rattle.gl_meaning.specs.Path.items ∷ p) 0 is
+    fits_is p (Live.unlisted z k ls) = and_true _ ∙ comment_fits (Rattle.gl_meaning.specs.Path.otherwise ∷ p) k (drawn_in look (Rattle.gl_meaning.specs.Path.otherwise ∷ p) 0 ls) (not (are_deep ls)) (all_fit (Rattle.gl_meaning.specs.Path.otherwise ∷ p) 0 ls)
+    fits_is p (Live.let_live made names ls) = all_fit (Rattle.gl_meaning.specs.Path.main ∷ p) 0 ls
+    fits_is p (Live.component_live i made gm args k ls) = and_true _ ∙ all_fit i.path 0 ls
+    fits_is p (Live.yield_live n made names ls) = all_fit (Rattle.gl_meaning.specs.Path.slot n ∷ p) 0 ls
+    fits_is p (Live.deep_live q) = refl
+
+    items_fit : (p : Path) (i : ℕ) (is : Items) → fits (drawn_items look p i is) ≡ not (items_deep is)
+    items_fit p i Live.no_items = refl
+    items_fit p i (Live.item_live z k ls is) =
+        ap₂ (λ a b. a && b) (comment_fits (Rattle.gl_meaning.specs.Path.item z.key z.occurrence ∷ p) k (drawn_in look (Rattle.gl_meaning.specs.Path.item z.key z.occurrence ∷ p) 0 ls) (not (are_deep ls)) (all_fit (Rattle.gl_meaning.specs.Path.item z.key z.occurrence ∷ p) 0 ls)) (items_fit p (suc i) is) ∙ not_or (are_deep ls) (items_deep is)
+
+    all_fit : (p : Path) (i : ℕ) (ls : Lives) → fits (drawn_in look p i ls) ≡ not (are_deep ls)
+    all_fit p i Live.no_lives = refl
+    all_fit p i (Live.live_and l ls) =
+        join_fits (drawn look (Rattle.gl_meaning.specs.Path.at i ∷ p) l) (drawn_in look p (suc i) ls) ∙ (ap₂ (λ a b. a && b) (fits_is (Rattle.gl_meaning.specs.Path.at i ∷ p) l) (all_fit p (suc i) ls) ∙ not_or (is_deep l) (are_deep ls))
+
+pub deep_is_deep : DeepIsDeep
+deep_is_deep app τ st l h = sym (ap fits (standing_shows app τ st l h)) ∙ fits_is st.look [] l
