@@ -11,18 +11,18 @@ use Rattle.gl_meaning.specs.Scope.{Scope, with_locals, bind, item_value, item_in
 use Rattle.gl_meaning.specs.Eval.{Store, takes_first, eval_all}
 use Rattle.gl_meaning.specs.Render.{Entry, entries, entry_pairs, values_listed}
 use Rattle.gl_plain.specs.Ids.{a_ref, a_node, a_block, Id, ref, node, block_id, hit, occurs}
-use Rattle.gl_plain.specs.State.{any_of, source_form, Names, Inst, MScope, mscope, MPassed, mpassed, text_content, comment_content, content, block_row, row, Thing, State, thing_pair, pair_of, make}
+use Rattle.gl_plain.specs.State.{any_of, source_form, Names, Inst, MScope, mscope, MPassed, mpassed, text_content, comment_content, content, block_row, row, Thing, State, thing_pair, pair_of, make, refs_of, named_as, names_by}
 use Rattle.gl_plain.specs.Binding.{made_row, bind_exprs, bind_args, bind_params, Placed, place, first_value}
-use Rattle.gl_plain.specs.Live.{ItemSpot, item_made, Live, Lives, Items, times, times_in, times_items, times_comment, have_node}
+use Rattle.gl_plain.specs.Live.{ItemSpot, item_made, Live, Lives, Items, times, times_in, times_items, times_comment, have_node, item_names}
 use Rattle.gl_plain.specs.Grow.{made_node, Arm, or_comment, item_spot, grow_item, grow_entries, branch_from, items_or_else, GrowComponents, GrowYields, grow_stmt, grow_body}
-use Rattle.gl_plain.specs.Stands.{below, top, NamesBelow, From, Spotted, exprs_by, one_expr, WhereValues, CommentStands, ItemStands, Stands, StandIn, ItemsStand, ListStands, ElseStands}
+use Rattle.gl_plain.specs.Stands.{below, top, NamesBelow, From, Spotted, exprs_by, one_expr, WhereValues, CommentStands, ItemStands, Stands, StandIn, ItemsStand, ListStands, ElseStands, LetStands, Gives}
 use Rattle.gl_plain.specs.InScope.{InScope}
 use Rattle.gl_plain.proofs.Moves.{Moves, both_new, before_new, recount, no_move, make_moves, make_at, hit_self}
 use Rattle.gl_plain.proofs.Pairs.{pair_law, names_below, obeys_pairs}
 use Rattle.gl_plain.proofs.Binding.{both_made, row_moves, top_append, in_top}
 use Rattle.gl_plain.proofs.Bound.{made_below, bound_are, params_are}
 use Rattle.gl_plain.proofs.Stay.{stay, stay_in, gives_stays, spot_stays, comment_stays, item_stays, left_above, right_above}
-use Rattle.gl_plain.proofs.Placing.{scope_grows, local_scope, params_bound, PlacedIs, place_exprs}
+use Rattle.gl_plain.proofs.Placing.{scope_grows, local_scope, params_bound, PlacedIs, place_exprs, named_back}
 
 module _ (app : App) (τ : Store) where
   pub record Grown (m b : ℕ) (w : Scope) (ms : MScope) (p : Path) (x : t.Stmt) (st : State) (r : Live × State) : Type 0 where
@@ -102,7 +102,7 @@ module _ (app : App) (τ : Store) where
 
   -- the references of an item's value and index
   item_is : (b : ℕ) (q : Path) (ms : MScope) (ns : List Text) (x : Entry) (st : State) → b ≤ st.next a_ref
-      → let z = item_spot ns q x st in Moves st z.1 (λ r. 0) (λ r. occurs r (item_made z.0)) × ItemStands app τ τ z.1.look q ms ns x z.0 × NamesBelow (max b (top (item_made z.0))) z.0.names
+      → let z = item_spot ns q x st in Moves st z.1 (λ r. 0) (λ r. occurs r (item_made z.0)) × ItemStands app τ τ z.1.look q ms ns x z.0 × NamesBelow (max b (top (item_made z.0))) (item_names ns z.0)
   item_is b q ms ns x st le =
       let v = st.next a_ref in
       let fv = source_form (item_value q) x.value in
@@ -111,6 +111,7 @@ module _ (app : App) (τ : Store) where
       let i = st1.next a_ref in
       let st2 = made_row fi st1 in
       let y = bind_params ns (v ∷ i ∷ []) st2 in
+      let back : named_as ns (refs_of y.names) ≡ y.names = named_back ns (v ∷ i ∷ []) st2 in
       let mv = row_moves fv st in
       let mi = row_moves fi st1 in
       let m2 = both_made st st1 st2 (ref v ∷ []) (ref i ∷ []) mv mi in
@@ -129,17 +130,17 @@ module _ (app : App) (τ : Store) where
           refl,
           stays (ref v) (left_above _ _ (hit_self (ref v))) ∙ at_v,
           stays (ref i) (right_above _ _ (left_above _ _ (hit_self (ref i)))) ∙ make_at a_ref (row (record { form = fi; last = any_of [] })) st1,
-          k.gives,
+          subst (λ (e : Names). Gives app y.state.look y.made ms (λ f. names_by f e) (λ ρ f. bind ns (f v ∷ f i ∷ []))) (sym back) k.gives,
         ),
-        names_below _ _ (omega (arith, t)) y.names k.low,
+        names_below _ _ (omega (arith, t)) (named_as ns (refs_of y.names)) (subst (NamesBelow _) (sym back) k.low),
       )
 
   -- the scope in an item
   pub item_scope : (b : ℕ) (q : Path) (i : Inst) (a l : Names) (v : MPassed) (w : Scope) (ns : List Text) (x : Entry) (z : ItemSpot) (look : Id → Option Thing)
-      → ItemStands app τ τ look q (mscope i a l v) ns x z → NamesBelow (max b (top (item_made z))) z.names → InScope app τ b look (mscope i a l v) w
-      → InScope app τ (max b (top (item_made z))) look (mscope i a (l ++ z.names) v) (with_locals (bind ns (entry_pairs q x)) w)
+      → ItemStands app τ τ look q (mscope i a l v) ns x z → NamesBelow (max b (top (item_made z))) (item_names ns z) → InScope app τ b look (mscope i a l v) w
+      → InScope app τ (max b (top (item_made z))) look (mscope i a (l ++ item_names ns z) v) (with_locals (bind ns (entry_pairs q x)) w)
   item_scope b q i a l v w ns x z look h low s =
-      local_scope app τ b (max b (top (item_made z))) look i a l v w z.names (bind ns (entry_pairs q x)) (omega arith) low
+      local_scope app τ b (max b (top (item_made z))) look i a l v w (item_names ns z) (bind ns (entry_pairs q x)) (omega arith) low
       (h.4 (pair_of look) τ (obeys_pairs look z.more) s.cells
       ∙ ap₂ (λ y u. bind ns (y ∷ u ∷ []))
       (pair_law look z.value ∙ ap (thing_pair (below z.value (pair_of look))) h.2)
@@ -165,10 +166,10 @@ module _ (app : App) (τ : Store) where
         let le1 = made_below b st z.1 (item_made z.0) le zs.0 in
         let s1 = scope_grows app τ b st z.1 ms w (λ r. occurs r (item_made z.0)) le zs.0 s in
         let s2 = item_scope b q i a l v w ns x z.0 z.1.look zs.1 zs.2 s1 in
-        let g = body b' (with_locals (bind ns (entry_pairs q x)) w) i a (l ++ z.0.names) q 0 z.1 le1 s2 in
-        let r = grow_body app d y (mscope i a (l ++ z.0.names) v) q 0 c z.1 in
+        let g = body b' (with_locals (bind ns (entry_pairs q x)) w) i a (l ++ item_names ns z.0) q 0 z.1 le1 s2 in
+        let r = grow_body app d y (mscope i a (l ++ item_names ns z.0) v) q 0 c z.1 in
         let arm = or_comment r in
-        let ag = arm_grows m b' (with_locals (bind ns (entry_pairs q x)) w) (mscope i a (l ++ z.0.names) v) q c z.1 r g in
+        let ag = arm_grows m b' (with_locals (bind ns (entry_pairs q x)) w) (mscope i a (l ++ item_names ns z.0) v) q c z.1 r g in
         let count : Id → ℕ = λ n. times_in n arm.lives + times_comment n arm.comment in
         let m1 = both_new st z.1 arm.state (λ n. occurs n (item_made z.0)) count zs.0 ag.moves in
         let le2 = still_low b st arm.state (λ n. occurs n (item_made z.0) + count n) le m1 in
@@ -263,7 +264,7 @@ module _ (app : App) (τ : Store) where
           let r = grow_body app d y (mscope i a (l ++ z.names) v) (main ∷ p) 0 c z.state in
           record {
             moves = both_new st z.state r.1 (λ q. occurs q made) (λ q. times_in q r.0) k.moves g.moves;
-            stands = (
+            stands = subst (λ (e : Names). LetStands app τ τ r.1.look m b w ms p es ns c made e r.0) (sym (named_back ns x.ids x.state)) (
               gives_stays app z.state.look r.1.look made ms _ _ (before_new st z.state r.1 (λ q. occurs q made) (λ q. times_in q r.0) k.moves g.moves) k.gives,
               k.low,
               new_from b' z.state r.1 (λ q. times_in q r.0) le1 g.moves,

@@ -18,10 +18,10 @@ use Rattle.gl_plain.specs.Ids.{Id, ref, node, modifier_id, occurs}
 use Rattle.gl_meaning.specs.Parts.{attribute_value}
 use Rattle.gl_meaning.specs.Eval.{values_in}
 use Rattle.gl_value.specs.Value.{text_of}
-use Rattle.gl_plain.specs.State.{MScope, mscope, mpassed, with_names, mslots, mwriter, passed_in, State, held_value, put_thing, note_updated, touch, dropped, content, text_content, modifier_row}
+use Rattle.gl_plain.specs.State.{MScope, mscope, mpassed, with_names, mslots, mwriter, passed_in, State, held_value, put_thing, note_updated, touch, dropped, content, text_content, modifier_row, named_as}
 use Rattle.gl_plain.specs.Binding.{Spot, first_value}
 use Rattle.gl_plain.specs.Live
-use Rattle.gl_plain.specs.Live.{AttrSpot, ModSpot, ItemSpot, item_made, Live, Lives, Items, times, times_in, times_items, times_comment}
+use Rattle.gl_plain.specs.Live.{AttrSpot, ModSpot, ItemSpot, item_made, Live, Lives, Items, times, times_in, times_items, times_comment, item_names}
 use Rattle.gl_plain.specs.Grow.{branch_from, listed_from, unlisted_from, or_comment, grow_entries}
 use Rattle.gl_plain.specs.Renew.{spot_pairs, evaluate, changed_attr, refreshed, fresh_body, reread, renew_attrs, renew_mods, give, Handle, taken, with_front, sync, sync_one, is_of, where_values, where_block, fresh_items, renew, renew_body, handles}
 use Rattle.gl_plain.specs.Stands.{Spotted, exprs_by, one_expr, WhereValues, WhereBlock, BlockStands, ListStands, ElseStands, Stands, StandIn, ItemsStand, Owned}
@@ -102,7 +102,7 @@ module _ (app : App) (σ τ : Store) (st : State) where
         ∙ ap (λ (y : Lives × State). branch_from z false (record { comment = k; lives = y.0; state = y.1 })) (body_idle m d ls b v w ms (otherwise ∷ p) 0 oa h.3 r f.1))
     renew_idle m b v w ms p (t.each e key ns c d) (Live.listed z is) o h r f =
         let oi = right_owned st (λ q. occurs q z.made) (λ q. times_items q is) o in
-        let A : Values Path → State → Live × State = λ vs s. listed_from z (sync (fresh_items app τ m ms ns c) ms (items ∷ p) (entries key 0 [] vs) (handles app τ m c is) s) in
+        let A : Values Path → State → Live × State = λ vs s. listed_from z (sync (fresh_items app τ m ms ns c) ns ms (items ∷ p) (entries key 0 [] vs) (handles app τ m c is) s) in
         let B : State → Live × State = λ s. unlisted_from z (or_comment (fresh_body app τ m ms (otherwise ∷ p) d (dropped (λ q. times_items q is) s))) in
         ap (λ s. where_values (values_listed (first_value (spot_pairs s z.ref))) (λ vs. A vs s) (B s)) (reread_idle z st f.0)
         ∙ (ap (λ y. where_values (values_listed (first_value y)) (λ vs. A vs st) (B st)) (same_pairs b ms v w z (one_expr e) r h.0 f.0)
@@ -117,10 +117,10 @@ module _ (app : App) (σ τ : Store) (st : State) where
         ∙ (ap (λ y. where_values (values_listed (first_value y)) (λ vs. A vs st) (B st)) (same_pairs b ms v w z (one_expr e) r h.0 f.0)
         ∙ else_idle (values_listed (first_value (eval_all app σ v (one_expr e)))) (ElseStands app σ τ st.look m b v ms p d k ls) (λ vs. A vs st) (B st) (Live.unlisted z k ls, st)
         (λ hi. ap (λ (y : Lives × State). unlisted_from z (record { comment = k; lives = y.0; state = y.1 })) (body_idle m d ls b v w ms (otherwise ∷ p) 0 oa hi.1 r f.1)) h.1)
-    renew_idle m b v w ms p (t.let_stmt es ns c) (Live.let_live made names ls) o h r f =
+    renew_idle m b v w ms p (t.let_stmt es ns c) (Live.let_live made rs ls) o h r f =
         let oa = left_owned st (λ q. occurs q made) (λ q. times_in q ls) o in
         let ob = right_owned st (λ q. occurs q made) (λ q. times_in q ls) o in
-        ap (λ (y : Lives × State). (Live.let_live made names y.0, y.1)) (body_idle m c ls _ _ _ (with_names names ms) (main ∷ p) 0 ob h.3 (let_ready app σ τ b st ms v w es ns made names r oa h.0 h.1) f)
+        ap (λ (y : Lives × State). (Live.let_live made rs y.0, y.1)) (body_idle m c ls _ _ _ (with_names (named_as ns rs) ms) (main ∷ p) 0 ob h.3 (let_ready app σ τ b st ms v w es ns made (named_as ns rs) r oa h.0 h.1) f)
     renew_idle (suc m) b v w ms p (t.component_stmt c ps given bs) (Live.component_live i made gm args (Some k) ls) o h r f =
         let oa = left_owned st (λ q. occurs q made) (λ q. times_in q ls) o in
         let ob = right_owned st (λ q. occurs q made) (λ q. times_in q ls) o in
@@ -131,8 +131,8 @@ module _ (app : App) (σ τ : Store) (st : State) where
         let oa = left_owned st (λ q. occurs q made) (λ q. times_in q ls) o in
         let ob = right_owned st (λ q. occurs q made) (λ q. times_in q ls) o in
         ap (λ (y : Lives × State). (Live.yield_live k made names y.0, y.1))
-        (block_idle (block_named n (mslots (passed_in ms))) refl (BlockStands app σ τ st.look m b v ms p es n made names ls) ls (λ c. renew_body app τ m (with_names names (mwriter (passed_in ms))) (slot n ∷ p) 0 c.body ls st)
-        (λ c e g. body_idle m c.body ls _ _ _ (with_names names (mwriter (passed_in ms))) (slot n ∷ p) 0 ob g.3 (yield_scopes app σ τ b st ms v w es n c made names e r oa g.0 g.1) f) h.1)
+        (block_idle (block_named n (mslots (passed_in ms))) refl (BlockStands app σ τ st.look m b v ms p es n made names ls) ls (λ c. renew_body app τ m (with_names (named_as c.params names) (mwriter (passed_in ms))) (slot n ∷ p) 0 c.body ls st)
+        (λ c e g. body_idle m c.body ls _ _ _ (with_names (named_as c.params names) (mwriter (passed_in ms))) (slot n ∷ p) 0 ob g.3 (yield_scopes app σ τ b st ms v w es n c made (named_as c.params names) e r oa g.0 g.1) f) h.1)
     renew_idle m b v w ms p _ _ o h r f = absurd h
 
     pub body_idle : (m : ℕ) (c : t.Body) (ls : Lives) → Idle m c ls
@@ -144,7 +144,7 @@ module _ (app : App) (σ τ : Store) (st : State) where
 
     pub items_idle : (m b : ℕ) (v w : Scope) (ms : MScope) (p : Path) (ns : List Text) (c : t.Body) (xs : List Entry) (is : Items) → Owned st (λ q. times_items q is)
         → ItemsStand app σ τ st.look m b v ms p ns c xs is → Ready app σ τ b st ms v w → NoneStaleItems st is
-        → sync (fresh_items app τ m ms ns c) ms p xs (handles app τ m c is) st ≡ (is, st)
+        → sync (fresh_items app τ m ms ns c) ns ms p xs (handles app τ m c is) st ≡ (is, st)
     items_idle m b v w ms p ns c [] Live.no_items o h r f = refl
     items_idle m b v w ms p ns c (x ∷ xs) (Live.item_live z k ls is) o h r f =
         let q = item x.key x.occurrence ∷ p in
@@ -155,8 +155,8 @@ module _ (app : App) (σ τ : Store) (st : State) where
         let is_first : is_of x first ≡ true =
         both_true _ _ (ap (val_same no_owners x.key) h.0.0 ∙ same_itself ⊥ no_owners no_owners-Decides x.key) ((Decides-eqb x.occurrence z.occurrence).1 (sym h.0.1)) in
         let S : Option (Handle × List Handle) → Items × State =
-        λ o'. let g = sync_one one ms q x (first ∷ hs) o' st in let y = sync one ms p xs g.1 g.0.arm.state in (Live.item_live g.0.spot g.0.arm.comment g.0.arm.lives y.0, y.1) in
-        let T : Lives × State → Items × State = λ y. let u = sync one ms p xs hs y.1 in (Live.item_live z k y.0 u.0, u.1) in
+        λ o'. let g = sync_one one ns ms q x (first ∷ hs) o' st in let y = sync one ns ms p xs g.1 g.0.arm.state in (Live.item_live g.0.spot g.0.arm.comment g.0.arm.lives y.0, y.1) in
+        let T : Lives × State → Items × State = λ y. let u = sync one ns ms p xs hs y.1 in (Live.item_live z k y.0 u.0, u.1) in
         let given : give z.index (item_index q) (count_value x.index) (give z.value (item_value q) x.value st) ≡ st =
         ap (give z.index (item_index q) (count_value x.index)) (give_idle z.value (item_value q) x.value (ap held_value h.0.2)) ∙ give_idle z.index (item_index q) (count_value x.index) (ap held_value h.0.3) in
         let oi : Owned st (λ n. occurs n (item_made z)) = record { once = λ n. let a = o.once n in omega (arith, a); old = λ n le. let a = o.old n le in omega (arith, a) } in
@@ -164,7 +164,7 @@ module _ (app : App) (σ τ : Store) (st : State) where
         let or : Owned st (λ n. times_items n is) = record { once = λ n. let a = o.once n in omega (arith, a); old = λ n le. let a = o.old n le in omega (arith, a) } in
         let ready = item_ready app σ τ b st ms v w q ns x x z r oi h.0 h.1 (keeps_more (keeps_itself (Cold st) _) (keeps_more (keeps_itself (Cold st) _) keeps_none)) in
         ap (λ d. S (if d then Some (first, hs) else with_front first (taken x hs))) is_first
-        ∙ (ap (λ s. T (go (with_names z.names ms) q s)) given
-        ∙ (ap T (body_idle m c ls _ _ _ (with_names z.names ms) q 0 ol h.4 ready f.0)
+        ∙ (ap (λ s. T (go (with_names (item_names ns z) ms) q s)) given
+        ∙ (ap T (body_idle m c ls _ _ _ (with_names (item_names ns z) ms) q 0 ol h.4 ready f.0)
         ∙ ap (λ (y : Items × State). (Live.item_live z k ls y.0, y.1)) (items_idle m b v w ms p ns c xs is or h.5 r f.1)))
     items_idle m b v w ms p ns c _ _ o h r f = absurd h

@@ -10,19 +10,19 @@ use Rattle.gl_meaning.specs.Eval.{Store, class_at, member_of, field_member, eval
 use Rattle.std.proofs.lemmas.Bool.{cases_lt}
 use Rattle.gl_meaning.specs.Render.{Block, block_named}
 use Rattle.gl_plain.specs.Ids.{a_ref, an_instance, a_block, Id, ref, block_id, instance_id, hit, occurs}
-use Rattle.gl_plain.specs.State.{Names, names_by, Inst, MScope, mscope, MPassed, mnothing, mpassed, scope_by, passed_by, mslots, writer, cell_ref, block_row, instance_row, Thing, State, pair_of, make}
+use Rattle.gl_plain.specs.State.{Names, names_by, Inst, MScope, mscope, MPassed, mnothing, mpassed, scope_by, passed_by, mslots, writer, cell_ref, block_row, instance_row, Thing, State, pair_of, make, refs_of}
 use Rattle.gl_plain.specs.Binding.{bind_exprs, bind_args, bind_params}
 use Rattle.gl_plain.specs.Live.{Live, Lives, times, times_in}
 use Rattle.gl_plain.specs.Live
 use Rattle.gl_plain.specs.Grow.{GrowComponents, GrowYields, grow_body, grow_block, grow_yields, grow_cells, grow_components}
-use Rattle.gl_plain.specs.Stands.{CellsPassed, Gives, top, NamesBelow, PassedBelow, From, exprs_by, WhereBlock, CellsStand, Stands, StandIn, BlockStands}
+use Rattle.gl_plain.specs.Stands.{CellsPassed, Gives, top, NamesBelow, PassedBelow, From, exprs_by, WhereBlock, CellsStand, Stands, StandIn, BlockStands, NamedStands}
 use Rattle.gl_plain.specs.InScope.{InScope}
 use Rattle.gl_plain.proofs.Moves.{Moves, both_new, before_new, recount, no_move, make_moves, make_at, hit_self}
 use Rattle.gl_plain.proofs.Pairs.{names_below, names_same, scope_below, passed_below, passed_same, passed_cells_same, pairs_agree, obeys_pairs, obeys_less, left_occurs, right_occurs}
 use Rattle.gl_plain.proofs.Binding.{both_made, top_append, in_top}
 use Rattle.gl_plain.proofs.Bound.{made_below, bound_are, args_are}
 use Rattle.gl_plain.proofs.Stay.{gives_stays, cells_stay, left_above}
-use Rattle.gl_plain.proofs.Placing.{scope_grows, local_scope, params_bound}
+use Rattle.gl_plain.proofs.Placing.{scope_grows, local_scope, params_bound, named_back}
 use Rattle.gl_plain.proofs.Cells.{cells_move, cells_stand, cells_at}
 use Rattle.gl_plain.proofs.Grows.{Grown, GrownIn, new_from, ComponentsGrow, YieldsGrow, body_grows, component_call}
 use Rattle.gl_plain.proofs.ElementGrows.{element_grows}
@@ -82,12 +82,13 @@ module _ (app : App) (τ : Store) where
             moves = both_new st z.state r.1 (λ q. occurs q made) (λ q. times_in q r.0) h.moves g.moves;
             stands = (
               refl,
-              subst (λ o. WhereBlock o (BlockStands app τ τ r.1.look m b w ms p es n made z.names r.0) (r.0 ≡ Live.no_lives)) (sym e) (
-                gives_stays app z.state.look r.1.look made ms _ _ (before_new st z.state r.1 (λ q. occurs q made) (λ q. times_in q r.0) h.moves g.moves) h.gives,
-                h.low,
-                new_from app τ b' z.state r.1 (λ q. times_in q r.0) le1 g.moves,
-                g.stands,
-              ),
+              subst (λ o. WhereBlock o (BlockStands app τ τ r.1.look m b w ms p es n made (refs_of z.names) r.0) (r.0 ≡ Live.no_lives)) (sym e)
+                  (subst (λ (k : Names). NamedStands app τ τ r.1.look m b w ms p es n made k r.0 c) (sym (named_back c.params x.ids x.state)) (
+                    gives_stays app z.state.look r.1.look made ms _ _ (before_new st z.state r.1 (λ q. occurs q made) (λ q. times_in q r.0) h.moves g.moves) h.gives,
+                    h.low,
+                    new_from app τ b' z.state r.1 (λ q. times_in q r.0) le1 g.moves,
+                    g.stands,
+                  )),
             );
           }
 

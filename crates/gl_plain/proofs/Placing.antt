@@ -1,4 +1,5 @@
 -- New scopes and new positions.
+use Rattle.gl_value.specs.Value.{undefined}
 use Rattle.std.proofs.Common.{◌≡◌, ℕ, max, ◌≤◌, List, [], ◌∷◌, ◌++◌, map, Option, Some, refl, sym, ◌∙◌, ap, subst, arith}
 use Rattle.gl_base.specs.Texts.{Text}
 use Rattle.gl_ast.specs.Template.{Exprs}
@@ -6,8 +7,8 @@ use Rattle.gl_meaning.specs.App.{App}
 use Rattle.gl_meaning.specs.Scope.{Pair, NamedPairs, Scope, scope, with_locals, bind, sources_of}
 use Rattle.gl_meaning.specs.Eval.{Store, eval_all}
 use Rattle.gl_plain.specs.Ids.{a_ref, Id, ref, occurs, hit}
-use Rattle.gl_plain.specs.State.{any_of, all_form, Row, Names, names_by, Inst, MScope, mscope, MPassed, passed_by, row, Thing, State, pair_of, make, note_evaluated}
-use Rattle.gl_plain.specs.Binding.{BoundAll, bind_exprs, bind_params, Placed, place}
+use Rattle.gl_plain.specs.State.{any_of, all_form, Row, Names, names_by, Inst, MScope, mscope, MPassed, passed_by, row, Thing, State, pair_of, make, note_evaluated, named_as, refs_of, constant_form}
+use Rattle.gl_plain.specs.Binding.{BoundAll, bind_exprs, bind_params, Placed, place, new_ref}
 use Rattle.gl_plain.specs.Stands.{CellsIn, top, NamesBelow, From, SpotThing, Spotted, exprs_by}
 use Rattle.gl_plain.specs.InScope.{InScope}
 use Rattle.gl_plain.proofs.Moves.{Moves, make_moves, make_at, recount, hit_self}
@@ -44,6 +45,12 @@ local_scope app τ b b' look i a l v w names more le low e h =
       is = ap (λ z. scope i.path (names_by f a) z (passed_by f v)) (names_by_append f l names ∙ ap (λ z. names_by f l ++ z) e) ∙ ap (with_locals more) h.is;
       cells = h.cells;
     }
+
+-- parameters and their references
+pub named_back : (ns : List Text) (rs : List ℕ) (st : State) → named_as ns (refs_of (bind_params ns rs st).names) ≡ (bind_params ns rs st).names
+named_back [] rs st = refl
+named_back (n ∷ ns) [] st = ap (λ (e : Names). (n, (new_ref (constant_form undefined) st).id) ∷ e) (named_back ns [] (new_ref (constant_form undefined) st).state)
+named_back (n ∷ ns) (r ∷ rs) st = ap (λ (e : Names). (n, r) ∷ e) (named_back ns rs st)
 
 -- parameters for the values of some references that were bound
 pub params_bound : (app : App) (b : ℕ) (ms : MScope) (st : State) (x : BoundAll) (E : Store → (ℕ → Pair) → List Pair) (ns : List Text) → b ≤ st.next a_ref

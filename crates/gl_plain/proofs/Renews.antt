@@ -14,9 +14,9 @@ use Rattle.gl_meaning.specs.Eval.{Store, class_at, takes_first, eval_all, eval_g
 use Rattle.gl_meaning.specs.Render.{Entry, entries, values_listed, Block, block_named}
 use Rattle.gl_meaning.proofs.Frame.{eval_all_keeps}
 use Rattle.gl_plain.specs.Ids.{a_ref, Id, ref, node, block_id, instance_id, hit, occurs}
-use Rattle.gl_plain.specs.State.{Names, names_by, Inst, MScope, mscope, mpassed, mnothing, passed_in, mslots, mwriter, writer, with_names, text_content, content, Thing, State, put_thing, dropped}
+use Rattle.gl_plain.specs.State.{Names, names_by, Inst, MScope, mscope, mpassed, mnothing, passed_in, mslots, mwriter, writer, with_names, text_content, content, Thing, State, put_thing, dropped, named_as}
 use Rattle.gl_plain.specs.Binding.{Spot, first_value}
-use Rattle.gl_plain.specs.Live.{ItemSpot, item_made, Live, Lives, Items, times, times_in, times_items, times_comment, has_node, have_node}
+use Rattle.gl_plain.specs.Live.{ItemSpot, item_made, Live, Lives, Items, times, times_in, times_items, times_comment, has_node, have_node, item_names}
 use Rattle.gl_plain.specs.Live
 use Rattle.gl_plain.specs.Grow.{Arm, grow_entries, branch_from, unlisted_from, listed_from, grow_components, grow_yields}
 use Rattle.gl_plain.specs.Renew.{spot_pairs, is_stale, evaluate, reread, Handle, times_handles, taken, sync, where_values, where_block, fresh_items, renew, renew_body, handles}
@@ -247,12 +247,12 @@ module _ (app : App) (σ τ : Store) where
 
   -- A block that is yielded
 
-  block_by : (m b : ℕ) (v w : Scope) (ms : MScope) (p : Path) (es : Exprs) (n k : Text) (made : List Id) (names : Names) (ls : Lives) (st : State) (o : Option Block) → block_named n (mslots (passed_in ms)) ≡ o
+  block_by : (m b : ℕ) (v w : Scope) (ms : MScope) (p : Path) (es : Exprs) (n k : Text) (made : List Id) (names : List ℕ) (ls : Lives) (st : State) (o : Option Block) → block_named n (mslots (passed_in ms)) ≡ o
       → Owned st (λ q. occurs q made + times_in q ls) → b ≤ st.next a_ref → k ≡ n
       → WhereBlock o (BlockStands app σ τ st.look m b v ms p es n made names ls) (ls ≡ Live.no_lives)
       → (F : Block → Lives × State)
       → ((c : Block) → o ≡ Some c → BlockStands app σ τ st.look m b v ms p es n made names ls c
-      → RenewedIn app σ τ m (max b (top made)) (with_locals (bind c.params (eval_all app τ w es)) (writer (passed_of w))) (with_names names (mwriter (passed_in ms))) (slot n ∷ p) 0 c.body st ls (F c))
+      → RenewedIn app σ τ m (max b (top made)) (with_locals (bind c.params (eval_all app τ w es)) (writer (passed_of w))) (with_names (named_as c.params names) (mwriter (passed_in ms))) (slot n ∷ p) 0 c.body st ls (F c))
       → let r = where_block o F (ls, st) in
       Renewed app σ τ m b w ms p (t.yield es n) st (Live.yield_live k made names ls) (Live.yield_live k made names r.0, r.1)
   block_by m b v w ms p es n k made names ls st None e o le same h F body = record {
@@ -311,10 +311,10 @@ module _ (app : App) (σ τ : Store) where
         keeps = (refl, refl, refl, refl, g.keeps);
       }
 
-  let_by : (m b : ℕ) (v w : Scope) (ms : MScope) (p : Path) (es : Exprs) (ns : List Text) (c : t.Body) (made : List Id) (names : Names) (ls : Lives) (st : State) (r : Lives × State)
+  let_by : (m b : ℕ) (v w : Scope) (ms : MScope) (p : Path) (es : Exprs) (ns : List Text) (c : t.Body) (made : List Id) (names : List ℕ) (ls : Lives) (st : State) (r : Lives × State)
       → Owned st (λ q. occurs q made + times_in q ls) → b ≤ st.next a_ref
       → Stands app σ τ st.look m b v ms p (t.let_stmt es ns c) (Live.let_live made names ls)
-      → RenewedIn app σ τ m (max b (top made)) (with_locals (bind ns (eval_all app τ w es)) w) (with_names names ms) (main ∷ p) 0 c st ls r
+      → RenewedIn app σ τ m (max b (top made)) (with_locals (bind ns (eval_all app τ w es)) w) (with_names (named_as ns names) ms) (main ∷ p) 0 c st ls r
       → Renewed app σ τ m b w ms p (t.let_stmt es ns c) st (Live.let_live made names ls) (Live.let_live made names r.0, r.1)
   let_by m b v w ms p es ns c made names ls st r o le h g =
       let ca : Id → ℕ = λ q. occurs q made in
@@ -413,13 +413,13 @@ module _ (app : App) (σ τ : Store) where
           let same : (q : Id) → times_handles q hs ≡ times_items q is = handles_count m c is in
           let back : (q : Id) → times_items q is ≡ times_handles q hs = (λ q. sym (same q)) in
           list_by m b w ms p e key ns c d z (Live.listed z is) cr st st1 (λ q. refl) refl o s.0 s.2 (values_listed (first_value (spot_pairs st1 z.ref))) (sym (ap (λ y. values_listed (first_value y)) s.3)) _ _
-          (λ us. items_count app σ τ m b ms (items ∷ p) ns c w (entries key 0 [] us) st1 ch cr (sync (fresh_items app τ m ms ns c) ms (items ∷ p) (entries key 0 [] us) hs st1) back
+          (λ us. items_count app σ τ m b ms (items ∷ p) ns c w (entries key 0 [] us) st1 ch cr (sync (fresh_items app τ m ms ns c) ns ms (items ∷ p) (entries key 0 [] us) hs st1) back
           (sync_is app σ τ m b ms (items ∷ p) ns c v w (fresh_items app τ m ms ns c) (λ x st' r'. one_fresh m b v w ms (items ∷ p) ns c x st' r') (entries key 0 [] us) hs st1
           (same_owned st1 cr ch back s.4) (λ q lt. same (ref q) ∙ fr q lt) (handles_stand m b v ms (items ∷ p) ns c st1.look (entries key 0 [] old.0) is inside) (items_right m c is b ms (items ∷ p) ns) s.1))
           (flipped app σ τ m b v w ms (otherwise ∷ p) d st1 cr s.1 fr)
           (λ x us' e'. (
             refl,
-            each_item st.next st1.next (next_more app σ τ st st1 ca ca s.0) (KeptBy st1.next is) (KeptBy st.next is) (λ y j ls' g. kept_less st.next st1.next (next_more app σ τ st st1 ca ca s.0) is y j ls' g) (sync (fresh_items app τ m ms ns c) ms (items ∷ p) (entries key 0 [] (value x us')) hs st1).0
+            each_item st.next st1.next (next_more app σ τ st st1 ca ca s.0) (KeptBy st1.next is) (KeptBy st.next is) (λ y j ls' g. kept_less st.next st1.next (next_more app σ τ st st1 ca ca s.0) is y j ls' g) (sync (fresh_items app τ m ms ns c) ns ms (items ∷ p) (entries key 0 [] (value x us')) hs st1).0
                 (sync_keeps app σ τ m b ms (items ∷ p) ns c is v w (fresh_items app τ m ms ns c) (λ x st' r'. one_fresh m b v w ms (items ∷ p) ns c x st' r') (entries key 0 [] (value x us')) hs st1
                 (same_owned st1 cr ch back s.4) (λ q lt. same (ref q) ∙ fr q lt) (handles_stand m b v ms (items ∷ p) ns c st1.look (entries key 0 [] old.0) is inside) (items_right m c is b ms (items ∷ p) ns) s.1
                 (distinct key 0 [] (value x us')) (all_kept m b v ms (items ∷ p) ns c st1.look (entries key 0 [] old.0) is inside (distinct key 0 [] old.0)) (each_absent m b ms (items ∷ p) ns c is (entries key 0 [] (value x us')))),
@@ -444,8 +444,8 @@ module _ (app : App) (σ τ : Store) where
       renew_is m b v w ms p (t.let_stmt es ns c) (Live.let_live made names ls) st o f h r =
           let ca : Id → ℕ = λ q. occurs q made in
           let cb : Id → ℕ = λ q. times_in q ls in
-          let r' = let_ready app σ τ b st ms v w es ns made names r (left_owned st ca cb o) h.0 h.1 in
-          let_by m b v w ms p es ns c made names ls st _ o r.low h (body_renews m c ls _ _ _ (with_names names ms) (main ∷ p) 0 st (right_owned st ca cb o) h.2 h.3 r')
+          let r' = let_ready app σ τ b st ms v w es ns made (named_as ns names) r (left_owned st ca cb o) h.0 h.1 in
+          let_by m b v w ms p es ns c made names ls st _ o r.low h (body_renews m c ls _ _ _ (with_names (named_as ns names) ms) (main ∷ p) 0 st (right_owned st ca cb o) h.2 h.3 r')
       renew_is (suc m) b v w ms p (t.component_stmt c ps given bs) (Live.component_live i made gm args (Some k) ls) st o f h r =
           let ca : Id → ℕ = λ q. occurs q made in
           let cb : Id → ℕ = λ q. times_in q ls in
@@ -457,9 +457,9 @@ module _ (app : App) (σ τ : Store) where
           let ca : Id → ℕ = λ q. occurs q made in
           let cb : Id → ℕ = λ q. times_in q ls in
           block_by m b v w ms p es n k made names ls st (block_named n (mslots (passed_in ms))) refl o r.low h.0 h.1
-          (λ c. renew_body app τ m (with_names names (mwriter (passed_in ms))) (slot n ∷ p) 0 c.body ls st)
-          (λ c e g. body_renews m c.body ls _ _ _ (with_names names (mwriter (passed_in ms))) (slot n ∷ p) 0 st (right_owned st ca cb o) g.2 g.3
-          (yield_scopes b st ms v w es n c made names e r (left_owned st ca cb o) g.0 g.1))
+          (λ c. renew_body app τ m (with_names (named_as c.params names) (mwriter (passed_in ms))) (slot n ∷ p) 0 c.body ls st)
+          (λ c e g. body_renews m c.body ls _ _ _ (with_names (named_as c.params names) (mwriter (passed_in ms))) (slot n ∷ p) 0 st (right_owned st ca cb o) g.2 g.3
+          (yield_scopes b st ms v w es n c made (named_as c.params names) e r (left_owned st ca cb o) g.0 g.1))
       renew_is m b v w ms p _ _ st o f h r = absurd h
 
       pub body_renews : (m : ℕ) (c : t.Body) (ls : Lives) → BodyRenews m c ls

@@ -14,9 +14,9 @@ use Rattle.gl_meaning.specs.Render as r
 use Rattle.gl_meaning.specs.Render.{Forest, no_pieces, piece, Piece, single, join, forest_of, position, Entry, entries, entry_pairs, values_listed, Block, block_named, Components, render_stmt, render_body, yields_of, components_at, draw}
 use Rattle.gl_meaning.proofs.Frame.{KeepsNames, names_none, names_more, KeepsScope, keeps_scope, KeepsPassed, keeps_nothing, keeps_passed, keeps_itself}
 use Rattle.gl_plain.specs.Ids.{a_modifier, Id, ref, node, block_id, modifier_id, hit, occurs}
-use Rattle.gl_plain.specs.State.{Names, names_by, Inst, MScope, mscope, MPassed, mnothing, mpassed, scope_by, passed_by, passed_in, mslots, mwriter, writer, with_names, Thing, State, pair_of, held_value}
+use Rattle.gl_plain.specs.State.{Names, names_by, Inst, MScope, mscope, MPassed, mnothing, mpassed, scope_by, passed_by, passed_in, mslots, mwriter, writer, with_names, Thing, State, pair_of, held_value, named_as}
 use Rattle.gl_plain.specs.Binding.{Spot}
-use Rattle.gl_plain.specs.Live.{AttrSpot, ModSpot, ItemSpot, item_made, Live, Lives, Items, times, times_in, times_items, times_comment, has_node, have_node}
+use Rattle.gl_plain.specs.Live.{AttrSpot, ModSpot, ItemSpot, item_made, Live, Lives, Items, times, times_in, times_items, times_comment, has_node, have_node, item_names}
 use Rattle.gl_plain.specs.Live
 use Rattle.gl_plain.specs.Drawn.{leaf_piece, tag_of, attrs_of, passed_row, pairs_after, pairs_until, zipped, pairs_at, drawn_comment, drawn_attrs, drawn_modifiers, drawn_places, drawn, drawn_items, drawn_in, modifier_name}
 use Rattle.gl_plain.specs.Stands.{Spotted, exprs_by, one_expr, attrs_by, mods_by, head_of, tail_of, pairs_for, modifier_pairs, WhereValues, WhereBlock, AttrsStand, ModsStand, CommentStands, Stands, StandIn, ItemsStand, BlockStands, ListStands, Owned}
@@ -297,8 +297,8 @@ module _ (app : App) (τ : Store) (st : State) where
     shows m b w ms u p (t.let_stmt es ns c) (Live.let_live made names ls) e o h s =
         let oa = left_owned st (λ q. occurs q made) (λ q. times_in q ls) o in
         let ob = right_owned st (λ q. occurs q made) (λ q. times_in q ls) o in
-        let s' = let_ready app τ τ b st ms w w es ns made names s oa h.0 h.1 in
-        let g = shows_in m _ _ (with_names names ms) u (main ∷ p) 0 c ls (locals_passed (bind ns (eval_all app τ w es)) w ∙ e) ob h.3 s' in
+        let s' = let_ready app τ τ b st ms w w es ns made (named_as ns names) s oa h.0 h.1 in
+        let g = shows_in m _ _ (with_names (named_as ns names) ms) u (main ∷ p) 0 c ls (locals_passed (bind ns (eval_all app τ w es)) w ∙ e) ob h.3 s' in
         record { is = g.is; there = g.there }
     shows (suc m) b w ms u p (t.component_stmt c ps given bs) (Live.component_live i made gm args (Some k) ls) e o h s =
         let oa = left_owned st (λ q. occurs q made) (λ q. times_in q ls) o in
@@ -322,8 +322,8 @@ module _ (app : App) (τ : Store) (st : State) where
         (λ c f.
         let g : BlockStands app τ τ st.look m b w ms p es n made names ls c =
         some_block (BlockStands app τ τ st.look m b w ms p es n made names ls) (ls ≡ Live.no_lives) c (block_named n (mslots (passed_in ms))) (ap (block_named n) (sym slots) ∙ f) h.1 in
-        shows_in m _ _ (with_names names (mwriter (passed_in ms))) (passed_of (writer (passed_of w))) (slot n ∷ p) 0 c.body ls (locals_passed (bind c.params (eval_all app τ w es)) (writer (passed_of w))) ob g.3
-        (yield_scopes app τ τ b st ms w w es n c made names (ap (block_named n) (sym slots) ∙ f) s oa g.0 g.1))
+        shows_in m _ _ (with_names (named_as c.params names) (mwriter (passed_in ms))) (passed_of (writer (passed_of w))) (slot n ∷ p) 0 c.body ls (locals_passed (bind c.params (eval_all app τ w es)) (writer (passed_of w))) ob g.3
+        (yield_scopes app τ τ b st ms w w es n c made (named_as c.params names) (ap (block_named n) (sym slots) ∙ f) s oa g.0 g.1))
         (λ f. none_block (BlockStands app τ τ st.look m b w ms p es n made names ls) (ls ≡ Live.no_lives) (block_named n (mslots (passed_in ms))) (ap (block_named n) (sym slots) ∙ f) h.1))
     shows m b w ms u p _ _ e o h s = absurd h
 
@@ -347,7 +347,7 @@ module _ (app : App) (τ : Store) (st : State) where
         let ol : Owned st (λ n. times_in n ls) = record { once = λ n. let a = o.once n in omega (arith, a); old = λ n le. let a = o.old n le in omega (arith, a) } in
         let or : Owned st (λ n. times_items n is) = record { once = λ n. let a = o.once n in omega (arith, a); old = λ n le. let a = o.old n le in omega (arith, a) } in
         let s' = item_ready app τ τ b st ms w w q ns x x z s oi h.0 h.1 (keeps_more (keeps_itself (Cold st) _) (keeps_more (keeps_itself (Cold st) _) keeps_none)) in
-        let g = shows_in m _ _ (with_names z.names ms) u q 0 c ls (locals_passed (bind ns (entry_pairs q x)) w ∙ e) ol h.4 s' in
+        let g = shows_in m _ _ (with_names (item_names ns z) ms) u q 0 c ls (locals_passed (bind ns (entry_pairs q x)) w ∙ e) ol h.4 s' in
         let rest = shows_items m b w ms u p ns c key (suc i) (x.key ∷ before) vs is e or h.5 s in
         let at : item z.key z.occurrence ∷ p ≡ q = ap₂ (λ a n. item a n ∷ p) h.0.0 h.0.1 in
         let arm = arm_shows app τ st.look q k ls (drawn_in st.look q 0 ls) (one_item m u w ns c q x) g.is g.there h.3 in

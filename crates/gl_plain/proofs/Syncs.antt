@@ -16,7 +16,7 @@ use Rattle.gl_meaning.proofs.Once.{Later, Distinct, distinct}
 use Rattle.gl_meaning.proofs.Equal.{same_means, same_itself, no_owners-Decides, path_means, path_itself, both_left, both_right}
 use Rattle.gl_plain.specs.Ids.{Kind, Id, id_eq, ref, hit, occurs}
 use Rattle.gl_plain.specs.State.{any_of, source_form, MScope, mscope, with_names, row, Thing, State, source_eq, touch, held_value}
-use Rattle.gl_plain.specs.Live.{ItemSpot, item_made, Lives, Items, times_in, times_items, times_comment}
+use Rattle.gl_plain.specs.Live.{ItemSpot, item_names, item_made, Lives, Items, times_in, times_items, times_comment}
 use Rattle.gl_plain.specs.Live
 use Rattle.gl_plain.specs.Grow.{ItemGrown}
 use Rattle.gl_plain.specs.Renew.{give, Handle, times_handle, times_handles, is_of, with_front, taken, renew_item, sync_one, sync}
@@ -94,11 +94,11 @@ module _ (app : App) (σ τ : Store) (m b : ℕ) (ms : MScope) (p : Path) (ns : 
   -- an old item stands for an entry of before
   pub record HandleAt (v : Scope) (look : Id → Option Thing) (h : Handle) (y : Entry) : Type 0 where
     pub stands : ItemStands app σ τ look (item y.key y.occurrence ∷ p) ms ns y h.spot
-    pub low : NamesBelow (max b (top (item_made h.spot))) h.spot.names
+    pub low : NamesBelow (max b (top (item_made h.spot))) (item_names ns h.spot)
     pub from : From (max b (top (item_made h.spot))) (λ r. times_in r h.lives)
     pub comment : CommentStands app σ τ look h.comment h.lives
     pub inside : StandIn app σ τ look m (max b (top (item_made h.spot))) (with_locals (bind ns (entry_pairs (item y.key y.occurrence ∷ p) y)) v)
-        (with_names h.spot.names ms) (item y.key y.occurrence ∷ p) 0 c h.lives
+        (with_names (item_names ns h.spot) ms) (item y.key y.occurrence ∷ p) 0 c h.lives
 
   pub record HandleStands (v : Scope) (look : Id → Option Thing) (h : Handle) : Type 0 where
     pub entry : Entry
@@ -179,11 +179,11 @@ module _ (app : App) (σ τ : Store) (m b : ℕ) (ms : MScope) (p : Path) (ns : 
   pub record ItemRenewed (w : Scope) (x : Entry) (st : State) (count : Id → ℕ) (g : ItemGrown) : Type 0 where
     pub moves : Moves st g.arm.state count (λ q. occurs q (item_made g.spot) + (times_in q g.arm.lives + times_comment q g.arm.comment))
     pub stands : ItemStands app τ τ g.arm.state.look (item x.key x.occurrence ∷ p) ms ns x g.spot
-    pub low : NamesBelow (max b (top (item_made g.spot))) g.spot.names
+    pub low : NamesBelow (max b (top (item_made g.spot))) (item_names ns g.spot)
     pub from : From (max b (top (item_made g.spot))) (λ r. times_in r g.arm.lives)
     pub comment : CommentStands app τ τ g.arm.state.look g.arm.comment g.arm.lives
     pub inside : StandIn app τ τ g.arm.state.look m (max b (top (item_made g.spot))) (with_locals (bind ns (entry_pairs (item x.key x.occurrence ∷ p) x)) w)
-        (with_names g.spot.names ms) (item x.key x.occurrence ∷ p) 0 c g.arm.lives
+        (with_names (item_names ns g.spot) ms) (item x.key x.occurrence ∷ p) 0 c g.arm.lives
 
   -- the same item of before, with its key and occurrence as they are now
   same_entry : (x y : Entry) (h : Handle) → is_of x h ≡ true → h.spot.key ≡ y.key → h.spot.occurrence ≡ y.occurrence
@@ -202,9 +202,9 @@ module _ (app : App) (σ τ : Store) (m b : ℕ) (ms : MScope) (p : Path) (ns : 
 
 -- the scope in an item, with its new value and index
 pub item_ready : (app : App) (σ τ : Store) (b : ℕ) (st : State) (ms : MScope) (v w : Scope) (q : Path) (ns : List Text) (y x : Entry) (z : ItemSpot)
-    → Ready app σ τ b st ms v w → Owned st (λ r. occurs r (item_made z)) → ItemStands app τ τ st.look q ms ns x z → NamesBelow (max b (top (item_made z))) z.names
+    → Ready app σ τ b st ms v w → Owned st (λ r. occurs r (item_made z)) → ItemStands app τ τ st.look q ms ns x z → NamesBelow (max b (top (item_made z))) (item_names ns z)
     → KeepsAll (Cold st) (entry_pairs q y) (entry_pairs q x)
-    → Ready app σ τ (max b (top (item_made z))) st (with_names z.names ms) (with_locals (bind ns (entry_pairs q y)) v) (with_locals (bind ns (entry_pairs q x)) w)
+    → Ready app σ τ (max b (top (item_made z))) st (with_names (item_names ns z) ms) (with_locals (bind ns (entry_pairs q y)) v) (with_locals (bind ns (entry_pairs q x)) w)
 item_ready app σ τ b st (mscope i a l u) v w q ns y x z r o h low k = record {
   low = made_old app σ τ b st (item_made z) r.low o;
   scope = item_scope app τ b q i a l u w ns x z st.look h low r.scope;
@@ -216,7 +216,7 @@ module _ (app : App) (σ τ : Store) (m b : ℕ) (ms : MScope) (p : Path) (ns : 
   pub item_renews : (v w : Scope) (x : Entry) (h : Handle) (u : V) (n : ℕ) (st : State) → let q = item x.key x.occurrence ∷ p in
       Owned st (λ r. times_handle r h) → From b (λ r. times_handle r h) → GoesRight app σ τ m b ms p ns c h → Ready app σ τ b st ms v w
       → HandleAt app σ τ m b ms p ns c v st.look h (record { key = x.key; occurrence = x.occurrence; value = u; index = n })
-      → ItemRenewed app σ τ m b ms p ns c w x st (λ r. times_handle r h) (renew_item ms q x h st) × KeepIn st.next h.lives (renew_item ms q x h st).arm.lives
+      → ItemRenewed app σ τ m b ms p ns c w x st (λ r. times_handle r h) (renew_item ns ms q x h st) × KeepIn st.next h.lives (renew_item ns ms q x h st).arm.lives
   item_renews v w x h u n st o from right r k =
       let q = item x.key x.occurrence ∷ p in
       let y : Entry = record { key = x.key; occurrence = x.occurrence; value = u; index = n } in
@@ -256,10 +256,10 @@ module _ (app : App) (σ τ : Store) (m b : ℕ) (ms : MScope) (p : Path) (ns : 
       let ck : Id → ℕ = λ i. times_comment i h.comment in
       let inside2 = stay_in app st.look st2.look σ τ m b' _ _ q 0 c h.lives (λ i e. same i (left_above _ _ e)) k.inside in
       let w' = with_locals (bind ns (entry_pairs q x)) w in
-      let body = right b' (with_locals (bind ns (entry_pairs q y)) v) w' (with_names z.names ms) q st2 (left_owned st2 ci ck or) k.from inside2 ri in
-      let out = h.go (with_names z.names ms) q st2 in
+      let body = right b' (with_locals (bind ns (entry_pairs q y)) v) w' (with_names (item_names ns z) ms) q st2 (left_owned st2 ci ck or) k.from inside2 ri in
+      let out = h.go (with_names (item_names ns z) ms) q st2 in
       let comment2 = comment_stays app st.look st2.look σ τ h.comment h.lives (λ i e. same i (right_above _ _ e)) k.comment in
-      let arm = kept_arm app σ τ m b' w' (with_names z.names ms) q c st2 h.comment h.lives out or comment2 body in
+      let arm = kept_arm app σ τ m b' w' (with_names (item_names ns z) ms) q c st2 h.comment h.lives out or comment2 body in
       let after : Id → ℕ = λ i. times_in i out.0 + times_comment i h.comment in (
         record {
           moves = both_move st st2 out.1 ca ca cr after o m2 arm.moves;
@@ -304,14 +304,14 @@ module _ (app : App) (σ τ : Store) (m b : ℕ) (ms : MScope) (p : Path) (ns : 
       → ((x : Entry) (st : State) → Ready app σ τ b st ms v w → ItemRenewed app σ τ m b ms p ns c w x st (λ q. 0) (one (item x.key x.occurrence ∷ p) x st))
       → (xs : List Entry) (olds : List Handle) (st : State) → Owned st (λ q. times_handles q olds) → From b (λ q. times_handles q olds)
       → EachHandle app σ τ m b ms p ns c v st.look olds → AllRight app σ τ m b ms p ns c olds → Ready app σ τ b st ms v w
-      → ItemsRenewed w xs st (λ q. times_handles q olds) (sync one ms p xs olds st)
+      → ItemsRenewed w xs st (λ q. times_handles q olds) (sync one ns ms p xs olds st)
   sync_is v w one fresh [] olds st o from hs rs r = record { moves = drop_moves st (λ q. times_handles q olds); stands = tt }
   sync_is v w one fresh (x ∷ xs) olds st o from hs rs r = by (taken x olds) (parted app σ τ m b ms p ns c x olds) (sync_is v w one fresh xs) where
     by : (k : Option (Handle × List Handle)) → Parted app σ τ m b ms p ns c x olds k
         → ((olds : List Handle) (st : State) → Owned st (λ q. times_handles q olds) → From b (λ q. times_handles q olds)
         → EachHandle app σ τ m b ms p ns c v st.look olds → AllRight app σ τ m b ms p ns c olds → Ready app σ τ b st ms v w
-        → ItemsRenewed w xs st (λ q. times_handles q olds) (sync one ms p xs olds st))
-        → let g = sync_one one ms (item x.key x.occurrence ∷ p) x olds k st in let z = sync one ms p xs g.1 g.0.arm.state in
+        → ItemsRenewed w xs st (λ q. times_handles q olds) (sync one ns ms p xs olds st))
+        → let g = sync_one one ns ms (item x.key x.occurrence ∷ p) x olds k st in let z = sync one ns ms p xs g.1 g.0.arm.state in
         ItemsRenewed w (x ∷ xs) st (λ q. times_handles q olds) (Live.item_live g.0.spot g.0.arm.comment g.0.arm.lives z.0, z.1)
     by None k rec =
         let g = one (item x.key x.occurrence ∷ p) x st in
@@ -321,14 +321,14 @@ module _ (app : App) (σ τ : Store) (m b : ℕ) (ms : MScope) (p : Path) (ns : 
         let cg : Id → ℕ = λ q. occurs q (item_made g.spot) + (times_in q g.arm.lives + times_comment q g.arm.comment) in
         let o0 = same_owned st cr (λ q. 0 + cr q) (λ q. omega arith) o in
         let same = beside st g.arm.state c0 cg cr o0 h.moves in
-        let z = sync one ms p xs olds g.arm.state in
+        let z = sync one ns ms p xs olds g.arm.state in
         items_count w (x ∷ xs) st (λ q. 0 + cr q) cr (Live.item_live g.spot g.arm.comment g.arm.lives z.0, z.1) (λ q. omega arith)
         (one_then w x xs st c0 cr g z o0 h
         (rec olds g.arm.state (next_owned st g.arm.state c0 cg cr o0 h.moves) from (handles_stay app σ τ m b ms p ns c v st.look g.arm.state.look olds same hs) rs
         (ready_goes app σ τ b st g.arm.state ms v w c0 cg r h.moves (λ q lt. refl))))
     by (Some k) e rec =
         let q = item x.key x.occurrence ∷ p in
-        let g = renew_item ms q x k.0 st in
+        let g = renew_item ns ms q x k.0 st in
         let ca : Id → ℕ = λ i. times_handle i k.0 in
         let cr : Id → ℕ = λ i. times_handles i k.1 in
         let cg : Id → ℕ = λ i. occurs i (item_made g.spot) + (times_in i g.arm.lives + times_comment i g.arm.comment) in
@@ -341,7 +341,7 @@ module _ (app : App) (σ τ : Store) (m b : ℕ) (ms : MScope) (p : Path) (ns : 
         let h0 = item_renews v w x k.0 hs1.0.entry.value hs1.0.entry.index st (left_owned st ca cr o1) (from_left app σ τ b ca cr from1) rs1.0 r at in
         let h = h0.0 in
         let same = beside st g.arm.state ca cg cr o1 h.moves in
-        let z = sync one ms p xs k.1 g.arm.state in
+        let z = sync one ns ms p xs k.1 g.arm.state in
         items_count w (x ∷ xs) st both (λ i. times_handles i olds) (Live.item_live g.spot g.arm.comment g.arm.lives z.0, z.1) e.0
         (one_then w x xs st ca cr g z o1 h
         (rec k.1 g.arm.state (next_owned st g.arm.state ca cg cr o1 h.moves) (from_right app σ τ b ca cr from1) (handles_stay app σ τ m b ms p ns c v st.look g.arm.state.look k.1 same hs1.1) rs1.1
@@ -396,14 +396,14 @@ module _ (app : App) (σ τ : Store) (m b : ℕ) (ms : MScope) (p : Path) (ns : 
         → ((x : Entry) (st : State) → Ready app σ τ b st ms v w → ItemRenewed app σ τ m b ms p ns c w x st (λ q. 0) (one (item x.key x.occurrence ∷ p) x st))
         → (xs : List Entry) (olds : List Handle) (st : State) → Owned st (λ q. times_handles q olds) → From b (λ q. times_handles q olds)
         → EachHandle app σ τ m b ms p ns c v st.look olds → AllRight app σ τ m b ms p ns c olds → Ready app σ τ b st ms v w
-        → Distinct xs → AllKept olds → EachAbsent xs olds → EachItem (KeptBy st.next is0) (sync one ms p xs olds st).0
+        → Distinct xs → AllKept olds → EachAbsent xs olds → EachItem (KeptBy st.next is0) (sync one ns ms p xs olds st).0
     sync_keeps v w one fresh [] olds st o from hs rs r d ak ab = tt
     sync_keeps v w one fresh (x ∷ xs) olds st o from hs rs r d ak ab = by (taken x olds) refl (parted app σ τ m b ms p ns c x olds) (sync_keeps v w one fresh xs) where
       by : (k : Option (Handle × List Handle)) → taken x olds ≡ k → Parted app σ τ m b ms p ns c x olds k
           → ((olds : List Handle) (st : State) → Owned st (λ q. times_handles q olds) → From b (λ q. times_handles q olds)
           → EachHandle app σ τ m b ms p ns c v st.look olds → AllRight app σ τ m b ms p ns c olds → Ready app σ τ b st ms v w
-          → Distinct xs → AllKept olds → EachAbsent xs olds → EachItem (KeptBy st.next is0) (sync one ms p xs olds st).0)
-          → let g = sync_one one ms (item x.key x.occurrence ∷ p) x olds k st in let z = sync one ms p xs g.1 g.0.arm.state in
+          → Distinct xs → AllKept olds → EachAbsent xs olds → EachItem (KeptBy st.next is0) (sync one ns ms p xs olds st).0)
+          → let g = sync_one one ns ms (item x.key x.occurrence ∷ p) x olds k st in let z = sync one ns ms p xs g.1 g.0.arm.state in
           KeptBy st.next is0 g.0.spot g.0.arm.comment g.0.arm.lives × EachItem (KeptBy st.next is0) z.0
       by None t k rec =
           let g = one (item x.key x.occurrence ∷ p) x st in
@@ -421,7 +421,7 @@ module _ (app : App) (σ τ : Store) (m b : ℕ) (ms : MScope) (p : Path) (ns : 
           )
       by (Some k) t e rec =
           let q = item x.key x.occurrence ∷ p in
-          let g = renew_item ms q x k.0 st in
+          let g = renew_item ns ms q x k.0 st in
           let ca : Id → ℕ = λ i. times_handle i k.0 in
           let cr : Id → ℕ = λ i. times_handles i k.1 in
           let cg : Id → ℕ = λ i. item_count g.spot g.arm.comment g.arm.lives i in

@@ -10,10 +10,10 @@ use Rattle.gl_meaning.specs.Eval.{Store, class_at, cell_value, takes_first, valu
 use Rattle.gl_meaning.specs.Parts.{Attrs, attribute_value, WrittenModifier, WrittenValue, attributes_in, distinct_names, modifiers_in, some_live, taken_values}
 use Rattle.gl_meaning.specs.Render.{Entry, entries, values_listed, Block, block_named}
 use Rattle.gl_plain.specs.Ids.{a_ref, a_node, an_instance, a_block, a_modifier, Id, ref, block_id, instance_id}
-use Rattle.gl_plain.specs.State.{source_form, Names, Inst, MScope, mscope, MPassed, mnothing, mpassed, with_names, Content, element_content, text_content, comment_content, content, instance_row, block_row, modifier_row, State, make, note_installed}
+use Rattle.gl_plain.specs.State.{source_form, Names, Inst, MScope, mscope, MPassed, mnothing, mpassed, refs_of, with_names, Content, element_content, text_content, comment_content, content, instance_row, block_row, modifier_row, State, make, note_installed}
 use Rattle.gl_plain.specs.Binding.{BoundAll, BoundNames, made_row, bind_exprs, bind_pairs, bind_args, bind_params, Spot, Placed, place, first_value}
 use Rattle.gl_plain.specs.MParts.{mwritten_parts, bind_taken, fixed_pairs}
-use Rattle.gl_plain.specs.Live.{AttrSpot, ModSpot, ItemSpot, Live, still, put_live, element_live, branch_live, listed, unlisted, let_live, component_live, yield_live, deep_live, Items, no_items, item_live, Lives, no_lives, live_and, have_node}
+use Rattle.gl_plain.specs.Live.{AttrSpot, ModSpot, ItemSpot, item_names, Live, still, put_live, element_live, branch_live, listed, unlisted, let_live, component_live, yield_live, deep_live, Items, no_items, item_live, Lives, no_lives, live_and, have_node}
 
 abbrev pub made_node : Content → State → State
 made_node c st = make a_node (content c) st
@@ -103,10 +103,10 @@ item_spot ns q x st =
     let i = st1.next a_ref in
     let st2 = made_row (source_form (item_index q) (count_value x.index)) st1 in
     let b = bind_params ns (v ∷ i ∷ []) st2 in
-    (record { key = x.key; occurrence = x.occurrence; value = v; index = i; more = b.made; names = b.names }, b.state)
+    (record { key = x.key; occurrence = x.occurrence; value = v; index = i; more = b.made; params = refs_of b.names }, b.state)
 
 abbrev pub grow_item : (MScope → Path → State → Lives × State) → MScope → List Text → Path → Entry → State → ItemGrown
-grow_item body ms ns q x st = let s = item_spot ns q x st in record { spot = s.0; arm = or_comment (body (with_names s.0.names ms) q s.1) }
+grow_item body ms ns q x st = let s = item_spot ns q x st in record { spot = s.0; arm = or_comment (body (with_names (item_names ns s.0) ms) q s.1) }
 
 abbrev pub grow_entries : (Path → Entry → State → ItemGrown) → Path → List Entry → State → Items × State
 grow_entries one p [] st = (no_items, st)
@@ -171,7 +171,7 @@ module _ (app : App) (components : GrowComponents) (yields : GrowYields) where
         let x = bind_exprs app ms es st in
         let y = bind_params ns x.ids x.state in
         let r = grow_body (with_names y.names ms) (main ∷ p) 0 b y.state in
-        (let_live (x.made ++ y.made) y.names r.0, r.1)
+        (let_live (x.made ++ y.made) (refs_of y.names) r.0, r.1)
     grow_stmt ms p (yield es n) st = let x = bind_exprs app ms es st in yields n x.made x.ids p x.state
 
     pub grow_body : MScope → Path → ℕ → Body → State → Lives × State
@@ -181,7 +181,7 @@ module _ (app : App) (components : GrowComponents) (yields : GrowYields) where
 
 abbrev pub grow_block : Text → Option Block → List Id → List ℕ → (Block → Names → State → Lives × State) → State → Live × State
 grow_block n None made rs f st = (yield_live n made [] no_lives, st)
-grow_block n (Some b) made rs f st = let y = bind_params b.params rs st in let r = f b y.names y.state in (yield_live n (made ++ y.made) y.names r.0, r.1)
+grow_block n (Some b) made rs f st = let y = bind_params b.params rs st in let r = f b y.names y.state in (yield_live n (made ++ y.made) (refs_of y.names) r.0, r.1)
 
 abbrev pub grow_yields : App → GrowComponents → MPassed → GrowYields
 grow_yields app components mnothing n made rs p st = (yield_live n made [] no_lives, st)

@@ -11,9 +11,9 @@ use Rattle.gl_meaning.specs.Eval.{Store, class_at, takes_first, values_in}
 use Rattle.gl_meaning.specs.Parts.{Attrs, attribute_value}
 use Rattle.gl_meaning.specs.Render.{Entry, entries, values_listed, Block, block_named}
 use Rattle.gl_plain.specs.Ids.{Id, ref, node, modifier_id}
-use Rattle.gl_plain.specs.State.{any_of, Form, all_form, MScope, mscope, mnothing, mpassed, passed_in, mslots, mwriter, with_names, Content, element_content, text_content, comment_content, content, row, modifier_row, Installed, Thing, State, pair_of, put_thing, dropped, touch, held_value, note_evaluated, note_updated}
+use Rattle.gl_plain.specs.State.{any_of, Form, all_form, MScope, mscope, mnothing, mpassed, passed_in, mslots, mwriter, named_as, with_names, Content, element_content, text_content, comment_content, content, row, modifier_row, Installed, Thing, State, pair_of, put_thing, dropped, touch, held_value, note_evaluated, note_updated}
 use Rattle.gl_plain.specs.Binding.{first_value}
-use Rattle.gl_plain.specs.Live.{AttrSpot, ModSpot, ItemSpot, item_made, Live, put_live, element_live, branch_live, listed, unlisted, let_live, component_live, yield_live, Items, no_items, item_live, Lives, live_and, times_in, times_comment, times_items}
+use Rattle.gl_plain.specs.Live.{AttrSpot, ModSpot, ItemSpot, item_names, item_made, Live, put_live, element_live, branch_live, listed, unlisted, let_live, component_live, yield_live, Items, no_items, item_live, Lives, live_and, times_in, times_comment, times_items}
 use Rattle.gl_plain.specs.Ids.{occurs}
 use Rattle.gl_plain.specs.Grow.{or_comment, ItemGrown, grow_item, grow_entries, branch_from, unlisted_from, listed_from, named_with, first_values, values_from, grow_body, grow_components, grow_yields}
 
@@ -112,22 +112,22 @@ abbrev pub taken : Entry → List Handle → Option (Handle × List Handle)
 taken x [] = None
 taken x (h ∷ hs) = if is_of x h then Some (h, hs) else with_front h (taken x hs)
 
-abbrev pub renew_item : MScope → Path → Entry → Handle → State → ItemGrown
-renew_item ms q x h st =
+abbrev pub renew_item : List Text → MScope → Path → Entry → Handle → State → ItemGrown
+renew_item ns ms q x h st =
     let st2 = give h.spot.index (item_index q) (count_value x.index) (give h.spot.value (item_value q) x.value st) in
-    let r = h.go (with_names h.spot.names ms) q st2 in
+    let r = h.go (with_names (item_names ns h.spot) ms) q st2 in
     record { spot = h.spot; arm = record { comment = h.comment; lives = r.0; state = r.1 } }
 
-abbrev pub sync_one : (Path → Entry → State → ItemGrown) → MScope → Path → Entry → List Handle → Option (Handle × List Handle) → State → ItemGrown × List Handle
-sync_one one ms q x olds None st = (one q x st, olds)
-sync_one one ms q x olds (Some p) st = (renew_item ms q x p.0 st, p.1)
+abbrev pub sync_one : (Path → Entry → State → ItemGrown) → List Text → MScope → Path → Entry → List Handle → Option (Handle × List Handle) → State → ItemGrown × List Handle
+sync_one one ns ms q x olds None st = (one q x st, olds)
+sync_one one ns ms q x olds (Some p) st = (renew_item ns ms q x p.0 st, p.1)
 
 -- the entries of now in order; what is left of the old items goes
-abbrev pub sync : (Path → Entry → State → ItemGrown) → MScope → Path → List Entry → List Handle → State → Items × State
-sync one ms p [] olds st = (no_items, dropped (λ q. times_handles q olds) st)
-sync one ms p (x ∷ xs) olds st =
-    let g = sync_one one ms (item x.key x.occurrence ∷ p) x olds (taken x olds) st in
-    let r = sync one ms p xs g.1 g.0.arm.state in
+abbrev pub sync : (Path → Entry → State → ItemGrown) → List Text → MScope → Path → List Entry → List Handle → State → Items × State
+sync one ns ms p [] olds st = (no_items, dropped (λ q. times_handles q olds) st)
+sync one ns ms p (x ∷ xs) olds st =
+    let g = sync_one one ns ms (item x.key x.occurrence ∷ p) x olds (taken x olds) st in
+    let r = sync one ns ms p xs g.1 g.0.arm.state in
     (item_live g.0.spot g.0.arm.comment g.0.arm.lives r.0, r.1)
 
 -- the first where there are values, and else the second
@@ -165,21 +165,21 @@ module _ (app : App) (store : Store) where
     renew m ms p (each e k ns b c) (listed s is) st =
         let st1 = reread s.ref st in
         where_values (values_listed (first_value (spot_pairs st1 s.ref)))
-        (λ vs. listed_from s (sync (fresh_items m ms ns b) ms (items ∷ p) (entries k 0 [] vs) (handles m b is) st1))
+        (λ vs. listed_from s (sync (fresh_items m ms ns b) ns ms (items ∷ p) (entries k 0 [] vs) (handles m b is) st1))
         (unlisted_from s (or_comment (fresh_body m ms (otherwise ∷ p) c (dropped (λ q. times_items q is) st1))))
     renew m ms p (each e k ns b c) (unlisted s o ls) st =
         let st1 = reread s.ref st in
         where_values (values_listed (first_value (spot_pairs st1 s.ref)))
         (λ vs. listed_from s (grow_entries (fresh_items m ms ns b) (items ∷ p) (entries k 0 [] vs) (dropped (λ q. times_in q ls + times_comment q o) st1)))
         (unlisted_from s (let r = renew_body m ms (otherwise ∷ p) 0 c ls st1 in record { comment = o; lives = r.0; state = r.1 }))
-    renew m ms p (let_stmt es ns b) (let_live made names ls) st =
-        let r = renew_body m (with_names names ms) (main ∷ p) 0 b ls st in (let_live made names r.0, r.1)
+    renew m ms p (let_stmt es ns b) (let_live made rs ls) st =
+        let r = renew_body m (with_names (named_as ns rs) ms) (main ∷ p) 0 b ls st in (let_live made rs r.0, r.1)
     renew (suc m) ms p (component_stmt c ps given bs) (component_live i made gm args (Some k) ls) st =
         let r = renew_body m (mscope i args [] (mpassed k ps bs ms)) (into c ∷ p) 0 (class_at app (into c ∷ p)).template ls st in
         (component_live i made gm args (Some k) r.0, r.1)
-    renew m ms p (yield es n) (yield_live k made names ls) st =
-        let r = where_block (block_named n (mslots (passed_in ms))) (λ b. renew_body m (with_names names (mwriter (passed_in ms))) (slot n ∷ p) 0 b.body ls st) (ls, st) in
-        (yield_live k made names r.0, r.1)
+    renew m ms p (yield es n) (yield_live k made rs ls) st =
+        let r = where_block (block_named n (mslots (passed_in ms))) (λ b. renew_body m (with_names (named_as b.params rs) (mwriter (passed_in ms))) (slot n ∷ p) 0 b.body ls st) (ls, st) in
+        (yield_live k made rs r.0, r.1)
     renew m ms p _ l st = (l, st)
 
     pub renew_body : ℕ → MScope → Path → ℕ → Body → Lives → State → Lives × State

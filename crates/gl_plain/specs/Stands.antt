@@ -10,9 +10,9 @@ use Rattle.gl_meaning.specs.Eval.{Store, class_at, cell_value, field_member, mem
 use Rattle.gl_meaning.specs.Parts.{WrittenValue, WrittenModifier, written_parts, attributes_in, distinct_names, taken_values, some_live, attrs_from, modifiers_in, taken_pairs, modifier_of}
 use Rattle.gl_meaning.specs.Render.{Entry, entries, entry_pairs, values_listed, Block, block_named}
 use Rattle.gl_plain.specs.Ids.{a_ref, a_modifier, Id, kind_eq, ref, node, block_id, instance_id, occurs}
-use Rattle.gl_plain.specs.State.{any_of, source_form, all_form, Names, names_by, Inst, MScope, mscope, MPassed, mnothing, mpassed, scope_by, passed_in, mslots, mwriter, writer, with_names, cell_ref, element_content, text_content, comment_content, content, instance_row, block_row, row, modifier_row, Thing, State, thing_pair}
+use Rattle.gl_plain.specs.State.{any_of, source_form, all_form, Names, names_by, Inst, MScope, mscope, MPassed, mnothing, mpassed, scope_by, passed_in, mslots, mwriter, writer, named_as, with_names, cell_ref, element_content, text_content, comment_content, content, instance_row, block_row, row, modifier_row, Thing, State, thing_pair}
 use Rattle.gl_plain.specs.Binding.{Spot, first_value}
-use Rattle.gl_plain.specs.Live.{AttrSpot, ModSpot, ItemSpot, item_made, Live, still, put_live, element_live, branch_live, listed, unlisted, let_live, component_live, yield_live, deep_live, Items, no_items, item_live, Lives, no_lives, live_and, times_in, have_node}
+use Rattle.gl_plain.specs.Live.{AttrSpot, ModSpot, ItemSpot, item_names, item_made, Live, still, put_live, element_live, branch_live, listed, unlisted, let_live, component_live, yield_live, deep_live, Items, no_items, item_live, Lives, no_lives, live_and, times_in, have_node}
 use Rattle.gl_plain.specs.Renew.{spot_ids}
 
 -- What references mean
@@ -161,7 +161,7 @@ module _ (app : App) (σ τ : Store) (look : Id → Option Thing) where
       (z.key ≡ x.key) × (z.occurrence ≡ x.occurrence)
       × (look (ref z.value) ≡ Some (row (record { form = source_form (item_value q) x.value; last = any_of [] })))
       × (look (ref z.index) ≡ Some (row (record { form = source_form (item_index q) (count_value x.index); last = any_of [] })))
-      × Gives app look z.more ms (λ f. names_by f z.names) (λ ρ f. bind ns (f z.value ∷ f z.index ∷ []))
+      × Gives app look z.more ms (λ f. names_by f (item_names ns z)) (λ ρ f. bind ns (f z.value ∷ f z.index ∷ []))
 
   -- The part stands for a statement at a path: m levels of nesting are left, all references in scope have numbers below b, and those
   -- of the part have none of these.
@@ -192,8 +192,8 @@ module _ (app : App) (σ τ : Store) (look : Id → Option Thing) where
         let vs = eval_all app σ s (one_expr e) in
         Spotted app look ms z (exprs_by app ms (one_expr e)) vs
         × WhereValues (values_listed (first_value vs)) (λ xs. ⊥) (CommentStands o ls × StandIn m b s ms (otherwise ∷ p) 0 d ls)
-    Stands m b s ms p (let_stmt es ns c) (let_live made names ls) =
-        let b' = max b (top made) in
+    Stands m b s ms p (let_stmt es ns c) (let_live made rs ls) =
+        let b' = max b (top made) in let names = named_as ns rs in
         Gives app look made ms (λ f. names_by f names) (λ ρ f. bind ns (exprs_by app ms es ρ f))
         × NamesBelow b' names × From b' (λ q. times_in q ls)
         × StandIn m b' (with_locals (bind ns (eval_all app σ s es)) s) (with_names names ms) (main ∷ p) 0 c ls
@@ -208,11 +208,12 @@ module _ (app : App) (σ τ : Store) (look : Id → Option Thing) where
         × NamesBelow b' args × From b' (λ q. times_in q ls)
         × StandIn m b' (scope q (eval_given app σ s given) [] (passed ps bs s)) (mscope i args [] (mpassed k ps bs ms)) q 0 (class_at app q).template ls
     Stands zero b s ms p (component_stmt c ps given bs) (deep_live q) = q ≡ into c ∷ p
-    Stands m b s ms p (yield es n) (yield_live k made names ls) =
+    Stands m b s ms p (yield es n) (yield_live k made rs ls) =
         let b' = max b (top made) in
         (k ≡ n)
         × WhereBlock (block_named n (mslots (passed_in ms)))
-        (λ c. Gives app look made ms (λ f. names_by f names) (λ ρ f. bind c.params (exprs_by app ms es ρ f))
+        (λ c. let names = named_as c.params rs in
+        Gives app look made ms (λ f. names_by f names) (λ ρ f. bind c.params (exprs_by app ms es ρ f))
         × NamesBelow b' names × From b' (λ q. times_in q ls)
         × StandIn m b' (with_locals (bind c.params (eval_all app σ s es)) (writer (passed_of s))) (with_names names (mwriter (passed_in ms))) (slot n ∷ p) 0 c.body ls)
         (ls ≡ no_lives)
@@ -228,18 +229,28 @@ module _ (app : App) (σ τ : Store) (look : Id → Option Thing) where
     ItemsStand m b s ms p ns c (x ∷ xs) (item_live z o ls is) =
         let q = item x.key x.occurrence ∷ p in let b' = max b (top (item_made z)) in
         ItemStands q ms ns x z
-        × NamesBelow b' z.names × From b' (λ r. times_in r ls)
+        × NamesBelow b' (item_names ns z) × From b' (λ r. times_in r ls)
         × CommentStands o ls
-        × StandIn m b' (with_locals (bind ns (entry_pairs q x)) s) (with_names z.names ms) q 0 c ls
+        × StandIn m b' (with_locals (bind ns (entry_pairs q x)) s) (with_names (item_names ns z) ms) q 0 c ls
         × ItemsStand m b s ms p ns c xs is
     ItemsStand m b s ms p ns c _ _ = ⊥
 
+  -- what stands for the body of a `let` with these parameters
+  abbrev pub LetStands : ℕ → ℕ → Scope → MScope → Path → Exprs → List Text → Body → List Id → Names → Lives → Type 0
+  LetStands m b s ms p es ns c made names ls =
+      Gives app look made ms (λ f. names_by f names) (λ ρ f. bind ns (exprs_by app ms es ρ f))
+      × NamesBelow (max b (top made)) names × From (max b (top made)) (λ q. times_in q ls)
+      × StandIn m (max b (top made)) (with_locals (bind ns (eval_all app σ s es)) s) (with_names names ms) (main ∷ p) 0 c ls
+
   -- what stands for a yielded block, and for the items or the other body of an `each`
-  abbrev pub BlockStands : ℕ → ℕ → Scope → MScope → Path → Exprs → Text → List Id → Names → Lives → Block → Type 0
-  BlockStands m b s ms p es n made names ls c =
+  abbrev pub NamedStands : ℕ → ℕ → Scope → MScope → Path → Exprs → Text → List Id → Names → Lives → Block → Type 0
+  NamedStands m b s ms p es n made names ls c =
       Gives app look made ms (λ f. names_by f names) (λ ρ f. bind c.params (exprs_by app ms es ρ f))
       × NamesBelow (max b (top made)) names × From (max b (top made)) (λ q. times_in q ls)
       × StandIn m (max b (top made)) (with_locals (bind c.params (eval_all app σ s es)) (writer (passed_of s))) (with_names names (mwriter (passed_in ms))) (slot n ∷ p) 0 c.body ls
+
+  abbrev pub BlockStands : ℕ → ℕ → Scope → MScope → Path → Exprs → Text → List Id → List ℕ → Lives → Block → Type 0
+  BlockStands m b s ms p es n made rs ls c = NamedStands m b s ms p es n made (named_as c.params rs) ls c
 
   abbrev pub ListStands : ℕ → ℕ → Scope → MScope → Path → Text → List Text → Body → Items → Values Path → Type 0
   ListStands m b s ms p k ns c is xs = ItemsStand m b s ms (items ∷ p) ns c (entries k 0 [] xs) is

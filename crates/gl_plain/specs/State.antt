@@ -101,6 +101,15 @@ abbrev pub writer : Passed → Scope
 writer nothing_passed = scope [] [] [] nothing_passed
 writer (passed ps bs s) = s
 
+-- the references of parameters, and parameters with these references
+abbrev pub refs_of : Names → List ℕ
+refs_of ns = map (λ n. n.1) ns
+
+abbrev pub named_as : List Text → List ℕ → Names
+named_as [] rs = []
+named_as (n ∷ ns) [] = []
+named_as (n ∷ ns) (r ∷ rs) = (n, r) ∷ named_as ns rs
+
 abbrev pub with_names : Names → MScope → MScope
 with_names more (mscope i a l w) = mscope i a (l ++ more) w
 
