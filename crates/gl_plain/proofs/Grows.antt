@@ -75,7 +75,7 @@ module _ (app : App) (τ : Store) where
   component_call d ms p c ps given bs st =
       let a = bind_args app ms given st in
       let k = a.state.next a_block in
-      d (into c ∷ p) (block_id k ∷ a.made) a.names (Some k) (mpassed k ps bs ms) (make a_block (block_row (mpassed k ps bs ms)) a.state)
+      d (into c ∷ p) (block_id k ∷ a.made) a.names (Some k) (mpassed k ps bs ms) (make a_block block_row a.state)
 
   abbrev pub yield_call : GrowYields → MScope → Path → Exprs → Text → State → Live × State
   yield_call y ms p es n st = let x = bind_exprs app ms es st in y n x.made x.ids p x.state

@@ -178,7 +178,7 @@ module _ (app : App) (τ : Store) where
   -- so a component stands
   component_stands : (n b : ℕ) (w : Scope) (ms : MScope) (p : Path) (c : Text) (ps : List Part) (given : List (Text × AttrValue)) (bs : Slots) (k : ℕ) (made part : List Id) (args : Names) (st st1 : State) (r : Live × State)
       → InstanceGrown n b (into c ∷ p) made args (eval_given app τ w given) (Some k) (mpassed k ps bs ms) (passed ps bs w) st st1 r
-      → 0 < occurs (block_id k) made → st1.look (block_id k) ≡ Some (block_row (mpassed k ps bs ms))
+      → 0 < occurs (block_id k) made → st1.look (block_id k) ≡ Some block_row
       → ((x : Id) → 0 < occurs x part → 0 < occurs x made) → Gives app st1.look part ms (λ f. names_by f args) (λ ρ f. eval_given app ρ (scope_by f ms) given)
       → NamesBelow (max b (top made)) args
       → Grown app τ (suc n) b w ms p (t.component_stmt c ps given bs) st r
@@ -204,17 +204,17 @@ module _ (app : App) (τ : Store) where
       let a = bind_args app ms given st in
       let h = args_are app b ms s.low given st le in
       let k = a.state.next a_block in
-      let st1 = make a_block (block_row (mpassed k ps bs ms)) a.state in
-      let m = both_new st a.state st1 (λ q. occurs q a.made) (λ q. hit q (block_id k)) h.moves (make_moves a_block (block_row (mpassed k ps bs ms)) a.state) in
+      let st1 = make a_block block_row a.state in
+      let m = both_new st a.state st1 (λ q. occurs q a.made) (λ q. hit q (block_id k)) h.moves (make_moves a_block block_row a.state) in
       record { moves = forget st st1 (λ q. occurs q a.made + hit q (block_id k)) m; stands = refl }
   components_grow (suc n) b w ms p c ps given bs st le s =
       let a = bind_args app ms given st in
       let h = args_are app b ms s.low given st le in
       let k = a.state.next a_block in
       let v = mpassed k ps bs ms in
-      let st1 = make a_block (block_row v) a.state in
+      let st1 = make a_block block_row a.state in
       let made = block_id k ∷ a.made in
-      let mk = make_moves a_block (block_row v) a.state in
+      let mk = make_moves a_block block_row a.state in
       let ck : Id → ℕ = λ q. hit q (block_id k) in
       let ca : Id → ℕ = λ q. occurs q a.made in
       let m = recount st st1 (λ q. 0) (λ q. 0) (λ q. occurs q made) (λ q. ca q + ck q) (λ q. refl) (λ q. omega arith) (both_new st a.state st1 ca ck h.moves mk) in
@@ -231,7 +231,7 @@ module _ (app : App) (τ : Store) where
       (names_below _ _ wide a.names h.low) given_are (scope_below app b b1 (omega arith) ms s.low) (ap (passed ps bs) s1.is) s1.cells in
       let own_k : 0 < occurs (block_id k) made = left_above _ _ (hit_self (block_id k)) in
       component_stands n b w ms p c ps given bs k made a.made a.names st st1 (component_call app τ (grow_components (suc n) app τ) ms p c ps given bs st) g own_k
-      (make_at a_block (block_row v) a.state) (λ x u. right_occurs x (block_id k ∷ []) a.made u) gives1 (names_below _ _ wide a.names h.low)
+      (make_at a_block block_row a.state) (λ x u. right_occurs x (block_id k ∷ []) a.made u) gives1 (names_below _ _ wide a.names h.low)
 
   -- The root. It stands for the app's rendering.
   pub app_grows : (n : ℕ) (st : State) → InstanceGrown n 0 [] [] [] [] None mnothing nothing_passed st st (grow_components (suc n) app τ [] [] [] None mnothing st)

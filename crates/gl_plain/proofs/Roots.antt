@@ -6,14 +6,14 @@ use Rattle.gl_meaning.specs.Path.{Path}
 use Rattle.gl_meaning.specs.Scope.{scope, nothing_passed}
 use Rattle.gl_meaning.specs.Eval.{Store, class_at}
 use Rattle.gl_meaning.specs.Render as r
-use Rattle.gl_meaning.specs.Render.{draw, components_at, fits, Forest, join, forest_of, Piece, piece_fits}
+use Rattle.gl_meaning.specs.Render.{draw, components_at, fits}
 use Rattle.gl_plain.specs.Ids.{a_ref, Id, instance_id, occurs}
 use Rattle.gl_plain.specs.State.{Names, names_by, Inst, mscope, mnothing, State, pair_of, Thing}
 use Rattle.gl_plain.specs.Live
-use Rattle.gl_plain.specs.Live.{Live, Lives, Items, times, times_in, is_deep, are_deep, items_deep, AttrSpot, ModSpot}
+use Rattle.gl_plain.specs.Live.{Live, Lives, times, times_in, is_deep, are_deep}
 use Rattle.gl_plain.specs.Grow.{grow_components}
 use Rattle.gl_plain.specs.Renew.{renew_root, renew_body}
-use Rattle.gl_plain.specs.Drawn.{drawn, drawn_in, drawn_items, drawn_comment, drawn_attrs, drawn_places, leaf_piece}
+use Rattle.gl_plain.specs.Drawn.{drawn_app, drawn_in}
 use Rattle.gl_plain.specs.Stands.{top, Owned, StandIn}
 use Rattle.gl_plain.specs.Machine.{no_place, RootStands, OnlyTouched}
 use Rattle.gl_plain.specs.Laws.{StandingShows, DeepIsDeep, AppendedStands, UpdatedStands, UpdateLeavesOthers, IdsAreKept, LaidStands, FreshIsIdle}
@@ -30,6 +30,7 @@ use Rattle.gl_plain.proofs.Rereads.{Cold}
 use Rattle.gl_plain.proofs.Renewing.{Ready, made_old, from_after, idle_before, idle_same}
 use Rattle.gl_plain.proofs.Renews.{body_renews}
 use Rattle.gl_plain.proofs.ElementRenews.{element_is}
+use Rattle.gl_plain.proofs.Deep.{and_true, all_fit}
 use Rattle.gl_plain.proofs.Shown.{scope_itself, shows_in}
 
 -- the root's scope
@@ -90,14 +91,15 @@ updated_stands app σ τ st l h cells =
 pub update_leaves_others : UpdateLeavesOthers
 update_leaves_others app σ τ st l h cells = let g = root_updated app σ τ app.limit st l h.owned h.stands cells in (g.0.kept, g.0.more, g.0.fewer, λ q w z. g.0.gone q (is_old st (λ i. times i l) h.owned q w) w z)
 
-root_shows : (app : App) (τ : Store) (m : ℕ) (st : State) (l : Live) → Owned st (λ q. times q l) → RootStands app τ τ st.look m l → drawn st.look [] l ≡ components_at m app τ [] [] nothing_passed
+root_shows : (app : App) (τ : Store) (m : ℕ) (st : State) (l : Live) → Owned st (λ q. times q l) → RootStands app τ τ st.look m l → drawn_app app st.look l ≡ components_at m app τ [] [] nothing_passed
 root_shows app τ (suc m) st (Live.component_live i made gm args None ls) o h =
     let ca : Id → ℕ = λ q. occurs q made in
     let cb : Id → ℕ = λ q. times_in q ls in
     let ready = root_ready app τ τ st i made args (left_owned st ca cb o) h.1 h.2 h.3 (λ j x e. refl) in
     let g = shows_in app τ st m (max 0 (top made)) no_place (mscope i args [] mnothing) nothing_passed [] 0 (class_at app []).template ls refl (right_owned st ca cb o) h.5 ready in
-    ap₂ (λ (j : Path) y. r.single (r.component j (scope j (names_by (pair_of st.look) y) [] nothing_passed) (drawn_in st.look j 0 ls))) h.1 h.2
-    ∙ ap (λ f. r.single (r.component [] no_place f)) g.is
+    ap (λ (j : Path). r.single (r.component j (scope j (names_by (pair_of st.look) args) [] nothing_passed) (drawn_in app st.look (mscope i args [] mnothing) j 0 (class_at app j).template ls))) h.1
+    ∙ (ap (λ y. r.single (r.component [] (scope [] (names_by (pair_of st.look) y) [] nothing_passed) (drawn_in app st.look (mscope i args [] mnothing) [] 0 (class_at app []).template ls))) h.2
+    ∙ ap (λ f. r.single (r.component [] no_place f)) g.is)
 root_shows app τ zero st (Live.deep_live q) o h = ap (λ j. r.single (r.too_deep j)) h
 root_shows app τ _ st _ o h = absurd h
 
@@ -153,71 +155,13 @@ fresh_is_idle app σ τ st l h cells f = root_idle app σ τ app.limit st l h.ow
 
 -- Where a component would stand too deep
 
-join_fits : (f g : Forest) → fits (join f g) ≡ (fits f && fits g)
-join_fits r.no_pieces g = refl
-join_fits (r.piece q f) g = ap (λ b. piece_fits q && b) (join_fits f g) ∙ assoc (piece_fits q) (fits f) (fits g) where
-  assoc : (a b c : Bool) → (a && (b && c)) ≡ ((a && b) && c)
-  assoc true b c = refl
-  assoc false b c = refl
-
-and_true : (a : Bool) → (a && true) ≡ a
-and_true true = refl
-and_true false = refl
-
-not_or : (a b : Bool) → (not a && not b) ≡ not (a || b)
-not_or true b = refl
-not_or false b = refl
-
-module _ (look : Id → Option Thing) where
-  leaf_fits : (p : Path) (o : Option Thing) → piece_fits (leaf_piece p o) ≡ true
-  leaf_fits p None = refl
-  leaf_fits p (Some (Rattle.gl_plain.specs.State.content (Rattle.gl_plain.specs.State.text_content z))) = refl
-  leaf_fits p (Some (Rattle.gl_plain.specs.State.content (Rattle.gl_plain.specs.State.comment_content z))) = refl
-  leaf_fits p (Some (Rattle.gl_plain.specs.State.content (Rattle.gl_plain.specs.State.element_content z xs))) = refl
-  leaf_fits p (Some (Rattle.gl_plain.specs.State.row z)) = refl
-  leaf_fits p (Some (Rattle.gl_plain.specs.State.instance_row z)) = refl
-  leaf_fits p (Some (Rattle.gl_plain.specs.State.block_row z)) = refl
-  leaf_fits p (Some (Rattle.gl_plain.specs.State.modifier_row z)) = refl
-
-  comment_fits : (p : Path) (o : Option ℕ) (f : Forest) (b : Bool) → fits f ≡ b → fits (join f (drawn_comment look p o)) ≡ b
-  comment_fits p None f b e = join_fits f r.no_pieces ∙ (and_true (fits f) ∙ e)
-  comment_fits p (Some n) f b e =
-      join_fits f (r.single (leaf_piece (Rattle.gl_meaning.specs.Path.empty ∷ p) (look (Rattle.gl_plain.specs.Ids.node n))))
-      ∙ (ap (λ c. fits f && (c && true)) (leaf_fits (Rattle.gl_meaning.specs.Path.empty ∷ p) (look (Rattle.gl_plain.specs.Ids.node n))) ∙ (and_true (fits f) ∙ e))
-
-  attrs_fit : (p : Path) (xs : List AttrSpot) (qs : List Piece) → fits (forest_of (drawn_attrs look p xs ++ qs)) ≡ fits (forest_of qs)
-  attrs_fit p [] qs = refl
-  attrs_fit p (x ∷ xs) qs = attrs_fit p xs qs
-
-  places_fit : (p : Path) (i : ℕ) (zs : List ModSpot) → fits (forest_of (drawn_places look p i zs)) ≡ true
-  places_fit p i [] = refl
-  places_fit p i (z ∷ zs) = places_fit p (suc i) zs
-
-  mutual
-    fits_is : (p : Path) (l : Live) → fits (drawn look p l) ≡ not (is_deep l)
-    fits_is p (Live.still n) = ap (λ b. b && true) (leaf_fits p (look (Rattle.gl_plain.specs.Ids.node n)))
-    fits_is p (Live.put_live n z) = ap (λ b. b && true) (leaf_fits p (look (Rattle.gl_plain.specs.Ids.node n)))
-    fits_is p (Live.element_live n xs zs ls) =
-        join_fits (forest_of (drawn_attrs look p xs ++ drawn_places look p 0 zs)) _
-        ∙ (ap (λ b. b && (fits (drawn_in look p 0 ls) && true)) (attrs_fit p xs (drawn_places look p 0 zs) ∙ places_fit p 0 zs) ∙ (and_true (fits (drawn_in look p 0 ls)) ∙ all_fit p 0 ls))
-    fits_is p (Live.branch_live z true k ls) = and_true _ ∙ comment_fits (Rattle.gl_meaning.specs.Path.main ∷ p) k (drawn_in look (Rattle.gl_meaning.specs.Path.main ∷ p) 0 ls) (not (are_deep ls)) (all_fit (Rattle.gl_meaning.specs.Path.main ∷ p) 0 ls)
-    fits_is p (Live.branch_live z false k ls) = and_true _ ∙ comment_fits (Rattle.gl_meaning.specs.Path.otherwise ∷ p) k (drawn_in look (Rattle.gl_meaning.specs.Path.otherwise ∷ p) 0 ls) (not (are_deep ls)) (all_fit (Rattle.gl_meaning.specs.Path.otherwise ∷ p) 0 ls)
-    fits_is p (Live.listed z is) = and_true _ ∙ items_fit (Rattle.gl_meaning.specs.Path.items ∷ p) 0 is
-    fits_is p (Live.unlisted z k ls) = and_true _ ∙ comment_fits (Rattle.gl_meaning.specs.Path.otherwise ∷ p) k (drawn_in look (Rattle.gl_meaning.specs.Path.otherwise ∷ p) 0 ls) (not (are_deep ls)) (all_fit (Rattle.gl_meaning.specs.Path.otherwise ∷ p) 0 ls)
-    fits_is p (Live.let_live made names ls) = all_fit (Rattle.gl_meaning.specs.Path.main ∷ p) 0 ls
-    fits_is p (Live.component_live i made gm args k ls) = and_true _ ∙ all_fit i.path 0 ls
-    fits_is p (Live.yield_live n made names ls) = all_fit (Rattle.gl_meaning.specs.Path.slot n ∷ p) 0 ls
-    fits_is p (Live.deep_live q) = refl
-
-    items_fit : (p : Path) (i : ℕ) (is : Items) → fits (drawn_items look p i is) ≡ not (items_deep is)
-    items_fit p i Live.no_items = refl
-    items_fit p i (Live.item_live z k ls is) =
-        ap₂ (λ a b. a && b) (comment_fits (Rattle.gl_meaning.specs.Path.item z.key z.occurrence ∷ p) k (drawn_in look (Rattle.gl_meaning.specs.Path.item z.key z.occurrence ∷ p) 0 ls) (not (are_deep ls)) (all_fit (Rattle.gl_meaning.specs.Path.item z.key z.occurrence ∷ p) 0 ls)) (items_fit p (suc i) is) ∙ not_or (are_deep ls) (items_deep is)
-
-    all_fit : (p : Path) (i : ℕ) (ls : Lives) → fits (drawn_in look p i ls) ≡ not (are_deep ls)
-    all_fit p i Live.no_lives = refl
-    all_fit p i (Live.live_and l ls) =
-        join_fits (drawn look (Rattle.gl_meaning.specs.Path.at i ∷ p) l) (drawn_in look p (suc i) ls) ∙ (ap₂ (λ a b. a && b) (fits_is (Rattle.gl_meaning.specs.Path.at i ∷ p) l) (all_fit p (suc i) ls) ∙ not_or (is_deep l) (are_deep ls))
+root_fits : (app : App) (τ : Store) (look : Id → Option Thing) (m : ℕ) (l : Live) → RootStands app τ τ look m l → fits (drawn_app app look l) ≡ not (is_deep l)
+root_fits app τ look (suc m) (Live.component_live i made gm args None ls) h =
+    and_true _
+    ∙ subst (λ j. fits (drawn_in app look (mscope i args [] mnothing) j 0 (class_at app j).template ls) ≡ not (are_deep ls)) (sym h.1)
+    (all_fit look app τ m (max 0 (top made)) no_place (mscope i args [] mnothing) [] [] 0 (class_at app []).template ls h.5)
+root_fits app τ look zero (Live.deep_live q) h = refl
+root_fits app τ look _ _ h = absurd h
 
 pub deep_is_deep : DeepIsDeep
-deep_is_deep app τ st l h = sym (ap fits (standing_shows app τ st l h)) ∙ fits_is st.look [] l
+deep_is_deep app τ st l h = sym (ap fits (standing_shows app τ st l h)) ∙ root_fits app τ st.look app.limit l h.stands

@@ -18,7 +18,8 @@ use Rattle.gl_plain.specs.State.{Names, names_by, Inst, MScope, mscope, MPassed,
 use Rattle.gl_plain.specs.Binding.{Spot}
 use Rattle.gl_plain.specs.Live.{AttrSpot, ModSpot, ItemSpot, item_made, Live, Lives, Items, times, times_in, times_items, times_comment, has_node, have_node, item_names}
 use Rattle.gl_plain.specs.Live
-use Rattle.gl_plain.specs.Drawn.{leaf_piece, tag_of, attrs_of, passed_row, pairs_after, pairs_until, zipped, pairs_at, drawn_comment, drawn_attrs, drawn_modifiers, drawn_places, drawn, drawn_items, drawn_in, modifier_name}
+use Rattle.gl_plain.specs.Drawn.{leaf_piece, tag_of, attrs_of, pairs_after, pairs_until, zipped, pairs_at, drawn_comment, drawn_attrs, drawn_modifiers, drawn_places, drawn, drawn_items, drawn_in, modifier_name}
+use Rattle.gl_plain.specs.Renew.{where_block}
 use Rattle.gl_plain.specs.Stands.{Spotted, exprs_by, one_expr, attrs_by, mods_by, head_of, tail_of, pairs_for, modifier_pairs, WhereValues, WhereBlock, AttrsStand, ModsStand, CommentStands, Stands, StandIn, ItemsStand, BlockStands, ListStands, Owned}
 use Rattle.gl_plain.specs.InScope.{InScope}
 use Rattle.gl_plain.proofs.Moves.{left_owned, right_owned}
@@ -87,7 +88,7 @@ module _ (app : App) (τ : Store) (look : Id → Option Thing) where
   leaf_node p (Some (Rattle.gl_plain.specs.State.content (Rattle.gl_plain.specs.State.element_content z xs))) = refl
   leaf_node p (Some (Rattle.gl_plain.specs.State.row z)) = refl
   leaf_node p (Some (Rattle.gl_plain.specs.State.instance_row z)) = refl
-  leaf_node p (Some (Rattle.gl_plain.specs.State.block_row z)) = refl
+  leaf_node p (Some Rattle.gl_plain.specs.State.block_row) = refl
   leaf_node p (Some (Rattle.gl_plain.specs.State.modifier_row z)) = refl
 
   -- an arm has a node
@@ -190,11 +191,10 @@ module _ (app : App) (τ : Store) (st : State) where
   values_some no_values = false
   values_some (value v vs) = true
 
-  block_shows : (m : ℕ) (w : Scope) (ms : MScope) (p : Path) (n : Text) (vs : List Pair) (ls : Lives) (o : Option Block) → block_named n (slots_in (passed_of w)) ≡ o → (F : Block → Forest)
-      → ((c : Block) → o ≡ Some c → Shows (drawn_in st.look (slot n ∷ p) 0 ls) (F c) (have_node ls)) → (o ≡ None → ls ≡ Live.no_lives)
-      → Shows (drawn_in st.look (slot n ∷ p) 0 ls) (r.in_block o F) (have_node ls)
-  block_shows m w ms p n vs ls None e F g h = record { is = ap (drawn_in st.look (slot n ∷ p) 0) (h refl); there = ap (λ z. r.has_node (drawn_in st.look (slot n ∷ p) 0 z)) (h refl) ∙ sym (ap have_node (h refl)) }
-  block_shows m w ms p n vs ls (Some c) e F g h = g c refl
+  block_shows : (o : Option Block) (D F : Block → Forest) (ls : Lives) → ((c : Block) → o ≡ Some c → Shows (D c) (F c) (have_node ls)) → (o ≡ None → ls ≡ Live.no_lives)
+      → Shows (where_block o D no_pieces) (r.in_block o F) (have_node ls)
+  block_shows None D F ls g h = record { is = refl; there = sym (ap have_node (h refl)) }
+  block_shows (Some c) D F ls g h = g c refl
 
   if_shows : (p : Path) (unless u : Bool) (v : Pair) (F G A : Forest) → takes_first unless v.value ≡ u → A ≡ (if u then r.region_at (main ∷ p) F else r.region_at (otherwise ∷ p) G)
       → piece (position p (v ∷ [])) A ≡ r.if_of p unless v F G
@@ -207,36 +207,35 @@ module _ (app : App) (τ : Store) (st : State) where
   some_items Live.no_items = false
   some_items (Live.item_live z k ls is) = true
 
-  list_shows : (p : Path) (ps : List Pair) (v : Pair) → ps ≡ v ∷ [] → (F : Values Path → Forest) (G : Forest) (is : Items) (P : Values Path → Type 0) (us : Values Path) → values_listed v.value ≡ us → WhereValues us P ⊥
-      → ((us : Values Path) → P us → Shows (drawn_items st.look (items ∷ p) 0 is) (F us) (values_some us))
-      → Shows (piece (position p ps) (single (r.branch (items ∷ p) (drawn_items st.look (items ∷ p) 0 is)))) (r.each_of p v F G) true
-  list_shows p ps v e F G is P no_values f h g = absurd h
-  list_shows p ps v e F G is P (value x us) f h g =
+  list_shows : (p : Path) (ps : List Pair) (v : Pair) → ps ≡ v ∷ [] → (F : Values Path → Forest) (G D : Forest) (P : Values Path → Type 0) (us : Values Path) → values_listed v.value ≡ us → WhereValues us P ⊥
+      → ((us : Values Path) → P us → Shows D (F us) (values_some us)) → Shows (piece (position p ps) (single (r.branch (items ∷ p) D))) (r.each_of p v F G) true
+  list_shows p ps v e F G D P no_values f h g = absurd h
+  list_shows p ps v e F G D P (value x us) f h g =
       let k = g (value x us) h in
       record {
         is = ap₂ (λ y z. piece (position p y) (single (r.branch (items ∷ p) z))) e k.is ∙ ap (λ y. piece (position p (v ∷ [])) (r.items_or_else p y F G)) (sym f);
         there = ap (λ y. y || false) k.there;
       }
 
-  else_shows : (p : Path) (ps : List Pair) (v : Pair) → ps ≡ v ∷ [] → (F : Values Path → Forest) (G : Forest) (y : Option ℕ) (ls : Lives) (Q : Type 0) (us : Values Path) → values_listed v.value ≡ us
-      → WhereValues us (λ z. ⊥) (CommentStands app τ τ st.look y ls × Q) → (Q → Shows (drawn_in st.look (otherwise ∷ p) 0 ls) G (have_node ls))
-      → Shows (piece (position p ps) (single (r.branch (otherwise ∷ p) (join (drawn_in st.look (otherwise ∷ p) 0 ls) (drawn_comment st.look (otherwise ∷ p) y))))) (r.each_of p v F G) true
-  else_shows p ps v e F G y ls Q (value x us) f h g = absurd h
-  else_shows p ps v e F G y ls Q no_values f h g =
+  else_shows : (p : Path) (ps : List Pair) (v : Pair) → ps ≡ v ∷ [] → (F : Values Path → Forest) (G D : Forest) (y : Option ℕ) (ls : Lives) (Q : Type 0) (us : Values Path) → values_listed v.value ≡ us
+      → WhereValues us (λ z. ⊥) (CommentStands app τ τ st.look y ls × Q) → (Q → Shows D G (have_node ls))
+      → Shows (piece (position p ps) (single (r.branch (otherwise ∷ p) (join D (drawn_comment st.look (otherwise ∷ p) y))))) (r.each_of p v F G) true
+  else_shows p ps v e F G D y ls Q (value x us) f h g = absurd h
+  else_shows p ps v e F G D y ls Q no_values f h g =
       let k = g h.1 in
       record {
-        is = ap₂ (λ q z. piece (position p q) (single (r.branch (otherwise ∷ p) z))) e (arm_shows app τ st.look (otherwise ∷ p) y ls (drawn_in st.look (otherwise ∷ p) 0 ls) G k.is k.there h.0)
+        is = ap₂ (λ q z. piece (position p q) (single (r.branch (otherwise ∷ p) z))) e (arm_shows app τ st.look (otherwise ∷ p) y ls D G k.is k.there h.0)
             ∙ ap (λ q. piece (position p (v ∷ [])) (r.items_or_else p q F G)) (sym f);
-        there = ap (λ q. q || false) (arm_node app τ st.look (otherwise ∷ p) y ls (drawn_in st.look (otherwise ∷ p) 0 ls) k.there h.0);
+        there = ap (λ q. q || false) (arm_node app τ st.look (otherwise ∷ p) y ls D k.there h.0);
       }
 
-  yield_shows : (m : ℕ) (w : Scope) (u : Passed) (p : Path) (n k : Text) (vs : List Pair) (ls : Lives) → passed_of w ≡ u → k ≡ n
-      → Shows (drawn_in st.look (slot n ∷ p) 0 ls)
+  yield_shows : (m : ℕ) (w : Scope) (u : Passed) (p : Path) (n k : Text) (vs : List Pair) (ls : Lives) (D : Text → Forest) → passed_of w ≡ u → k ≡ n
+      → Shows (D n)
       (r.in_block (block_named n (slots_in (passed_of w))) (λ b. body_of m (passed_of (writer (passed_of w))) (with_locals (bind b.params vs) (writer (passed_of w))) (slot n ∷ p) 0 b.body)) (have_node ls)
-      → Shows (drawn_in st.look (slot k ∷ p) 0 ls) (yields_of app τ (inner m) u n vs p) (have_node ls)
-  yield_shows m w u p n k vs ls e f h = record {
-    is = ap (λ j. drawn_in st.look (slot j ∷ p) 0 ls) f ∙ (h.is ∙ (sym (yields_by app τ (inner m) (passed_of w) n vs p) ∙ ap (λ z. yields_of app τ (inner m) z n vs p) e));
-    there = ap (λ j. r.has_node (drawn_in st.look (slot j ∷ p) 0 ls)) f ∙ h.there;
+      → Shows (D k) (yields_of app τ (inner m) u n vs p) (have_node ls)
+  yield_shows m w u p n k vs ls D e f h = record {
+    is = ap D f ∙ (h.is ∙ (sym (yields_by app τ (inner m) (passed_of w) n vs p) ∙ ap (λ z. yields_of app τ (inner m) z n vs p) e));
+    there = ap (λ j. r.has_node (D j)) f ∙ h.there;
   }
 
   some_block : (P : Block → Type 0) (Q : Type 0) (c : Block) (o : Option Block) → o ≡ Some c → WhereBlock o P Q → P c
@@ -247,7 +246,7 @@ module _ (app : App) (τ : Store) (st : State) where
 
   mutual
     pub shows : (m b : ℕ) (w : Scope) (ms : MScope) (u : Passed) (p : Path) (x : t.Stmt) (l : Live) → passed_of w ≡ u → Owned st (λ q. times q l) → Stands app τ τ st.look m b w ms p x l → Here b ms w
-        → Shows (drawn st.look p l) (render_stmt app τ (inner m) (yields_of app τ (inner m) u) w p x) (has_node l)
+        → Shows (drawn app st.look ms p x l) (render_stmt app τ (inner m) (yields_of app τ (inner m) u) w p x) (has_node l)
     shows m b w ms u p (t.text_stmt z) (Live.still n) e o h s = record { is = ap (λ y. single (leaf_piece p y)) h; there = ap (λ y. r.is_node (leaf_piece p y) || false) h }
     shows m b w ms u p (t.comment_stmt z) (Live.still n) e o h s = record { is = ap (λ y. single (leaf_piece p y)) h; there = ap (λ y. r.is_node (leaf_piece p y) || false) h }
     shows m b w ms u p (t.put z) (Live.put_live n k) e o h s = record {
@@ -269,30 +268,30 @@ module _ (app : App) (τ : Store) (st : State) where
     shows m b w ms u p (t.if_stmt z unless c d) (Live.branch_live k true y ls) e o h s =
         let oa : Owned st (λ q. times_in q ls) = record { once = λ q. let i = o.once q in omega (arith, i); old = λ q le. let i = o.old q le in omega (arith, i) } in
         let g = shows_in m b w ms u (main ∷ p) 0 c ls e oa h.3 s in
-        let arm = arm_shows app τ st.look (main ∷ p) y ls (drawn_in st.look (main ∷ p) 0 ls) (body_of m u w (main ∷ p) 0 c) g.is g.there h.2 in
+        let arm = arm_shows app τ st.look (main ∷ p) y ls (drawn_in app st.look ms (main ∷ p) 0 c ls) (body_of m u w (main ∷ p) 0 c) g.is g.there h.2 in
         record {
-          is = ap (λ vs. piece (position p vs) (single (r.branch (main ∷ p) (join (drawn_in st.look (main ∷ p) 0 ls) (drawn_comment st.look (main ∷ p) y))))) (one_shows app τ b st ms w s.scope k (one_expr z) h.0)
+          is = ap (λ vs. piece (position p vs) (single (r.branch (main ∷ p) (join (drawn_in app st.look ms (main ∷ p) 0 c ls) (drawn_comment st.look (main ∷ p) y))))) (one_shows app τ b st ms w s.scope k (one_expr z) h.0)
               ∙ if_shows p unless true (eval app τ w z) (body_of m u w (main ∷ p) 0 c) (body_of m u w (otherwise ∷ p) 0 d) _ h.1 (ap (λ f. single (r.branch (main ∷ p) f)) arm);
-          there = ap (λ q. q || false) (arm_node app τ st.look (main ∷ p) y ls (drawn_in st.look (main ∷ p) 0 ls) g.there h.2);
+          there = ap (λ q. q || false) (arm_node app τ st.look (main ∷ p) y ls (drawn_in app st.look ms (main ∷ p) 0 c ls) g.there h.2);
         }
     shows m b w ms u p (t.if_stmt z unless c d) (Live.branch_live k false y ls) e o h s =
         let oa : Owned st (λ q. times_in q ls) = record { once = λ q. let i = o.once q in omega (arith, i); old = λ q le. let i = o.old q le in omega (arith, i) } in
         let g = shows_in m b w ms u (otherwise ∷ p) 0 d ls e oa h.3 s in
-        let arm = arm_shows app τ st.look (otherwise ∷ p) y ls (drawn_in st.look (otherwise ∷ p) 0 ls) (body_of m u w (otherwise ∷ p) 0 d) g.is g.there h.2 in
+        let arm = arm_shows app τ st.look (otherwise ∷ p) y ls (drawn_in app st.look ms (otherwise ∷ p) 0 d ls) (body_of m u w (otherwise ∷ p) 0 d) g.is g.there h.2 in
         record {
-          is = ap (λ vs. piece (position p vs) (single (r.branch (otherwise ∷ p) (join (drawn_in st.look (otherwise ∷ p) 0 ls) (drawn_comment st.look (otherwise ∷ p) y))))) (one_shows app τ b st ms w s.scope k (one_expr z) h.0)
+          is = ap (λ vs. piece (position p vs) (single (r.branch (otherwise ∷ p) (join (drawn_in app st.look ms (otherwise ∷ p) 0 d ls) (drawn_comment st.look (otherwise ∷ p) y))))) (one_shows app τ b st ms w s.scope k (one_expr z) h.0)
               ∙ if_shows p unless false (eval app τ w z) (body_of m u w (main ∷ p) 0 c) (body_of m u w (otherwise ∷ p) 0 d) _ h.1 (ap (λ f. single (r.branch (otherwise ∷ p) f)) arm);
-          there = ap (λ q. q || false) (arm_node app τ st.look (otherwise ∷ p) y ls (drawn_in st.look (otherwise ∷ p) 0 ls) g.there h.2);
+          there = ap (λ q. q || false) (arm_node app τ st.look (otherwise ∷ p) y ls (drawn_in app st.look ms (otherwise ∷ p) 0 d ls) g.there h.2);
         }
     shows m b w ms u p (t.each z key ns c d) (Live.listed k is) e o h s =
         let oa = right_owned st (λ q. occurs q k.made) (λ q. times_items q is) o in
         list_shows p (pairs_at st.look k) (eval app τ w z) (one_shows app τ b st ms w s.scope k (one_expr z) h.0) (λ us. r.render_entries (one_item m u w ns c) (items ∷ p) (entries key 0 [] us))
-        (body_of m u w (otherwise ∷ p) 0 d) is (ListStands app τ τ st.look m b w ms p key ns c is) (values_listed (eval app τ w z).value) refl h.1
+        (body_of m u w (otherwise ∷ p) 0 d) (drawn_items app st.look ns ms c (items ∷ p) 0 is) (ListStands app τ τ st.look m b w ms p key ns c is) (values_listed (eval app τ w z).value) refl h.1
         (λ us hi. shows_items m b w ms u (items ∷ p) ns c key 0 [] us is e oa hi s)
     shows m b w ms u p (t.each z key ns c d) (Live.unlisted k y ls) e o h s =
         let oa : Owned st (λ q. times_in q ls) = record { once = λ q. let i = o.once q in omega (arith, i); old = λ q le. let i = o.old q le in omega (arith, i) } in
         else_shows p (pairs_at st.look k) (eval app τ w z) (one_shows app τ b st ms w s.scope k (one_expr z) h.0) (λ us. r.render_entries (one_item m u w ns c) (items ∷ p) (entries key 0 [] us))
-        (body_of m u w (otherwise ∷ p) 0 d) y ls (StandIn app τ τ st.look m b w ms (otherwise ∷ p) 0 d ls) (values_listed (eval app τ w z).value) refl h.1
+        (body_of m u w (otherwise ∷ p) 0 d) (drawn_in app st.look ms (otherwise ∷ p) 0 d ls) y ls (StandIn app τ τ st.look m b w ms (otherwise ∷ p) 0 d ls) (values_listed (eval app τ w z).value) refl h.1
         (λ hi. shows_in m b w ms u (otherwise ∷ p) 0 d ls e oa hi s)
     shows m b w ms u p (t.let_stmt es ns c) (Live.let_live made names ls) e o h s =
         let oa = left_owned st (λ q. occurs q made) (λ q. times_in q ls) o in
@@ -306,39 +305,44 @@ module _ (app : App) (τ : Store) (st : State) where
         let q = into c ∷ p in
         let s' = component_ready app τ τ b st ms w w q ps given bs i made gm args k s oa h.2 h.3.2 h.4 h.5 in
         let g = shows_in m _ _ (mscope i args [] (mpassed k ps bs ms)) (passed ps bs w) q 0 (class_at app q).template ls refl ob h.7 s' in
+        let v = mpassed k ps bs ms in
+        let D : Path → Forest = λ j. drawn_in app st.look (mscope i args [] v) j 0 (class_at app j).template ls in
         record {
           is =
-              ap₂ (λ (j : Path) (v : MPassed). single (r.component j (scope j (names_by (pair_of st.look) args) [] (passed_by (pair_of st.look) v)) (drawn_in st.look j 0 ls))) h.2 (ap passed_row h.0.1)
+              ap (λ (j : Path). single (r.component j (scope j (names_by (pair_of st.look) args) [] (passed_by (pair_of st.look) v)) (D j))) h.2
               ∙ ap₂ (λ y f. single (r.component q y f)) (ap (λ j. scope j (names_by (pair_of st.look) args) [] (passed ps bs (scope_by (pair_of st.look) ms))) (sym h.2) ∙ s'.scope.is) g.is;
-          there = ap (λ j. r.has_node (drawn_in st.look j 0 ls) || false) h.2 ∙ (or_false (r.has_node (drawn_in st.look q 0 ls)) ∙ g.there);
+          there = ap (λ j. r.has_node (D j) || false) h.2 ∙ (or_false (r.has_node (D q)) ∙ g.there);
         }
     shows zero b w ms u p (t.component_stmt c ps given bs) (Live.deep_live q) e o h s = record { is = ap (λ j. single (r.too_deep j)) h; there = refl }
     shows m b w ms u p (t.yield es n) (Live.yield_live k made names ls) e o h s =
         let oa = left_owned st (λ q. occurs q made) (λ q. times_in q ls) o in
         let ob = right_owned st (λ q. occurs q made) (λ q. times_in q ls) o in
         let slots : slots_in (passed_of w) ≡ mslots (passed_in ms) = sym (ap (λ y. slots_in (passed_of y)) s.scope.is) ∙ (ap slots_in (passed_by_scope (pair_of st.look) ms) ∙ slots_by (pair_of st.look) (passed_in ms)) in
-        yield_shows m w u p n k (eval_all app τ w es) ls e h.0
-        (block_shows m w ms p n (eval_all app τ w es) ls (block_named n (slots_in (passed_of w))) refl _
+        let F : Block → Forest = λ c. body_of m (passed_of (writer (passed_of w))) (with_locals (bind c.params (eval_all app τ w es)) (writer (passed_of w))) (slot n ∷ p) 0 c.body in
+        let D : Text → Block → Forest = λ j c. drawn_in app st.look (with_names (named_as c.params names) (mwriter (passed_in ms))) (slot j ∷ p) 0 c.body ls in
+        yield_shows m w u p n k (eval_all app τ w es) ls (λ j. where_block (block_named n (mslots (passed_in ms))) (D j) no_pieces) e h.0
+        (subst (λ y. Shows (where_block (block_named n (mslots (passed_in ms))) (D n) no_pieces) (r.in_block (block_named n y) F) (have_node ls)) (sym slots)
+        (block_shows (block_named n (mslots (passed_in ms))) (D n) F ls
         (λ c f.
         let g : BlockStands app τ τ st.look m b w ms p es n made names ls c =
-        some_block (BlockStands app τ τ st.look m b w ms p es n made names ls) (ls ≡ Live.no_lives) c (block_named n (mslots (passed_in ms))) (ap (block_named n) (sym slots) ∙ f) h.1 in
+        some_block (BlockStands app τ τ st.look m b w ms p es n made names ls) (ls ≡ Live.no_lives) c (block_named n (mslots (passed_in ms))) f h.1 in
         shows_in m _ _ (with_names (named_as c.params names) (mwriter (passed_in ms))) (passed_of (writer (passed_of w))) (slot n ∷ p) 0 c.body ls (locals_passed (bind c.params (eval_all app τ w es)) (writer (passed_of w))) ob g.3
-        (yield_scopes app τ τ b st ms w w es n c made (named_as c.params names) (ap (block_named n) (sym slots) ∙ f) s oa g.0 g.1))
-        (λ f. none_block (BlockStands app τ τ st.look m b w ms p es n made names ls) (ls ≡ Live.no_lives) (block_named n (mslots (passed_in ms))) (ap (block_named n) (sym slots) ∙ f) h.1))
+        (yield_scopes app τ τ b st ms w w es n c made (named_as c.params names) f s oa g.0 g.1))
+        (λ f. none_block (BlockStands app τ τ st.look m b w ms p es n made names ls) (ls ≡ Live.no_lives) (block_named n (mslots (passed_in ms))) f h.1)))
     shows m b w ms u p _ _ e o h s = absurd h
 
     pub shows_in : (m b : ℕ) (w : Scope) (ms : MScope) (u : Passed) (p : Path) (i : ℕ) (c : t.Body) (ls : Lives) → passed_of w ≡ u → Owned st (λ q. times_in q ls) → StandIn app τ τ st.look m b w ms p i c ls → Here b ms w
-        → Shows (drawn_in st.look p i ls) (body_of m u w p i c) (have_node ls)
+        → Shows (drawn_in app st.look ms p i c ls) (body_of m u w p i c) (have_node ls)
     shows_in m b w ms u p i t.end Live.no_lives e o h s = record { is = refl; there = refl }
     shows_in m b w ms u p i (t.stmt x c) (Live.live_and l ls) e o h s =
         let g = shows m b w ms u (at i ∷ p) x l e (left_owned st (λ q. times q l) (λ q. times_in q ls) o) h.0 s in
         let k = shows_in m b w ms u p (suc i) c ls e (right_owned st (λ q. times q l) (λ q. times_in q ls) o) h.1 s in
-        record { is = ap₂ join g.is k.is; there = join_nodes (drawn st.look (at i ∷ p) l) (drawn_in st.look p (suc i) ls) ∙ ap₂ (λ x y. x || y) g.there k.there }
+        record { is = ap₂ join g.is k.is; there = join_nodes (drawn app st.look ms (at i ∷ p) x l) (drawn_in app st.look ms p (suc i) c ls) ∙ ap₂ (λ x y. x || y) g.there k.there }
     shows_in m b w ms u p i _ _ e o h s = absurd h
 
     pub shows_items : (m b : ℕ) (w : Scope) (ms : MScope) (u : Passed) (p : Path) (ns : List Text) (c : t.Body) (key : Text) (i : ℕ) (before : List t.Plain) (vs : Values Path) (is : Items) → passed_of w ≡ u
         → Owned st (λ q. times_items q is) → ItemsStand app τ τ st.look m b w ms p ns c (entries key i before vs) is → Here b ms w
-        → Shows (drawn_items st.look p i is) (r.render_entries (one_item m u w ns c) p (entries key i before vs)) (values_some vs)
+        → Shows (drawn_items app st.look ns ms c p i is) (r.render_entries (one_item m u w ns c) p (entries key i before vs)) (values_some vs)
     shows_items m b w ms u p ns c key i before no_values Live.no_items e o h s = record { is = refl; there = refl }
     shows_items m b w ms u p ns c key i before (value v vs) (Live.item_live z k ls is) e o h s =
         let x : Entry = record { key = Rattle.gl_value.specs.Value.key_of key i v; occurrence = r.occurrences (Rattle.gl_value.specs.Value.key_of key i v) before; value = v; index = i } in
@@ -350,12 +354,13 @@ module _ (app : App) (τ : Store) (st : State) where
         let g = shows_in m _ _ (with_names (item_names ns z) ms) u q 0 c ls (locals_passed (bind ns (entry_pairs q x)) w ∙ e) ol h.4 s' in
         let rest = shows_items m b w ms u p ns c key (suc i) (x.key ∷ before) vs is e or h.5 s in
         let at : item z.key z.occurrence ∷ p ≡ q = ap₂ (λ a n. item a n ∷ p) h.0.0 h.0.1 in
-        let arm = arm_shows app τ st.look q k ls (drawn_in st.look q 0 ls) (one_item m u w ns c q x) g.is g.there h.3 in
+        let D : Path → Forest = λ j. drawn_in app st.look (with_names (item_names ns z) ms) j 0 c ls in
+        let arm = arm_shows app τ st.look q k ls (D q) (one_item m u w ns c q x) g.is g.there h.3 in
         record {
           is =
               ap₂ piece
-              (ap₂ (λ (j : Path) (y : V). r.item_region j y i (join (drawn_in st.look j 0 ls) (drawn_comment st.look j k))) at (ap held_value h.0.2) ∙ ap (r.item_region q v i) arm)
+              (ap₂ (λ (j : Path) (y : V). r.item_region j y i (join (D j) (drawn_comment st.look j k))) at (ap held_value h.0.2) ∙ ap (r.item_region q v i) arm)
               rest.is;
-          there = ap (λ y. y || r.has_node (drawn_items st.look p (suc i) is)) (ap (λ j. r.has_node (join (drawn_in st.look j 0 ls) (drawn_comment st.look j k))) at ∙ arm_node app τ st.look q k ls (drawn_in st.look q 0 ls) g.there h.3);
+          there = ap (λ y. y || r.has_node (drawn_items app st.look ns ms c p (suc i) is)) (ap (λ j. r.has_node (join (D j) (drawn_comment st.look j k))) at ∙ arm_node app τ st.look q k ls (D q) g.there h.3);
         }
     shows_items m b w ms u p ns c key i before _ _ e o h s = absurd h

@@ -156,7 +156,7 @@ module _ (app : App) (components : GrowComponents) (yields : GrowYields) where
     grow_stmt ms p (component_stmt c ps given bs) st =
         let a = bind_args app ms given st in
         let k = a.state.next a_block in
-        components (into c ∷ p) (block_id k ∷ a.made) a.names (Some k) (mpassed k ps bs ms) (make a_block (block_row (mpassed k ps bs ms)) a.state)
+        components (into c ∷ p) (block_id k ∷ a.made) a.names (Some k) (mpassed k ps bs ms) (make a_block block_row a.state)
     grow_stmt ms p (if_stmt e unless b c) st =
         let x = place (bind_exprs app ms (expr e no_exprs) st) in
         if takes_first unless (first_value x.pairs)

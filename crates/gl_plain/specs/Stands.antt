@@ -199,7 +199,7 @@ module _ (app : App) (σ τ : Store) (look : Id → Option Thing) where
         × StandIn m b' (with_locals (bind ns (eval_all app σ s es)) s) (with_names names ms) (main ∷ p) 0 c ls
     Stands (suc m) b s ms p (component_stmt c ps given bs) (component_live i made gm args (Some k) ls) =
         let b' = max b (top made) in let q = into c ∷ p in
-        ((0 < occurs (block_id k) gm) × (look (block_id k) ≡ Some (block_row (mpassed k ps bs ms))))
+        ((0 < occurs (block_id k) gm) × (look (block_id k) ≡ Some block_row))
         × ((0 < occurs (instance_id i.id) made) × (look (instance_id i.id) ≡ Some (instance_row i)))
         × (i.path ≡ q)
         × (((x : Id) → 0 < occurs x gm → 0 < occurs x made) × ((x : Text) → member_of (class_at app q) x ≡ field_member → occurs (ref (cell_ref i x)) gm ≡ 0)

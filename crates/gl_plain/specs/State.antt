@@ -137,7 +137,8 @@ pub data Thing : Type 0 where
   row : Row → Thing
   content : Content → Thing
   instance_row : Inst → Thing
-  block_row : MPassed → Thing
+  -- What is passed isn't kept here: the parts and blocks that were written stand in the template.
+  block_row : Thing
   modifier_row : Installed → Thing
 
 -- What each id names, where it is live; the next number of each kind; whether a source was touched since the turn began; the
