@@ -25,6 +25,10 @@ use Rattle.gl_plain.proofs.Stay.{gives_stays, cells_stay, left_above}
 use Rattle.gl_plain.proofs.Placing.{scope_grows, local_scope, params_bound, named_back}
 use Rattle.gl_plain.proofs.Cells.{cells_move, cells_stand, cells_at}
 use Rattle.gl_plain.proofs.Grows.{Grown, GrownIn, new_from, ComponentsGrow, YieldsGrow, body_grows, component_call}
+use Rattle.gl_plain.specs.MParts.{mwritten_parts}
+use Rattle.gl_plain.specs.Tags.{bind_written}
+use Rattle.gl_plain.proofs.Elements.{near_parts}
+use Rattle.gl_plain.proofs.Tags.{still_low, written_are}
 use Rattle.gl_plain.proofs.ElementGrows.{element_grows}
 
 -- The scope that wrote what was passed.
@@ -203,35 +207,46 @@ module _ (app : App) (τ : Store) where
   components_grow zero b w ms p c ps given bs st le s =
       let a = bind_args app ms given st in
       let h = args_are app b ms s.low given st le in
-      let k = a.state.next a_block in
-      let st1 = make a_block block_row a.state in
-      let m = both_new st a.state st1 (λ q. occurs q a.made) (λ q. hit q (block_id k)) h.moves (make_moves a_block block_row a.state) in
-      record { moves = forget st st1 (λ q. occurs q a.made + hit q (block_id k)) m; stands = refl }
+      let le0 = still_low app b ms st a.state (λ q. occurs q a.made) le h.moves in
+      let z = bind_written app (mwritten_parts ms ps) a.state in
+      let hz = written_are app b ms (mwritten_parts ms ps) (near_parts app b ms ps s.low) a.state le0 in
+      let made = a.made ++ z.made in
+      let k = z.state.next a_block in
+      let st1 = make a_block block_row z.state in
+      let mz = both_made st a.state z.state a.made z.made h.moves hz.moves in
+      let m = both_new st z.state st1 (λ q. occurs q made) (λ q. hit q (block_id k)) mz (make_moves a_block block_row z.state) in
+      record { moves = forget st st1 (λ q. occurs q made + hit q (block_id k)) m; stands = refl }
   components_grow (suc n) b w ms p c ps given bs st le s =
       let a = bind_args app ms given st in
       let h = args_are app b ms s.low given st le in
-      let k = a.state.next a_block in
+      let le0 = still_low app b ms st a.state (λ q. occurs q a.made) le h.moves in
+      let z = bind_written app (mwritten_parts ms ps) a.state in
+      let hz = written_are app b ms (mwritten_parts ms ps) (near_parts app b ms ps s.low) a.state le0 in
+      let k = z.state.next a_block in
       let v = mpassed k ps bs ms in
-      let st1 = make a_block block_row a.state in
-      let made = block_id k ∷ a.made in
-      let mk = make_moves a_block block_row a.state in
+      let st1 = make a_block block_row z.state in
+      let both = a.made ++ z.made in
+      let made = block_id k ∷ both in
+      let mz = both_made st a.state z.state a.made z.made h.moves hz.moves in
+      let mk = make_moves a_block block_row z.state in
       let ck : Id → ℕ = λ q. hit q (block_id k) in
-      let ca : Id → ℕ = λ q. occurs q a.made in
-      let m = recount st st1 (λ q. 0) (λ q. 0) (λ q. occurs q made) (λ q. ca q + ck q) (λ q. refl) (λ q. omega arith) (both_new st a.state st1 ca ck h.moves mk) in
+      let ca : Id → ℕ = λ q. occurs q both in
+      let m = recount st st1 (λ q. 0) (λ q. 0) (λ q. occurs q made) (λ q. ca q + ck q) (λ q. refl) (λ q. omega arith) (both_new st z.state st1 ca ck mz mk) in
       let b1 = max b (top made) in
-      let t0 = top_append (block_id k ∷ []) a.made in
-      let wide : max b (top a.made) ≤ b1 = omega (arith, t0) in
-      let le1 = made_below b st a.state a.made le h.moves in
-      let sa = scope_grows app τ b st a.state ms w ca le h.moves s in
+      let t0 = top_append (block_id k ∷ []) both in
+      let t1 = top_append a.made z.made in
+      let wide : max b (top a.made) ≤ b1 = omega (arith, t0, t1) in
+      let le1 = made_below b st z.state both le mz in
       let s1 = scope_grows app τ b st st1 ms w (λ q. occurs q made) le m s in
-      let same = before_new st a.state st1 ca ck h.moves mk in
+      let cz : Id → ℕ = λ q. occurs q z.made in
+      let same = before_new st a.state st1 (λ q. occurs q a.made) (λ q. cz q + ck q) h.moves (both_new a.state z.state st1 cz ck hz.moves mk) in
       let gives1 = gives_stays app a.state.look st1.look a.made ms _ _ same h.gives in
       let given_are : names_by (pair_of st1.look) a.names ≡ eval_given app τ w given = gives1 (pair_of st1.look) τ (obeys_pairs st1.look a.made) s1.cells ∙ ap (λ z. eval_given app τ z given) s1.is in
       let g = instance_grows n (components_grow n) b (into c ∷ p) made a.names (eval_given app τ w given) (Some k) v (passed ps bs w) st st1 le m
       (names_below _ _ wide a.names h.low) given_are (scope_below app b b1 (omega arith) ms s.low) (ap (passed ps bs) s1.is) s1.cells in
       let own_k : 0 < occurs (block_id k) made = left_above _ _ (hit_self (block_id k)) in
       component_stands n b w ms p c ps given bs k made a.made a.names st st1 (component_call app τ (grow_components (suc n) app τ) ms p c ps given bs st) g own_k
-      (make_at a_block block_row a.state) (λ x u. right_occurs x (block_id k ∷ []) a.made u) gives1 (names_below _ _ wide a.names h.low)
+      (make_at a_block block_row z.state) (λ x u. right_occurs x (block_id k ∷ []) both (left_occurs x a.made z.made u)) gives1 (names_below _ _ wide a.names h.low)
 
   -- The root. It stands for the app's rendering.
   pub app_grows : (n : ℕ) (st : State) → InstanceGrown n 0 [] [] [] [] None mnothing nothing_passed st st (grow_components (suc n) app τ [] [] [] None mnothing st)

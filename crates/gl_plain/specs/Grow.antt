@@ -12,6 +12,7 @@ use Rattle.gl_meaning.specs.Render.{Entry, entries, values_listed, Block, block_
 use Rattle.gl_plain.specs.Ids.{a_ref, a_node, an_instance, a_block, a_modifier, Id, ref, block_id, instance_id}
 use Rattle.gl_plain.specs.State.{source_form, Names, Inst, MScope, mscope, MPassed, mnothing, mpassed, refs_of, with_names, Content, element_content, text_content, comment_content, content, instance_row, block_row, modifier_row, State, make, note_installed}
 use Rattle.gl_plain.specs.Binding.{BoundAll, BoundNames, made_row, bind_exprs, bind_pairs, bind_args, bind_params, Spot, Placed, place, first_value}
+use Rattle.gl_plain.specs.Tags.{bind_written}
 use Rattle.gl_plain.specs.MParts.{mwritten_parts, bind_taken, fixed_pairs}
 use Rattle.gl_plain.specs.Live.{AttrSpot, ModSpot, ItemSpot, item_names, Live, still, put_live, element_live, branch_live, listed, unlisted, let_live, component_live, yield_live, deep_live, Items, no_items, item_live, Lives, no_lives, live_and, have_node}
 
@@ -155,8 +156,9 @@ module _ (app : App) (components : GrowComponents) (yields : GrowYields) where
         (element_live n a.spots m.spots r.0, m.state)
     grow_stmt ms p (component_stmt c ps given bs) st =
         let a = bind_args app ms given st in
-        let k = a.state.next a_block in
-        components (into c ∷ p) (block_id k ∷ a.made) a.names (Some k) (mpassed k ps bs ms) (make a_block block_row a.state)
+        let z = bind_written app (mwritten_parts ms ps) a.state in
+        let k = z.state.next a_block in
+        components (into c ∷ p) (block_id k ∷ (a.made ++ z.made)) a.names (Some k) (mpassed k ps bs ms) (make a_block block_row z.state)
     grow_stmt ms p (if_stmt e unless b c) st =
         let x = place (bind_exprs app ms (expr e no_exprs) st) in
         if takes_first unless (first_value x.pairs)
