@@ -79,7 +79,7 @@ module _ (look : Id → Option Thing) where
       fits_is m b w ms p i (t.text_stmt z) (Live.still n) h = ap (λ b. b && true) (leaf_fits i (look (node n)))
       fits_is m b w ms p i (t.comment_stmt z) (Live.still n) h = ap (λ b. b && true) (leaf_fits i (look (node n)))
       fits_is m b w ms p i (t.put z) (Live.put_live n k) h = ap (λ b. b && true) (leaf_fits i (look (node n)))
-      fits_is m b w ms p i (t.element tag ps c) (Live.element_live n xs zs ls) h =
+      fits_is m b w ms p i (t.element tag ps c) (Live.element_live n made xs zs ls) h =
           join_fits (forest_of (drawn_attrs look i xs ++ drawn_places look i 0 zs)) _
           ∙ (ap (λ b. b && (fits (drawn_in app look ms i 0 c ls) && true)) (attrs_fit i xs (drawn_places look i 0 zs) ∙ places_fit i 0 zs) ∙ (and_true (fits (drawn_in app look ms i 0 c ls)) ∙ all_fit m b w ms p i 0 c ls h.3))
       fits_is m b w ms p i (t.if_stmt z unless c d) (Live.branch_live k true y ls) h =

@@ -11,13 +11,9 @@ use Rattle.gl_meaning.specs.App.{App}
 use Rattle.gl_meaning.specs.Scope.{Pair, Scope, scope, of_value}
 use Rattle.gl_meaning.specs.Eval.{Store, eval_value}
 use Rattle.gl_meaning.specs.Parts.{WrittenValue, WrittenModifier, spread_in, passed_parts, written_parts, attribute_in, attributes_in, distinct_names, taken_values, last_only, is_live, some_live, modifier_in, modifiers_in, taken_pairs, Written}
-use Rattle.gl_plain.specs.Ids.{a_ref, ref}
 use Rattle.gl_plain.specs.State.{names_by, MScope, mscope, MPassed, mnothing, mpassed, scope_by, passed_by, State}
-use Rattle.gl_plain.specs.Binding.{Bound, bind_value}
-use Rattle.gl_plain.specs.MParts.{mpassed_parts, mwritten_parts, written_by, value_by, modifier_by, bind_taken, fixed_pair, fixed_pairs}
+use Rattle.gl_plain.specs.MParts.{mpassed_parts, mwritten_parts, written_by, value_by, modifier_by}
 use Rattle.gl_plain.specs.Stands.{CellsIn, CellsPassed, ScopeBelow, PassedBelow, attrs_by, mods_by}
-use Rattle.gl_plain.proofs.Binding.{Binds, BindsAll}
-use Rattle.gl_plain.proofs.Bound.{cons_is, none_is, value_is}
 
 -- The machine's parts are the meaning's.
 
@@ -117,14 +113,6 @@ module _ (app : App) (b : ℕ) (ms : MScope) where
   NearWritten [] = Unit {0}
   NearWritten (w ∷ ws) = Near w.by × NearWritten ws
 
-  abbrev pub NearValues : List (WrittenValue MScope) → Type 0
-  NearValues [] = Unit {0}
-  NearValues (w ∷ ws) = Near w.by × NearValues ws
-
-  abbrev pub NearModifiers : List (WrittenModifier MScope) → Type 0
-  NearModifiers [] = Unit {0}
-  NearModifiers (w ∷ ws) = Near w.by × NearModifiers ws
-
   near_append : (xs ys : List (Written MScope)) → NearWritten xs → NearWritten ys → NearWritten (xs ++ ys)
   near_append [] ys h k = k
   near_append (x ∷ xs) ys h k = (h.0, near_append xs ys h.1 k)
@@ -140,65 +128,7 @@ module _ (app : App) (b : ℕ) (ms : MScope) where
   near_passed (mpassed j ps bs (mscope i a l w)) h k =
       near_spread (mpassed_parts w) (mscope i a l w) ps (near_passed w h.3 (λ ρ f c. (k ρ f c).1)) (h, k)
 
-  near_attribute : (s : MScope) (p : Part) → Near s → (ws : List (WrittenValue MScope)) → NearValues ws → NearValues (cons_option (attribute_in s p) ws)
-  near_attribute s (t.attribute n v) k ws h = (k, h)
-  near_attribute s (t.modifier n es ns) k ws h = h
-  near_attribute s t.spread k ws h = h
-
-  near_attributes : (ws : List (Written MScope)) → NearWritten ws → NearValues (attributes_in ws)
-  near_attributes [] h = tt
-  near_attributes (w ∷ ws) h = near_attribute w.by w.part h.0 (attributes_in ws) (near_attributes ws h.1)
-
-  near_modifier : (s : MScope) (p : Part) → Near s → (ws : List (WrittenModifier MScope)) → NearModifiers ws → NearModifiers (cons_option (modifier_in s p) ws)
-  near_modifier s (t.attribute n v) k ws h = h
-  near_modifier s (t.modifier n es ns) k ws h = (k, h)
-  near_modifier s t.spread k ws h = h
-
-  pub near_modifiers : (ws : List (Written MScope)) → NearWritten ws → NearModifiers (modifiers_in ws)
-  near_modifiers [] h = tt
-  near_modifiers (w ∷ ws) h = near_modifier w.by w.part h.0 (modifiers_in ws) (near_modifiers ws h.1)
-
-  near_filter : (test : WrittenValue MScope → Bool) (ws : List (WrittenValue MScope)) → NearValues ws → NearValues (filter test ws)
-  near_filter test [] h = tt
-  near_filter test (w ∷ ws) h = elim (test w) as (λ c. NearValues (cond c (w ∷ filter test ws) (filter test ws))) [ true ↦ (h.0, near_filter test ws h.1) | false ↦ near_filter test ws h.1 ]
-
-  near_last : (ws : List (WrittenValue MScope)) → NearValues ws → NearValues (last_only ws)
-  near_last [] h = tt
-  near_last (w ∷ []) h = h
-  near_last (w ∷ v ∷ ws) h = near_last (v ∷ ws) h.1
-
-  near_taken : (n : Text) (ws : List (WrittenValue MScope)) → NearValues ws → NearValues (taken_values n ws)
-  near_taken n ws h =
-      let group = filter (λ w. bytes_eq n w.name) ws in
-      let k : NearValues group = near_filter _ ws h in
-      elim (bytes_eq n (codes "class")) as (λ c. NearValues (if c then group else last_only group)) [ true ↦ k | false ↦ near_last group k ]
-
-  -- in the scope of another
-  near_is : (by : MScope) (st : State) (x : Bound) (E : Store → (ℕ → Pair) → Pair) → Near by → Binds app b by st x E → Binds app b ms st x E
-  near_is by st x E k h = record { moves = h.moves; gives = λ f ρ ob c. h.gives f ρ ob (k.1 ρ f c); low = h.low }
-
-  pub taken_are : (ws : List (WrittenValue MScope)) → NearValues ws → (st : State) → b ≤ st.next a_ref
-      → BindsAll app b ms st (bind_taken app ws st) (λ ρ f. map (λ w. eval_value app ρ (scope_by f w.by) w.value) ws)
-  taken_are [] h st le = none_is app b ms st
-  taken_are (w ∷ ws) h st le =
-      let x = bind_value app w.by w.value st in
-      let k = near_is w.by st x (λ ρ f. eval_value app ρ (scope_by f w.by) w.value) h.0 (value_is app b w.by h.0.0 w.value st le) in
-      let le1 : b ≤ x.state.next a_ref = (let j = k.moves.more (ref 0) in omega (arith, j, le)) in
-      cons_is app b ms st x (bind_taken app ws x.state) _ _ k (taken_are ws h.1 x.state le1)
-
 -- the parts of an element
 pub near_parts : (app : App) (b : ℕ) (ms : MScope) (ps : List Part) → ScopeBelow app b ms → NearWritten app b ms (mwritten_parts ms ps)
 near_parts app b (mscope i a l w) ps low =
     near_spread app b (mscope i a l w) (mpassed_parts w) (mscope i a l w) ps (near_passed app b (mscope i a l w) w low.3 (λ ρ f c. c.1)) (low, λ ρ f c. c)
-
-pub near_values : (app : App) (b : ℕ) (ms : MScope) (ps : List Part) (n : Text) → ScopeBelow app b ms → NearValues app b ms (taken_values n (attributes_in (mwritten_parts ms ps)))
-near_values app b ms ps n low = near_taken app b ms n (attributes_in (mwritten_parts ms ps)) (near_attributes app b ms (mwritten_parts ms ps) (near_parts app b ms ps low))
-
--- values of which none is live
-pub fixed_are : (app : App) (ρ : Store) (f : ℕ → Pair) (ws : List (WrittenValue MScope)) → some_live ws ≡ false → fixed_pairs ws ≡ map (λ w. eval_value app ρ (scope_by f w.by) w.value) ws
-fixed_are app ρ f [] e = refl
-fixed_are app ρ f (w ∷ ws) e = by w.value (fixed_are app ρ f ws) e where
-  by : (v : AttrValue) → (some_live ws ≡ false → fixed_pairs ws ≡ map (λ w. eval_value app ρ (scope_by f w.by) w.value) ws) → (is_live v || some_live ws) ≡ false
-      → fixed_pair v ∷ fixed_pairs ws ≡ eval_value app ρ (scope_by f w.by) v ∷ map (λ w. eval_value app ρ (scope_by f w.by) w.value) ws
-  by (t.fixed z) g h = ap (λ zs. of_value (text z) ∷ zs) (g h)
-  by (t.live z) g h = absurd (true≢false h)

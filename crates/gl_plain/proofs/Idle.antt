@@ -79,11 +79,11 @@ module _ (app : App) (σ τ : Store) (st : State) where
     renew_idle m b v w ms p (t.text_stmt z) (Live.still n) o h r f = refl
     renew_idle m b v w ms p (t.comment_stmt z) (Live.still n) o h r f = refl
     renew_idle m b v w ms p (t.put e) (Live.put_live n z) o h r f = ap (λ c. (Live.put_live n z, if c then put_thing (node n) (content (text_content (text_of (first_value (spot_pairs st z.ref))))) (evaluate z.ref st) else st)) f
-    renew_idle m b v w ms p (t.element tag ps c) (Live.element_live n xs zs ls) o h r f =
+    renew_idle m b v w ms p (t.element tag ps c) (Live.element_live n made xs zs ls) o h r f =
         let oa : Owned st (λ q. times_in q ls) = record { once = λ q. let i = o.once q in omega (arith, i); old = λ q le. let i = o.old q le in omega (arith, i) } in
-        ap (λ s. let y = renew_body app τ m ms p 0 c ls s in (Live.element_live n xs zs y.0, renew_mods zs y.1)) (attrs_idle n xs st f.0)
-        ∙ (ap (λ (y : Lives × State). (Live.element_live n xs zs y.0, renew_mods zs y.1)) (body_idle m c ls b v w ms p 0 oa h.3 r f.2)
-        ∙ ap (λ s. (Live.element_live n xs zs ls, s)) (mods_idle zs st f.1))
+        ap (λ s. let y = renew_body app τ m ms p 0 c ls s in (Live.element_live n made xs zs y.0, renew_mods zs y.1)) (attrs_idle n xs st f.0)
+        ∙ (ap (λ (y : Lives × State). (Live.element_live n made xs zs y.0, renew_mods zs y.1)) (body_idle m c ls b v w ms p 0 oa h.3 r f.2)
+        ∙ ap (λ s. (Live.element_live n made xs zs ls, s)) (mods_idle zs st f.1))
     renew_idle m b v w ms p (t.if_stmt e unless c d) (Live.branch_live z true k ls) o h r f =
         let oa : Owned st (λ q. times_in q ls) = record { once = λ q. let i = o.once q in omega (arith, i); old = λ q le. let i = o.old q le in omega (arith, i) } in
         let cr : Id → ℕ = λ q. times_in q ls + times_comment q k in

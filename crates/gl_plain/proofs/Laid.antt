@@ -33,10 +33,10 @@ module _ (app : App) (look look' : Id → Option Thing) (σ τ τ' : Store) wher
     laid m b s ms p (t.comment_stmt z) (Live.still n) same cs h = same (node n) (hit_self (node n)) ∙ h
     laid m b s ms p (t.put e) (Live.put_live n z) same cs h =
         (same (node n) (left_above _ _ (hit_self (node n))) ∙ h.0, spot_stays app look look' ms z _ _ (λ q w. same q (right_above _ _ w)) h.1)
-    laid m b s ms p (t.element tag ps c) (Live.element_live n xs zs ls) same cs h = (
+    laid m b s ms p (t.element tag ps c) (Live.element_live n made xs zs ls) same cs h = (
       same (node n) (left_above _ _ (left_above _ _ (hit_self (node n)))) ∙ h.0,
-      attrs_stay app look look' σ τ s ms (attrs_by ps) _ xs (λ q w. same q (left_above _ _ (right_above _ _ w))) h.1,
-      mods_stay app look look' σ τ n s ms (mods_by ps) 0 _ zs (λ q w. same q (right_above _ _ (right_above _ _ w))) h.2,
+      attrs_stay app look look' σ τ made s ms (attrs_by ps) _ xs (λ q w. same q (left_above _ _ (right_above _ _ (left_above _ _ w)))) (λ q w. same q (left_above _ _ (right_above _ _ (right_above _ _ w)))) h.1,
+      mods_stay app look look' σ τ made n s ms (mods_by ps) 0 _ zs (λ q w. same q (left_above _ _ (right_above _ _ (left_above _ _ w)))) (λ q w. same q (right_above _ _ (right_above _ _ w))) h.2,
       laid_in m b s ms p 0 c ls (λ q w. same q (right_above _ _ (left_above _ _ w))) cs h.3,
     )
     laid m b s ms p (t.if_stmt e u c d) (Live.branch_live z true k ls) same cs h = (

@@ -1,6 +1,6 @@
 -- New scopes and new positions.
 use Rattle.gl_value.specs.Value.{undefined}
-use Rattle.std.proofs.Common.{◌≡◌, ℕ, max, ◌≤◌, List, [], ◌∷◌, ◌++◌, map, Option, Some, refl, sym, ◌∙◌, ap, subst, arith}
+use Rattle.std.proofs.Common.{◌≡◌, ℕ, zero, suc, max, ◌<◌, ◌≤◌, List, [], ◌∷◌, ◌++◌, map, Option, Some, refl, sym, ◌∙◌, ap, subst, arith}
 use Rattle.gl_base.specs.Texts.{Text}
 use Rattle.gl_ast.specs.Template.{Exprs}
 use Rattle.gl_meaning.specs.App.{App}
@@ -9,10 +9,10 @@ use Rattle.gl_meaning.specs.Eval.{Store, eval_all}
 use Rattle.gl_plain.specs.Ids.{a_ref, Id, ref, occurs, hit}
 use Rattle.gl_plain.specs.State.{any_of, all_form, Row, Names, names_by, Inst, MScope, mscope, MPassed, passed_by, row, Thing, State, pair_of, make, note_evaluated, named_as, refs_of, constant_form}
 use Rattle.gl_plain.specs.Binding.{BoundAll, bind_exprs, bind_params, Placed, place, new_ref}
-use Rattle.gl_plain.specs.Stands.{CellsIn, top, NamesBelow, From, SpotThing, Spotted, exprs_by}
+use Rattle.gl_plain.specs.Stands.{CellsIn, Gives, SpottedIn, top, NamesBelow, From, SpotThing, Spotted, exprs_by}
 use Rattle.gl_plain.specs.InScope.{InScope}
-use Rattle.gl_plain.proofs.Moves.{Moves, make_moves, make_at, recount, hit_self}
-use Rattle.gl_plain.proofs.Pairs.{pairs_agree, scope_same, cells_same, names_append, names_by_append, names_below, scope_below, obeys_pairs, right_occurs}
+use Rattle.gl_plain.proofs.Moves.{Moves, is_old, owned_after, occurs_append, make_moves, make_at, recount, hit_self}
+use Rattle.gl_plain.proofs.Pairs.{pairs_agree, scope_same, cells_same, names_append, names_by_append, names_below, scope_below, obeys_pairs, obeys_less, left_occurs, right_occurs}
 use Rattle.gl_plain.proofs.Binding.{BindsAll, BindsNames, obeys_left, obeys_right, both_made, top_append}
 use Rattle.gl_plain.proofs.Bound.{made_below, bound_are, params_are}
 
@@ -103,6 +103,58 @@ place_is app τ b ms st x E ps h c e =
       };
       shows = shows;
     }
+
+-- Where it reads what was made before it, too.
+
+pub record PlacedIn (app : App) (ms : MScope) (more : List Id) (st : State) (x : Placed) (E : Store → (ℕ → Pair) → List Pair) (ps : List Pair) : Type 0 where
+  pub moves : Moves st x.state (λ q. 0) (λ q. occurs q x.spot.made)
+  pub spotted : SpottedIn app x.state.look ms more x.spot E ps
+  pub shows : x.pairs ≡ ps
+
+-- what was made before
+abbrev pub Older : State → List Id → Type 0
+Older st made = (q : Id) → 0 < occurs q made → q.num < st.next q.kind
+
+pub older_still : (st st' : State) (made : List Id) (c : Id → ℕ) → Moves st st' (λ q. 0) c → Older st made → Older st' made
+older_still st st' made c m o q w = let i = o q w in let j = m.more q in omega (arith, i, j)
+
+pub older_stays : (st st' : State) (made : List Id) (c : Id → ℕ) → Moves st st' (λ q. 0) c → Older st made → (q : Id) → 0 < occurs q made → st'.look q ≡ st.look q
+older_stays st st' made c m o q w = m.kept q (o q w) refl
+
+pub place_in : (app : App) (τ : Store) (ms : MScope) (more : List Id) (st : State) (x : BoundAll) (E : Store → (ℕ → Pair) → List Pair) (ps : List Pair)
+    → Moves st x.state (λ q. 0) (λ q. occurs q x.made) → Older x.state more → Gives app x.state.look (more ++ x.made) ms (λ f. map f x.ids) E
+    → CellsIn app τ (pair_of x.state.look) ms → E τ (pair_of x.state.look) ≡ ps → PlacedIn app ms more st (place x) E ps
+place_in app τ ms more st x E ps m older gives c e =
+    let r = x.state.next a_ref in
+    let vs = map (pair_of x.state.look) x.ids in
+    let y : Row = record { form = all_form x.ids; last = any_of (sources_of vs) } in
+    let st' = note_evaluated r (make a_ref (row y) x.state) in
+    let n = all_moves x.ids vs x.state in
+    let made = x.made ++ ref r ∷ [] in
+    let shows : vs ≡ ps = gives (pair_of x.state.look) τ (obeys_pairs x.state.look (more ++ x.made)) c ∙ e in
+    let own = is_old x.state (λ q. occurs q x.made) (owned_after st x.state (λ q. 0) (λ q. occurs q x.made) m) in
+    record {
+      moves = both_made st x.state st' x.made (ref r ∷ []) m n;
+      spotted = record {
+        own = right_occurs (ref r) x.made (ref r ∷ []) (let k = hit_self (ref r) in omega (arith, k));
+        is = subst (SpotThing app st'.look ms (more ++ made) E ps) (sym (make_at a_ref (row y) x.state)) (
+          ap (λ us. Some (row (record { form = all_form x.ids; last = any_of (sources_of us) }))) shows,
+          λ f ρ ob d. gives f ρ (obeys_less x.state.look st'.look (more ++ x.made) (more ++ made) f (λ q w. within n own q w (occurs (ref q) more) refl) ob) d,
+        );
+      };
+      shows = shows;
+    }
+  where
+    within : {st2 : State} → Moves x.state st2 (λ q. 0) (λ q. occurs q (ref (x.state.next a_ref) ∷ [])) → ((q : Id) → 0 < occurs q x.made → q.num < x.state.next q.kind)
+        → (q : ℕ) → 0 < occurs (ref q) (more ++ x.made) → (i : ℕ) → occurs (ref q) more ≡ i
+        → (0 < occurs (ref q) (more ++ (x.made ++ ref (x.state.next a_ref) ∷ []))) × (st2.look (ref q) ≡ x.state.look (ref q))
+    within n own q w zero e =
+        let a = occurs_append (ref q) more x.made in
+        let u : 0 < occurs (ref q) x.made = omega (arith, a, e, w) in
+        (right_occurs (ref q) more (x.made ++ ref (x.state.next a_ref) ∷ []) (left_occurs (ref q) x.made (ref (x.state.next a_ref) ∷ []) u), n.kept (ref q) (own (ref q) u) refl)
+    within n own q w (suc i) e =
+        let u : 0 < occurs (ref q) more = omega (arith, e) in
+        (left_occurs (ref q) more (x.made ++ ref (x.state.next a_ref) ∷ []) u, n.kept (ref q) (older (ref q) u) refl)
 
 -- over some expressions
 pub place_exprs : (app : App) (τ : Store) (b : ℕ) (ms : MScope) (w : Scope) (es : Exprs) (st : State) → b ≤ st.next a_ref → InScope app τ b st.look ms w

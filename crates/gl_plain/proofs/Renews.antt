@@ -357,19 +357,19 @@ module _ (app : App) (σ τ : Store) where
       (b : ℕ) (v w : Scope) (ms : MScope) (p : Path) (i : ℕ) (st : State) → Owned st (λ q. times_in q ls) → From b (λ q. times_in q ls)
       → StandIn app σ τ st.look m b v ms p i c ls → Ready app σ τ b st ms v w → RenewedIn app σ τ m b w ms p i c st ls (renew_body app τ m ms p i c ls st)
 
-  module _ (element_renews : (m b : ℕ) (v w : Scope) (ms : MScope) (p : Path) (tag : Text) (ps : List Part) (c : t.Body) (n : ℕ) (xs : List Live.AttrSpot) (zs : List Live.ModSpot) (ls : Lives) (st : State)
-      → Owned st (λ q. times q (Live.element_live n xs zs ls)) → From b (λ q. times q (Live.element_live n xs zs ls))
-      → Stands app σ τ st.look m b v ms p (t.element tag ps c) (Live.element_live n xs zs ls) → Ready app σ τ b st ms v w
+  module _ (element_renews : (m b : ℕ) (v w : Scope) (ms : MScope) (p : Path) (tag : Text) (ps : List Part) (c : t.Body) (n : ℕ) (made : List Id) (xs : List Live.AttrSpot) (zs : List Live.ModSpot) (ls : Lives) (st : State)
+      → Owned st (λ q. times q (Live.element_live n made xs zs ls)) → From b (λ q. times q (Live.element_live n made xs zs ls))
+      → Stands app σ τ st.look m b v ms p (t.element tag ps c) (Live.element_live n made xs zs ls) → Ready app σ τ b st ms v w
       → BodyRenews m c ls
-      → Renewed app σ τ m b w ms p (t.element tag ps c) st (Live.element_live n xs zs ls) (renew app τ m ms p (t.element tag ps c) (Live.element_live n xs zs ls) st)) where
+      → Renewed app σ τ m b w ms p (t.element tag ps c) st (Live.element_live n made xs zs ls) (renew app τ m ms p (t.element tag ps c) (Live.element_live n made xs zs ls) st)) where
     mutual
       pub renew_is : (m b : ℕ) (v w : Scope) (ms : MScope) (p : Path) (x : t.Stmt) (l : Live) (st : State) → Owned st (λ q. times q l) → From b (λ q. times q l)
           → Stands app σ τ st.look m b v ms p x l → Ready app σ τ b st ms v w → Renewed app σ τ m b w ms p x st l (renew app τ m ms p x l st)
       renew_is m b v w ms p (t.text_stmt z) (Live.still n) st o f h r = record { moves = same_moves st (λ q. times q (Live.still n)) o; stands = h; nodes = refl; keeps = refl }
       renew_is m b v w ms p (t.comment_stmt z) (Live.still n) st o f h r = record { moves = same_moves st (λ q. times q (Live.still n)) o; stands = h; nodes = refl; keeps = refl }
       renew_is m b v w ms p (t.put e) (Live.put_live n z) st o f h r = put_by m b v w ms p e n z st o r h (is_stale st z.ref) refl
-      renew_is m b v w ms p (t.element tag ps c) (Live.element_live n xs zs ls) st o f h r =
-          element_renews m b v w ms p tag ps c n xs zs ls st o f h r (body_renews m c ls)
+      renew_is m b v w ms p (t.element tag ps c) (Live.element_live n made xs zs ls) st o f h r =
+          element_renews m b v w ms p tag ps c n made xs zs ls st o f h r (body_renews m c ls)
       renew_is m b v w ms p (t.if_stmt e unless c d) (Live.branch_live z true k ls) st o f h r =
           let ca : Id → ℕ = λ q. occurs q z.made in
           let cl : Id → ℕ = λ q. times_in q ls in

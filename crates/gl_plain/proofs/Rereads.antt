@@ -15,7 +15,7 @@ use Rattle.gl_plain.specs.Ids.{Id, id_eq, ref, occurs}
 use Rattle.gl_plain.specs.State.{any_of, all_form, Row, MScope, writer, row, Thing, State, thing_pair, pair_of, put_thing, note_evaluated, dropped}
 use Rattle.gl_plain.specs.Binding.{Spot}
 use Rattle.gl_plain.specs.Renew.{spot_ids, spot_pairs, last_of, is_stale, evaluate, reread}
-use Rattle.gl_plain.specs.Stands.{below, CellsIn, SpotThing, Spotted, Owned}
+use Rattle.gl_plain.specs.Stands.{SpottedIn, below, CellsIn, SpotThing, Spotted, Owned}
 use Rattle.gl_plain.proofs.Moves.{Moves, id_case, IdCase, hit_other, hit_self}
 use Rattle.gl_plain.proofs.Pairs.{obeys_pairs}
 
@@ -134,18 +134,18 @@ drop_moves st count = record {
 -- Positions
 
 -- the pairs that are read now, and those of before where nothing was touched
-pub stale_pairs : (app : App) (τ : Store) (ms : MScope) (z : Spot) (E : Store → (ℕ → Pair) → List Pair) (old new : List Pair) (st : State)
-    → Spotted app st.look ms z E old → CellsIn app τ (pair_of st.look) ms → E τ (pair_of st.look) ≡ new → spot_pairs st z.ref ≡ new
-stale_pairs app τ ms z E old new st h c e = h.is.1 (pair_of st.look) τ (obeys_pairs st.look z.made) c ∙ e
+pub stale_in : (app : App) (τ : Store) (ms : MScope) (more : List Id) (z : Spot) (E : Store → (ℕ → Pair) → List Pair) (old new : List Pair) (st : State)
+    → SpottedIn app st.look ms more z E old → CellsIn app τ (pair_of st.look) ms → E τ (pair_of st.look) ≡ new → spot_pairs st z.ref ≡ new
+stale_in app τ ms more z E old new st h c e = h.is.1 (pair_of st.look) τ (obeys_pairs st.look (more ++ z.made)) c ∙ e
 
-pub cold_pairs : (app : App) (ms : MScope) (z : Spot) (E : Store → (ℕ → Pair) → List Pair) (old new : List Pair) (st : State)
-    → Spotted app st.look ms z E old → KeepsAll (Cold st) old new → is_stale st z.ref ≡ false → old ≡ new
-cold_pairs app ms z E old new st h k e = keeps_list (Cold st) k (none_touched st (sources_of old) (sym (ap (λ t. last_of t st.touched) h.is.0) ∙ e))
+pub cold_in : (app : App) (ms : MScope) (more : List Id) (z : Spot) (E : Store → (ℕ → Pair) → List Pair) (old new : List Pair) (st : State)
+    → SpottedIn app st.look ms more z E old → KeepsAll (Cold st) old new → is_stale st z.ref ≡ false → old ≡ new
+cold_in app ms more z E old new st h k e = keeps_list (Cold st) k (none_touched st (sources_of old) (sym (ap (λ t. last_of t st.touched) h.is.0) ∙ e))
 
 -- after an evaluation
-pub evaluated_spot : (app : App) (ms : MScope) (z : Spot) (E : Store → (ℕ → Pair) → List Pair) (old new : List Pair) (st : State)
-    → Spotted app st.look ms z E old → spot_pairs st z.ref ≡ new → Spotted app (evaluate z.ref st).look ms z E new
-evaluated_spot app ms z E old new st h e =
+pub evaluated_in : (app : App) (ms : MScope) (more : List Id) (z : Spot) (E : Store → (ℕ → Pair) → List Pair) (old new : List Pair) (st : State)
+    → SpottedIn app st.look ms more z E old → spot_pairs st z.ref ≡ new → SpottedIn app (evaluate z.ref st).look ms more z E new
+evaluated_in app ms more z E old new st h e =
     let r = z.ref in
     let ids = spot_ids (st.look (ref r)) in
     let y : Row = record { form = all_form ids; last = any_of (sources_of (spot_pairs st r)) } in
@@ -153,7 +153,7 @@ evaluated_spot app ms z E old new st h e =
     let at : st'.look (ref r) ≡ Some (row y) = ap (λ b. if b then Some (row y) else st.look (ref r)) (id_same (ref r)) in
     record {
       own = h.own;
-      is = subst (SpotThing app st'.look ms z.made E new) (sym at) (
+      is = subst (SpotThing app st'.look ms (more ++ z.made) E new) (sym at) (
         ap (λ us. Some (row (record { form = all_form ids; last = any_of (sources_of us) }))) e,
         λ f ρ ob c. h.is.1 f ρ (λ q w. ob q w ∙ same q (id_case (ref q) (ref r)) (below q f)) c,
       );
@@ -171,9 +171,26 @@ evaluated_spot app ms z E old new st h e =
         ap (λ b. thing_pair g (if b then Some (row (record { form = all_form (spot_ids (st.look (ref z.ref))); last = any_of (sources_of (spot_pairs st z.ref)) })) else st.look (ref q))) e.0
         ∙ (sym (ap (thing_pair g) h.is.0) ∙ ap (λ i. thing_pair g (st.look i)) (sym e.1))
 
+pub cold_spot_in : (app : App) (ms : MScope) (more : List Id) (z : Spot) (E : Store → (ℕ → Pair) → List Pair) (old new : List Pair) (look : Id → Option Thing)
+    → SpottedIn app look ms more z E old → old ≡ new → SpottedIn app look ms more z E new
+cold_spot_in app ms more z E old new look h e = subst (SpottedIn app look ms more z E) e h
+
+-- so where a position reads none but its own
+pub stale_pairs : (app : App) (τ : Store) (ms : MScope) (z : Spot) (E : Store → (ℕ → Pair) → List Pair) (old new : List Pair) (st : State)
+    → Spotted app st.look ms z E old → CellsIn app τ (pair_of st.look) ms → E τ (pair_of st.look) ≡ new → spot_pairs st z.ref ≡ new
+stale_pairs app τ ms z = stale_in app τ ms [] z
+
+pub cold_pairs : (app : App) (ms : MScope) (z : Spot) (E : Store → (ℕ → Pair) → List Pair) (old new : List Pair) (st : State)
+    → Spotted app st.look ms z E old → KeepsAll (Cold st) old new → is_stale st z.ref ≡ false → old ≡ new
+cold_pairs app ms z = cold_in app ms [] z
+
+pub evaluated_spot : (app : App) (ms : MScope) (z : Spot) (E : Store → (ℕ → Pair) → List Pair) (old new : List Pair) (st : State)
+    → Spotted app st.look ms z E old → spot_pairs st z.ref ≡ new → Spotted app (evaluate z.ref st).look ms z E new
+evaluated_spot app ms z = evaluated_in app ms [] z
+
 pub cold_spot : (app : App) (ms : MScope) (z : Spot) (E : Store → (ℕ → Pair) → List Pair) (old new : List Pair) (look : Id → Option Thing)
     → Spotted app look ms z E old → old ≡ new → Spotted app look ms z E new
-cold_spot app ms z E old new look h e = subst (Spotted app look ms z E) e h
+cold_spot app ms z = cold_spot_in app ms [] z
 
 -- a position that is read again where it is stale
 pub record Reread (app : App) (ms : MScope) (z : Spot) (E : Store → (ℕ → Pair) → List Pair) (new : List Pair) (st st' : State) : Type 0 where
@@ -181,9 +198,13 @@ pub record Reread (app : App) (ms : MScope) (z : Spot) (E : Store → (ℕ → P
   pub spotted : Spotted app st'.look ms z E new
   pub shows : spot_pairs st' z.ref ≡ new
 
+pub spot_shows_in : (app : App) (τ : Store) (ms : MScope) (more : List Id) (z : Spot) (E : Store → (ℕ → Pair) → List Pair) (new : List Pair) (look : Id → Option Thing)
+    → SpottedIn app look ms more z E new → CellsIn app τ (pair_of look) ms → E τ (pair_of look) ≡ new → map (pair_of look) (spot_ids (look (ref z.ref))) ≡ new
+spot_shows_in app τ ms more z E new look h c e = h.is.1 (pair_of look) τ (obeys_pairs look (more ++ z.made)) c ∙ e
+
 pub spot_shows : (app : App) (τ : Store) (ms : MScope) (z : Spot) (E : Store → (ℕ → Pair) → List Pair) (new : List Pair) (look : Id → Option Thing)
     → Spotted app look ms z E new → CellsIn app τ (pair_of look) ms → E τ (pair_of look) ≡ new → map (pair_of look) (spot_ids (look (ref z.ref))) ≡ new
-spot_shows app τ ms z E new look h c e = h.is.1 (pair_of look) τ (obeys_pairs look z.made) c ∙ e
+spot_shows app τ ms z = spot_shows_in app τ ms [] z
 
 pub reread_moves : (st : State) (z : Spot) → Owned st (λ q. occurs q z.made) → 0 < occurs (ref z.ref) z.made → Moves st (reread z.ref st) (λ q. occurs q z.made) (λ q. occurs q z.made)
 reread_moves st z o w = by (is_stale st z.ref) where

@@ -23,7 +23,7 @@ use Rattle.gl_plain.specs.Renew.{where_block}
 use Rattle.gl_plain.specs.Stands.{Spotted, exprs_by, one_expr, attrs_by, mods_by, head_of, tail_of, pairs_for, modifier_pairs, WhereValues, WhereBlock, AttrsStand, ModsStand, CommentStands, Stands, StandIn, ItemsStand, BlockStands, ListStands, Owned}
 use Rattle.gl_plain.specs.InScope.{InScope}
 use Rattle.gl_plain.proofs.Moves.{left_owned, right_owned}
-use Rattle.gl_plain.proofs.Rereads.{Cold, spot_shows}
+use Rattle.gl_plain.proofs.Rereads.{Cold, spot_shows, spot_shows_in}
 use Rattle.gl_plain.proofs.Renewing.{Ready, let_ready, component_ready}
 use Rattle.gl_plain.proofs.Renews.{yield_scopes}
 use Rattle.gl_plain.proofs.Syncs.{item_ready}
@@ -129,41 +129,41 @@ unfolding made_modifier
 same_modifier q x y a c n m e f g = ap₂ (λ (h : NamedPairs → Modifier) z. h z) (ap₂ (made_modifier q) e f) g
 
 module _ (app : App) (τ : Store) (b : ℕ) (st : State) (ms : MScope) (w : Scope) (s : InScope app τ b st.look ms w) where
-  attrs_show : (p : Path) (ps : List Part) (ns : List Text) (xs : List AttrSpot) → AttrsStand app τ τ st.look w ms (attrs_by ps) ns xs
+  attrs_show : (made : List Id) (p : Path) (ps : List Part) (ns : List Text) (xs : List AttrSpot) → AttrsStand app τ τ st.look made w ms (attrs_by ps) ns xs
       → drawn_attrs st.look p xs ≡ map (λ n. position (attribute_at n ∷ p) (taken_pairs app τ (attrs_by ps w) n)) ns
-  attrs_show p ps [] [] h = refl
-  attrs_show p ps (n ∷ ns) (a ∷ xs) h =
+  attrs_show made p ps [] [] h = refl
+  attrs_show made p ps (n ∷ ns) (a ∷ xs) h =
       ap₂ (λ x y. x ∷ y)
-      (ap₂ (λ k vs. position (attribute_at k ∷ p) vs) h.0 (spot_shows app τ ms a.spot _ (taken_pairs app τ (attrs_by ps w) n) st.look h.1 s.cells (ap (λ z. taken_pairs app τ (attrs_by ps z) n) s.is)))
-      (attrs_show p ps ns xs h.2)
-  attrs_show p ps [] (a ∷ xs) h = absurd h
-  attrs_show p ps (n ∷ ns) [] h = absurd h
+      (ap₂ (λ k vs. position (attribute_at k ∷ p) vs) h.0 (spot_shows_in app τ ms made a.spot _ (taken_pairs app τ (attrs_by ps w) n) st.look h.1 s.cells (ap (λ z. taken_pairs app τ (attrs_by ps z) n) s.is)))
+      (attrs_show made p ps ns xs h.2)
+  attrs_show made p ps [] (a ∷ xs) h = absurd h
+  attrs_show made p ps (n ∷ ns) [] h = absurd h
 
-  mod_pairs : (n : ℕ) (ws : Scope → List (WrittenModifier Scope)) (i : ℕ) (d : WrittenModifier Scope) (ds : List (WrittenModifier Scope)) (z : ModSpot) (zs : List ModSpot) → ws w ≡ d ∷ ds
-      → ModsStand app τ τ st.look n w ms ws i (d ∷ ds) (z ∷ zs) → pairs_at st.look z.spot ≡ modifier_pairs app τ d
-  mod_pairs n ws i d ds z zs e h =
-      spot_shows app τ ms z.spot _ (modifier_pairs app τ d) st.look h.3 s.cells (ap (λ y. pairs_for app τ (head_of (ws y))) s.is ∙ ap (λ y. pairs_for app τ (head_of y)) e)
+  mod_pairs : (made : List Id) (n : ℕ) (ws : Scope → List (WrittenModifier Scope)) (i : ℕ) (d : WrittenModifier Scope) (ds : List (WrittenModifier Scope)) (z : ModSpot) (zs : List ModSpot) → ws w ≡ d ∷ ds
+      → ModsStand app τ τ st.look made n w ms ws i (d ∷ ds) (z ∷ zs) → pairs_at st.look z.spot ≡ modifier_pairs app τ d
+  mod_pairs made n ws i d ds z zs e h =
+      spot_shows_in app τ ms made z.spot _ (modifier_pairs app τ d) st.look h.3 s.cells (ap (λ y. pairs_for app τ (head_of (ws y))) s.is ∙ ap (λ y. pairs_for app τ (head_of y)) e)
 
-  mods_show : (p : Path) (n : ℕ) (ws : Scope → List (WrittenModifier Scope)) (i : ℕ) (ds : List (WrittenModifier Scope)) (zs : List ModSpot) → ws w ≡ ds → ModsStand app τ τ st.look n w ms ws i ds zs
+  mods_show : (made : List Id) (p : Path) (n : ℕ) (ws : Scope → List (WrittenModifier Scope)) (i : ℕ) (ds : List (WrittenModifier Scope)) (zs : List ModSpot) → ws w ≡ ds → ModsStand app τ τ st.look made n w ms ws i ds zs
       → drawn_modifiers st.look p i zs ≡ modifiers_of app τ p i ds
-  mods_show p n ws i [] [] e h = refl
-  mods_show p n ws i (d ∷ ds) (z ∷ zs) e h =
+  mods_show made p n ws i [] [] e h = refl
+  mods_show made p n ws i (d ∷ ds) (z ∷ zs) e h =
       let m = modifier_of app τ p i d in
-      let ps = mod_pairs n ws i d ds z zs e h in
+      let ps = mod_pairs made n ws i d ds z zs e h in
       ap₂ (λ x y. x ∷ y)
       (same_modifier (modifier_at i ∷ p) _ d.name _ m.args _ m.names (ap modifier_name h.0) (ap₂ pairs_until h.1 ps ∙ pairs_first m.args (map (λ y. y.1) m.names))
       (ap₂ zipped h.2 (ap₂ pairs_after h.1 ps ∙ pairs_rest m.args (map (λ y. y.1) m.names)) ∙ zipped_names m.names))
-      (mods_show p n (λ s'. tail_of (ws s')) (suc i) ds zs (ap tail_of e) h.4)
-  mods_show p n ws i [] (z ∷ zs) e h = absurd h
-  mods_show p n ws i (d ∷ ds) [] e h = absurd h
+      (mods_show made p n (λ s'. tail_of (ws s')) (suc i) ds zs (ap tail_of e) h.4)
+  mods_show made p n ws i [] (z ∷ zs) e h = absurd h
+  mods_show made p n ws i (d ∷ ds) [] e h = absurd h
 
-  places_show : (p : Path) (n : ℕ) (ws : Scope → List (WrittenModifier Scope)) (i : ℕ) (ds : List (WrittenModifier Scope)) (zs : List ModSpot) → ws w ≡ ds → ModsStand app τ τ st.look n w ms ws i ds zs
+  places_show : (made : List Id) (p : Path) (n : ℕ) (ws : Scope → List (WrittenModifier Scope)) (i : ℕ) (ds : List (WrittenModifier Scope)) (zs : List ModSpot) → ws w ≡ ds → ModsStand app τ τ st.look made n w ms ws i ds zs
       → drawn_places st.look p i zs ≡ r.modifier_positions (modifiers_of app τ p i ds)
-  places_show p n ws i [] [] e h = refl
-  places_show p n ws i (d ∷ ds) (z ∷ zs) e h =
-      ap₂ (λ x y. x ∷ y) (ap (position (modifier_at i ∷ p)) (mod_pairs n ws i d ds z zs e h)) (places_show p n (λ s'. tail_of (ws s')) (suc i) ds zs (ap tail_of e) h.4)
-  places_show p n ws i [] (z ∷ zs) e h = absurd h
-  places_show p n ws i (d ∷ ds) [] e h = absurd h
+  places_show made p n ws i [] [] e h = refl
+  places_show made p n ws i (d ∷ ds) (z ∷ zs) e h =
+      ap₂ (λ x y. x ∷ y) (ap (position (modifier_at i ∷ p)) (mod_pairs made n ws i d ds z zs e h)) (places_show made p n (λ s'. tail_of (ws s')) (suc i) ds zs (ap tail_of e) h.4)
+  places_show made p n ws i [] (z ∷ zs) e h = absurd h
+  places_show made p n ws i (d ∷ ds) [] e h = absurd h
 
   one_shows : (z : Spot) (es : Exprs) → Spotted app st.look ms z (exprs_by app ms es) (eval_all app τ w es) → pairs_at st.look z ≡ eval_all app τ w es
   one_shows z es h = spot_shows app τ ms z (exprs_by app ms es) (eval_all app τ w es) st.look h s.cells (ap (λ y. eval_all app τ y es) s.is)
@@ -253,12 +253,12 @@ module _ (app : App) (τ : Store) (st : State) where
       is = ap₂ (λ vs y. piece (position p vs) (single (leaf_piece p y))) (one_shows app τ b st ms w s.scope k (one_expr z) h.1) h.0;
       there = ap (λ y. r.is_node (leaf_piece p y) || false) h.0;
     }
-    shows m b w ms u p (t.element tag ps c) (Live.element_live n xs zs ls) e o h s =
+    shows m b w ms u p (t.element tag ps c) (Live.element_live n made xs zs ls) e o h s =
         let oa : Owned st (λ q. times_in q ls) = record { once = λ q. let i = o.once q in omega (arith, i); old = λ q le. let i = o.old q le in omega (arith, i) } in
         let k = shows_in m b w ms u p 0 c ls e oa h.3 s in
-        let pairs = attrs_show app τ b st ms w s.scope p ps _ xs h.1 in
-        let mods = mods_show app τ b st ms w s.scope p n (mods_by ps) 0 (mods_by ps w) zs refl h.2 in
-        let places = places_show app τ b st ms w s.scope p n (mods_by ps) 0 (mods_by ps w) zs refl h.2 in
+        let pairs = attrs_show app τ b st ms w s.scope made p ps _ xs h.1 in
+        let mods = mods_show app τ b st ms w s.scope made p n (mods_by ps) 0 (mods_by ps w) zs refl h.2 in
+        let places = places_show app τ b st ms w s.scope made p n (mods_by ps) 0 (mods_by ps w) zs refl h.2 in
         record {
           is =
               ap₂ (λ x y. join (forest_of x) (single y)) (ap₂ (λ x y. x ++ y) pairs places)

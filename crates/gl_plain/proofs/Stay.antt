@@ -1,5 +1,5 @@
 -- What stands, stands while the things that are its own stay.
-use Rattle.std.proofs.Common.{◌≡◌, ℕ, zero, suc, ◌+◌, ◌<◌, true, false, List, [], ◌∷◌, Option, Some, None, sym, ◌∙◌, subst, arith}
+use Rattle.std.proofs.Common.{◌≡◌, ℕ, zero, suc, ◌+◌, ◌<◌, true, false, List, [], ◌∷◌, Option, Some, None, refl, sym, ◌∙◌, subst, arith, ◌++◌}
 use Rattle.gl_base.specs.Texts.{Text}
 use Rattle.gl_value.specs.Value.{Values, no_values, value}
 use Rattle.gl_ast.specs.Template as t
@@ -14,8 +14,8 @@ use Rattle.gl_plain.specs.State.{MScope, Thing, mslots, passed_in, Inst}
 use Rattle.gl_plain.specs.Binding.{Spot}
 use Rattle.gl_plain.specs.Live
 use Rattle.gl_plain.specs.Live.{Live, Lives, Items, AttrSpot, ModSpot, ItemSpot, item_made, times, times_in, times_items, times_attrs, times_mods, times_comment}
-use Rattle.gl_plain.specs.Stands.{Gives, Spotted, SpotThing, AttrsStand, ModsStand, CommentStands, CellsStand, ItemStands, WhereValues, WhereBlock, Stands, StandIn, ItemsStand, BlockStands, ListStands, ElseStands, attrs_by, mods_by, tail_of}
-use Rattle.gl_plain.proofs.Moves.{hit_self}
+use Rattle.gl_plain.specs.Stands.{Gives, SpottedIn, Spotted, SpotThing, AttrsStand, ModsStand, CommentStands, CellsStand, ItemStands, WhereValues, WhereBlock, Stands, StandIn, ItemsStand, BlockStands, ListStands, ElseStands, attrs_by, mods_by, tail_of}
+use Rattle.gl_plain.proofs.Moves.{hit_self, occurs_append}
 use Rattle.gl_plain.proofs.Pairs.{obeys_less}
 
 pub left_above : (m n : ℕ) → 0 < m → 0 < m + n
@@ -32,33 +32,43 @@ module _ (app : App) (look look' : Id → Option Thing) where
       → Gives app look made ms g E → Gives app look' made ms g E
   gives_stays made ms g E same h = λ f τ ob c. h f τ (obeys_less look look' made made f (λ q w. (w, same (ref q) w)) ob) c
 
-  pub spot_stays : (ms : MScope) (z : Spot) (E : Store → (ℕ → Pair) → List Pair) (ps : List Pair) → Same look look' (λ q. occurs q z.made)
-      → Spotted app look ms z E ps → Spotted app look' ms z E ps
-  spot_stays ms z E ps same h =
+  both_same : (more made : List Id) → Same look look' (λ q. occurs q more) → Same look look' (λ q. occurs q made) → Same look look' (λ q. occurs q (more ++ made))
+  both_same more made f g q w = by (occurs q more) refl where
+    by : (n : ℕ) → occurs q more ≡ n → look' q ≡ look q
+    by zero e = g q (let k = occurs_append q more made in omega (arith, e, k, w))
+    by (suc n) e = f q (omega (arith, e))
+
+  pub spot_stays_in : (ms : MScope) (more : List Id) (z : Spot) (E : Store → (ℕ → Pair) → List Pair) (ps : List Pair) → Same look look' (λ q. occurs q more) → Same look look' (λ q. occurs q z.made)
+      → SpottedIn app look ms more z E ps → SpottedIn app look' ms more z E ps
+  spot_stays_in ms more z E ps others same h =
       record {
         own = h.own;
-        is = subst (SpotThing app look' ms z.made E ps) (sym (same (ref z.ref) h.own)) (h.is.0, gives_stays z.made ms _ E same h.is.1);
+        is = subst (SpotThing app look' ms (more ++ z.made) E ps) (sym (same (ref z.ref) h.own)) (h.is.0, gives_stays (more ++ z.made) ms _ E (both_same more z.made others same) h.is.1);
       }
 
-  module _ (σ τ : Store) where
-    pub attrs_stay : (s : Scope) (ms : MScope) (ws : Scope → List (WrittenValue Scope)) (ns : List Text) (xs : List AttrSpot) → Same look look' (λ q. times_attrs q xs)
-        → AttrsStand app σ τ look s ms ws ns xs → AttrsStand app σ τ look' s ms ws ns xs
-    attrs_stay s ms ws [] [] same h = tt
-    attrs_stay s ms ws (n ∷ ns) (a ∷ xs) same h =
-        (h.0, spot_stays ms a.spot _ _ (λ q w. same q (left_above _ _ w)) h.1, attrs_stay s ms ws ns xs (λ q w. same q (right_above _ _ w)) h.2)
-    attrs_stay s ms ws _ _ same h = absurd h
+  pub spot_stays : (ms : MScope) (z : Spot) (E : Store → (ℕ → Pair) → List Pair) (ps : List Pair) → Same look look' (λ q. occurs q z.made)
+      → Spotted app look ms z E ps → Spotted app look' ms z E ps
+  spot_stays ms z E ps same h = spot_stays_in ms [] z E ps (λ q w. absurd (omega (arith, w))) same h
 
-    pub mods_stay : (n : ℕ) (s : Scope) (ms : MScope) (ws : Scope → List (WrittenModifier Scope)) (i : ℕ) (ds : List (WrittenModifier Scope)) (zs : List ModSpot) → Same look look' (λ q. times_mods q zs)
-        → ModsStand app σ τ look n s ms ws i ds zs → ModsStand app σ τ look' n s ms ws i ds zs
-    mods_stay n s ms ws i [] [] same h = tt
-    mods_stay n s ms ws i (d ∷ ds) (z ∷ zs) same h = (
+  module _ (σ τ : Store) where
+    pub attrs_stay : (made : List Id) (s : Scope) (ms : MScope) (ws : Scope → List (WrittenValue Scope)) (ns : List Text) (xs : List AttrSpot) → Same look look' (λ q. occurs q made) → Same look look' (λ q. times_attrs q xs)
+        → AttrsStand app σ τ look made s ms ws ns xs → AttrsStand app σ τ look' made s ms ws ns xs
+    attrs_stay made s ms ws [] [] others same h = tt
+    attrs_stay made s ms ws (n ∷ ns) (a ∷ xs) others same h =
+        (h.0, spot_stays_in ms made a.spot _ _ others (λ q w. same q (left_above _ _ w)) h.1, attrs_stay made s ms ws ns xs others (λ q w. same q (right_above _ _ w)) h.2)
+    attrs_stay made s ms ws _ _ others same h = absurd h
+
+    pub mods_stay : (made : List Id) (n : ℕ) (s : Scope) (ms : MScope) (ws : Scope → List (WrittenModifier Scope)) (i : ℕ) (ds : List (WrittenModifier Scope)) (zs : List ModSpot) → Same look look' (λ q. occurs q made) → Same look look' (λ q. times_mods q zs)
+        → ModsStand app σ τ look made n s ms ws i ds zs → ModsStand app σ τ look' made n s ms ws i ds zs
+    mods_stay made n s ms ws i [] [] others same h = tt
+    mods_stay made n s ms ws i (d ∷ ds) (z ∷ zs) others same h = (
       same (record { kind = a_modifier; num = z.id }) (left_above _ _ (left_above _ _ (hit_self _))) ∙ h.0,
       h.1,
       h.2,
-      spot_stays ms z.spot _ _ (λ q w. same q (left_above _ _ (right_above _ _ w))) h.3,
-      mods_stay n s ms (λ s'. tail_of (ws s')) (suc i) ds zs (λ q w. same q (right_above _ _ w)) h.4,
+      spot_stays_in ms made z.spot _ _ others (λ q w. same q (left_above _ _ (right_above _ _ w))) h.3,
+      mods_stay made n s ms (λ s'. tail_of (ws s')) (suc i) ds zs others (λ q w. same q (right_above _ _ w)) h.4,
     )
-    mods_stay n s ms ws i _ _ same h = absurd h
+    mods_stay made n s ms ws i _ _ others same h = absurd h
 
     pub comment_stays : (o : Option ℕ) (ls : Lives) → Same look look' (λ q. times_comment q o) → CommentStands app σ τ look o ls → CommentStands app σ τ look' o ls
     comment_stays None ls same h = h
@@ -91,10 +101,10 @@ module _ (app : App) (look look' : Id → Option Thing) where
       stay m b s ms p (t.comment_stmt z) (Live.still n) same h = same (node n) (hit_self (node n)) ∙ h
       stay m b s ms p (t.put e) (Live.put_live n z) same h =
           (same (node n) (left_above _ _ (hit_self (node n))) ∙ h.0, spot_stays ms z _ _ (λ q w. same q (right_above _ _ w)) h.1)
-      stay m b s ms p (t.element tag ps c) (Live.element_live n xs zs ls) same h = (
+      stay m b s ms p (t.element tag ps c) (Live.element_live n made xs zs ls) same h = (
         same (node n) (left_above _ _ (left_above _ _ (hit_self (node n)))) ∙ h.0,
-        attrs_stay s ms (attrs_by ps) _ xs (λ q w. same q (left_above _ _ (right_above _ _ w))) h.1,
-        mods_stay n s ms (mods_by ps) 0 _ zs (λ q w. same q (right_above _ _ (right_above _ _ w))) h.2,
+        attrs_stay made s ms (attrs_by ps) _ xs (λ q w. same q (left_above _ _ (right_above _ _ (left_above _ _ w)))) (λ q w. same q (left_above _ _ (right_above _ _ (right_above _ _ w)))) h.1,
+        mods_stay made n s ms (mods_by ps) 0 _ zs (λ q w. same q (left_above _ _ (right_above _ _ (left_above _ _ w)))) (λ q w. same q (right_above _ _ (right_above _ _ w))) h.2,
         stay_in m b s ms p 0 c ls (λ q w. same q (right_above _ _ (left_above _ _ w))) h.3,
       )
       stay m b s ms p (t.if_stmt e u c d) (Live.branch_live z true k ls) same h = (

@@ -17,7 +17,7 @@ use Rattle.gl_plain.specs.Tags.{BoundParts, bind_part, bind_written, Given, fixe
 use Rattle.gl_plain.specs.Tags as tags
 use Rattle.gl_plain.specs.Stands.{Obeys, CellsIn}
 use Rattle.gl_plain.proofs.Moves.{Moves, no_move}
-use Rattle.gl_plain.proofs.Binding.{both_made, obeys_left, obeys_right, new_is}
+use Rattle.gl_plain.proofs.Binding.{row_moves, both_made, obeys_left, obeys_right, new_is}
 use Rattle.gl_plain.proofs.Bound.{bound_is, bound_are, bound_names}
 use Rattle.gl_plain.proofs.Elements.{Near, NearWritten}
 
@@ -160,3 +160,34 @@ module _ (app : App) (b : ℕ) (ms : MScope) where
               );
         }
     by s t.spread k rec = let r = rec st le in record { moves = r.moves; gives = r.gives }
+
+-- The references of a position mean the values that it takes.
+
+pub refs_move : (gs : List (Text × Given)) (st : State) → let x = given_refs gs st in Moves st x.state (λ q. 0) (λ q. occurs q x.made)
+refs_move [] st = no_move st
+refs_move (g ∷ gs) st = by g.1 (refs_move gs) where
+  by : (k : Given) → ((st' : State) → Moves st' (given_refs gs st').state (λ q. 0) (λ q. occurs q (given_refs gs st').made)) → let x = tags.given_ref k st in let y = given_refs gs x.state in Moves st y.state (λ q. 0) (λ q. occurs q (x.made ++ y.made))
+  by (fixed_given u) rec =
+      let x = tags.given_ref (fixed_given u) st in let y = given_refs gs x.state in
+      both_made st x.state y.state x.made y.made (row_moves (constant_form (text u)) st) (rec x.state)
+  by (live_given r) rec = rec st
+
+module _ (app : App) (b : ℕ) (ms : MScope) (f : ℕ → Pair) (ρ : Store) (cells : CellsIn app ρ f ms) where
+  pub refs_mean : (ws : List (WrittenValue MScope)) (gs : List (Text × Given)) (st : State) → ValuesMean app f ρ ws gs → Obeys (given_refs gs st).state.look (given_refs gs st).made f
+      → map f (given_refs gs st).ids ≡ map (λ w. eval_value app ρ (scope_by f w.by) w.value) ws
+  refs_mean [] [] st h ob = refl
+  refs_mean (w ∷ ws) (g ∷ gs) st h ob = by w.value g.1 h.1 ob (λ st'. refs_mean ws gs st' h.2) where
+    by : (v : AttrValue) (k : Given) → GivenMeans app f ρ w.by v k
+        → (let x = tags.given_ref k st in let y = given_refs gs x.state in Obeys y.state.look (x.made ++ y.made) f)
+        → ((st' : State) → Obeys (given_refs gs st').state.look (given_refs gs st').made f → map f (given_refs gs st').ids ≡ map (λ w. eval_value app ρ (scope_by f w.by) w.value) ws)
+        → (let x = tags.given_ref k st in let y = given_refs gs x.state in f x.id ∷ map f y.ids) ≡ eval_value app ρ (scope_by f w.by) v ∷ map (λ w. eval_value app ρ (scope_by f w.by) w.value) ws
+    by (t.fixed z) (fixed_given u) m o rec =
+        let x = tags.given_ref (fixed_given u) st in let y = given_refs gs x.state in
+        let n = new_is app b ms st (constant_form (text u)) (λ τ g. of_value (text u)) (λ g τ c. refl) in
+        ap₂ (λ p ps. p ∷ ps) (n.gives f ρ (obeys_left st x.state y.state x.made y.made f n.moves (refs_move gs x.state) o) cells ∙ ap (λ p. of_value (text p)) m)
+        (rec x.state (obeys_right y.state.look x.made y.made f o))
+    by (t.live e) (live_given r) m o rec = ap₂ (λ p ps. p ∷ ps) m (rec st o)
+    by (t.fixed z) (live_given r) m o rec = absurd m
+    by (t.live e) (fixed_given u) m o rec = absurd m
+  refs_mean [] (g ∷ gs) st h ob = absurd h
+  refs_mean (w ∷ ws) [] st h ob = absurd h

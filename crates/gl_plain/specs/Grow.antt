@@ -12,71 +12,12 @@ use Rattle.gl_meaning.specs.Render.{Entry, entries, values_listed, Block, block_
 use Rattle.gl_plain.specs.Ids.{a_ref, a_node, an_instance, a_block, a_modifier, Id, ref, block_id, instance_id}
 use Rattle.gl_plain.specs.State.{source_form, Names, Inst, MScope, mscope, MPassed, mnothing, mpassed, refs_of, with_names, Content, element_content, text_content, comment_content, content, instance_row, block_row, modifier_row, State, make, note_installed}
 use Rattle.gl_plain.specs.Binding.{BoundAll, BoundNames, made_row, bind_exprs, bind_pairs, bind_args, bind_params, Spot, Placed, place, first_value}
-use Rattle.gl_plain.specs.Tags.{bind_written}
-use Rattle.gl_plain.specs.MParts.{mwritten_parts, bind_taken, fixed_pairs}
+use Rattle.gl_plain.specs.Tags.{bind_written, flush_parts, install_parts}
+use Rattle.gl_plain.specs.MParts.{mwritten_parts}
 use Rattle.gl_plain.specs.Live.{AttrSpot, ModSpot, ItemSpot, item_names, Live, still, put_live, element_live, branch_live, listed, unlisted, let_live, component_live, yield_live, deep_live, Items, no_items, item_live, Lives, no_lives, live_and, have_node}
 
 abbrev pub made_node : Content → State → State
 made_node c st = make a_node (content c) st
-
--- Elements
-
-pub record AttrsGrown : Type 0 where
-  pub attrs : Attrs
-  pub spots : List AttrSpot
-  pub state : State
-
--- the attributes with these names, of which one that takes a live value is a position
-abbrev pub grow_attr : App → Text → List (WrittenValue MScope) → State → (State → AttrsGrown) → AttrsGrown
-grow_attr app n taken st rest =
-    if some_live taken
-    then (let x = place (bind_taken app taken st) in let r = rest x.state in record { attrs = (n, attribute_value x.pairs) ∷ r.attrs; spots = record { name = n; spot = x.spot } ∷ r.spots; state = r.state })
-    else (let r = rest st in record { attrs = (n, attribute_value (fixed_pairs taken)) ∷ r.attrs; spots = r.spots; state = r.state })
-
-abbrev pub grow_attrs : App → List (WrittenValue MScope) → List Text → State → AttrsGrown
-grow_attrs app ws [] st = record { attrs = []; spots = []; state = st }
-grow_attrs app ws (n ∷ ns) st = grow_attr app n (taken_values n ws) st (grow_attrs app ws ns)
-
-pub record ModsGrown : Type 0 where
-  pub spots : List ModSpot
-  pub state : State
-
--- the references of a modifier's arguments: the positional ones, then the named ones
-abbrev pub bind_modifier : App → WrittenModifier MScope → State → BoundAll × List Text × ℕ
-bind_modifier app w st =
-    let b = bind_exprs app w.by w.args st in let c = bind_pairs app w.by w.names b.state in
-    (record { ids = b.ids ++ map (λ n. n.1) c.names; made = b.made ++ c.made; state = c.state }, map (λ n. n.0) c.names, length b.ids)
-
-abbrev pub named_with : List Text → List V → List (Text × V)
-named_with [] vs = []
-named_with (n ∷ ns) [] = []
-named_with (n ∷ ns) (v ∷ vs) = (n, v) ∷ named_with ns vs
-
-abbrev pub first_values : ℕ → List V → List V
-first_values zero vs = []
-first_values (suc n) [] = []
-first_values (suc n) (v ∷ vs) = v ∷ first_values n vs
-
-abbrev pub values_from : ℕ → List V → List V
-values_from zero vs = vs
-values_from (suc n) [] = []
-values_from (suc n) (v ∷ vs) = values_from n vs
-
--- a modifier in its place on a node, installed with the values of its position
-abbrev pub install : ℕ → ℕ → WrittenModifier MScope → Placed × List Text × ℕ → ModSpot × State
-install n i w x =
-    let m = x.0.state.next a_modifier in let vs = values_in x.0.pairs in (
-      record { id = m; positional = x.2; names = x.1; spot = x.0.spot },
-      note_installed m (make a_modifier (modifier_row (record { on_node = n; place = i; name = w.name; args = first_values x.2 vs; names = named_with x.1 (values_from x.2 vs) })) x.0.state),
-    )
-
-abbrev pub grow_mods : App → ℕ → ℕ → List (WrittenModifier MScope) → State → ModsGrown
-grow_mods app n i [] st = record { spots = []; state = st }
-grow_mods app n i (w ∷ ws) st =
-    let b = bind_modifier app w st in
-    let x = install n i w (place b.0, b.1, b.2) in
-    let r = grow_mods app n (suc i) ws x.1 in
-    record { spots = x.0 ∷ r.spots; state = r.state }
 
 -- Branches and items
 
@@ -147,13 +88,12 @@ module _ (app : App) (components : GrowComponents) (yields : GrowYields) where
         let x = place (bind_exprs app ms (expr e no_exprs) st) in
         (put_live (x.state.next a_node) x.spot, made_node (text_content (text_of (first_value x.pairs))) x.state)
     grow_stmt ms p (element tag ps b) st =
-        let ws = mwritten_parts ms ps in
-        let vs = attributes_in ws in
-        let a = grow_attrs app vs (distinct_names vs) st in
+        let z = bind_written app (mwritten_parts ms ps) st in
+        let a = flush_parts z.parts z.state in
         let n = a.state.next a_node in
         let r = grow_body ms p 0 b (made_node (element_content tag a.attrs) a.state) in
-        let m = grow_mods app n 0 (modifiers_in ws) r.1 in
-        (element_live n a.spots m.spots r.0, m.state)
+        let m = install_parts n 0 z.parts r.1 in
+        (element_live n z.made a.spots m.spots r.0, m.state)
     grow_stmt ms p (component_stmt c ps given bs) st =
         let a = bind_args app ms given st in
         let z = bind_written app (mwritten_parts ms ps) a.state in

@@ -1,12 +1,9 @@
 -- The parts of an element with the machine's scopes that wrote them. The rules are those of the meaning, which hold for any type of scope.
-use Rattle.std.specs.Prelude.{ℕ, List, [], ◌∷◌, ◌++◌, map}
-use Rattle.gl_value.specs.Value.{text}
-use Rattle.gl_ast.specs.Template.{AttrValue, fixed, live, Part}
-use Rattle.gl_meaning.specs.App.{App}
-use Rattle.gl_meaning.specs.Scope.{Pair, absent, of_value, Scope}
+use Rattle.std.specs.Prelude.{ℕ, List, []}
+use Rattle.gl_ast.specs.Template.{Part}
+use Rattle.gl_meaning.specs.Scope.{Pair, Scope}
 use Rattle.gl_meaning.specs.Parts.{Written, WrittenValue, WrittenModifier, spread_in}
-use Rattle.gl_plain.specs.State.{MScope, mscope, MPassed, mnothing, mpassed, passed_in, scope_by, State}
-use Rattle.gl_plain.specs.Binding.{BoundAll, bind_value}
+use Rattle.gl_plain.specs.State.{MScope, mscope, MPassed, mnothing, mpassed, passed_in, scope_by}
 
 -- What `...attributes` stands for: the parts that the invocation wrote, along the chain of the scopes that wrote.
 abbrev pub mpassed_parts : MPassed → List (Written MScope)
@@ -26,17 +23,3 @@ value_by f w = record { name = w.name; value = w.value; by = scope_by f w.by }
 
 abbrev pub modifier_by : (ℕ → Pair) → WrittenModifier MScope → WrittenModifier Scope
 modifier_by f w = record { name = w.name; args = w.args; names = w.names; by = scope_by f w.by }
-
--- the references of the values that an attribute takes
-abbrev pub bind_taken : App → List (WrittenValue MScope) → State → BoundAll
-bind_taken app [] st = record { ids = []; made = []; state = st }
-bind_taken app (w ∷ ws) st =
-    let b = bind_value app w.by w.value st in let c = bind_taken app ws b.state in record { ids = b.id ∷ c.ids; made = b.made ++ c.made; state = c.state }
-
--- values of which none is live
-abbrev pub fixed_pair : AttrValue → Pair
-fixed_pair (fixed t) = of_value (text t)
-fixed_pair (live e) = absent
-
-abbrev pub fixed_pairs : List (WrittenValue MScope) → List Pair
-fixed_pairs ws = map (λ w. fixed_pair w.value) ws

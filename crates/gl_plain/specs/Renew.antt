@@ -15,7 +15,8 @@ use Rattle.gl_plain.specs.State.{any_of, Form, all_form, MScope, mscope, mnothin
 use Rattle.gl_plain.specs.Binding.{first_value}
 use Rattle.gl_plain.specs.Live.{AttrSpot, ModSpot, ItemSpot, item_names, item_made, Live, put_live, element_live, branch_live, listed, unlisted, let_live, component_live, yield_live, Items, no_items, item_live, Lives, live_and, times_in, times_comment, times_items}
 use Rattle.gl_plain.specs.Ids.{occurs}
-use Rattle.gl_plain.specs.Grow.{or_comment, ItemGrown, grow_item, grow_entries, branch_from, unlisted_from, listed_from, named_with, first_values, values_from, grow_body, grow_components, grow_yields}
+use Rattle.gl_plain.specs.Tags.{named_with, first_values, values_from}
+use Rattle.gl_plain.specs.Grow.{or_comment, ItemGrown, grow_item, grow_entries, branch_from, unlisted_from, listed_from, grow_body, grow_components, grow_yields}
 
 -- Positions
 
@@ -150,8 +151,8 @@ module _ (app : App) (store : Store) where
   abbrev mutual
     pub renew : ℕ → MScope → Path → Stmt → Live → State → Live × State
     renew m ms p (put e) (put_live n s) st = (put_live n s, renew_text n s.ref st)
-    renew m ms p (element tag ps b) (element_live n xs zs ls) st =
-        let r = renew_body m ms p 0 b ls (renew_attrs n xs st) in (element_live n xs zs r.0, renew_mods zs r.1)
+    renew m ms p (element tag ps b) (element_live n made xs zs ls) st =
+        let r = renew_body m ms p 0 b ls (renew_attrs n xs st) in (element_live n made xs zs r.0, renew_mods zs r.1)
     renew m ms p (if_stmt e unless b c) (branch_live s true k ls) st =
         let st1 = reread s.ref st in
         if takes_first unless (first_value (spot_pairs st1 s.ref))

@@ -79,10 +79,13 @@ abbrev pub SpotThing : App → (Id → Option Thing) → MScope → List Id → 
 SpotThing app look ms made E ps t =
     (t ≡ Some (row (record { form = all_form (spot_ids t); last = any_of (sources_of ps) }))) × Gives app look made ms (λ f. map f (spot_ids t)) E
 
--- a position's reference is its own, and is so
-pub record Spotted (app : App) (look : Id → Option Thing) (ms : MScope) (s : Spot) (E : Store → (ℕ → Pair) → List Pair) (ps : List Pair) : Type 0 where
+-- A position's reference is its own, and is so. Those that it reads are its own too, or among more that were made before it.
+pub record SpottedIn (app : App) (look : Id → Option Thing) (ms : MScope) (more : List Id) (s : Spot) (E : Store → (ℕ → Pair) → List Pair) (ps : List Pair) : Type 0 where
   pub own : 0 < occurs (ref s.ref) s.made
-  pub is : SpotThing app look ms s.made E ps (look (ref s.ref))
+  pub is : SpotThing app look ms (more ++ s.made) E ps (look (ref s.ref))
+
+abbrev pub Spotted : App → (Id → Option Thing) → MScope → Spot → (Store → (ℕ → Pair) → List Pair) → List Pair → Type 0
+Spotted app look ms s E ps = SpottedIn app look ms [] s E ps
 
 abbrev pub exprs_by : App → MScope → Exprs → Store → (ℕ → Pair) → List Pair
 exprs_by app ms es τ f = eval_all app τ (scope_by f ms) es
@@ -123,25 +126,25 @@ WhereBlock (Some b) P Q = P b
 
 -- What is shown is the rendering over the store σ; the cells hold what the store τ has. Between two turns these are the same.
 module _ (app : App) (σ τ : Store) (look : Id → Option Thing) where
-  -- the attributes that take live values
-  abbrev pub AttrsStand : Scope → MScope → (Scope → List (WrittenValue Scope)) → List Text → List AttrSpot → Type 0
-  AttrsStand s ms ws [] [] = Unit {0}
-  AttrsStand s ms ws (n ∷ ns) (a ∷ xs) =
-      (a.name ≡ n) × Spotted app look ms a.spot (λ ρ f. taken_pairs app ρ (ws (scope_by f ms)) n) (taken_pairs app σ (ws s) n) × AttrsStand s ms ws ns xs
-  AttrsStand s ms ws _ _ = ⊥
+  -- the attributes that take live values, which read what was made for the tag
+  abbrev pub AttrsStand : List Id → Scope → MScope → (Scope → List (WrittenValue Scope)) → List Text → List AttrSpot → Type 0
+  AttrsStand made s ms ws [] [] = Unit {0}
+  AttrsStand made s ms ws (n ∷ ns) (a ∷ xs) =
+      (a.name ≡ n) × SpottedIn app look ms made a.spot (λ ρ f. taken_pairs app ρ (ws (scope_by f ms)) n) (taken_pairs app σ (ws s) n) × AttrsStand made s ms ws ns xs
+  AttrsStand made s ms ws _ _ = ⊥
 
   -- the modifiers of the element n; the first of these has the number i
-  abbrev pub ModsStand : ℕ → Scope → MScope → (Scope → List (WrittenModifier Scope)) → ℕ → List (WrittenModifier Scope) → List ModSpot → Type 0
-  ModsStand n s ms ws i [] [] = Unit {0}
-  ModsStand n s ms ws i (w ∷ rest) (z ∷ zs) =
+  abbrev pub ModsStand : List Id → ℕ → Scope → MScope → (Scope → List (WrittenModifier Scope)) → ℕ → List (WrittenModifier Scope) → List ModSpot → Type 0
+  ModsStand made n s ms ws i [] [] = Unit {0}
+  ModsStand made n s ms ws i (w ∷ rest) (z ∷ zs) =
       let m = modifier_of app σ [] 0 w in
       (look (record { kind = a_modifier; num = z.id })
       ≡ Some (modifier_row (record { on_node = n; place = i; name = m.name; args = values_in m.args; names = map (λ x. (x.0, x.1.value)) m.names })))
       × (z.positional ≡ length m.args)
       × (z.names ≡ map (λ x. x.0) m.names)
-      × Spotted app look ms z.spot (λ ρ f. pairs_for app ρ (head_of (ws (scope_by f ms)))) (modifier_pairs app σ w)
-      × ModsStand n s ms (λ s'. tail_of (ws s')) (suc i) rest zs
-  ModsStand n s ms ws i _ _ = ⊥
+      × SpottedIn app look ms made z.spot (λ ρ f. pairs_for app ρ (head_of (ws (scope_by f ms)))) (modifier_pairs app σ w)
+      × ModsStand made n s ms (λ s'. tail_of (ws s')) (suc i) rest zs
+  ModsStand made n s ms ws i _ _ = ⊥
 
   -- the comment of a branch or an item, where no node stands in it
   abbrev pub CommentStands : Option ℕ → Lives → Type 0
@@ -172,11 +175,11 @@ module _ (app : App) (σ τ : Store) (look : Id → Option Thing) where
     Stands m b s ms p (put e) (put_live n z) =
         let vs = eval_all app σ s (one_expr e) in
         (look (node n) ≡ Some (content (text_content (text_of (first_value vs))))) × Spotted app look ms z (exprs_by app ms (one_expr e)) vs
-    Stands m b s ms p (element tag ps body) (element_live n xs zs ls) =
+    Stands m b s ms p (element tag ps body) (element_live n made xs zs ls) =
         let vs = attrs_by ps s in let ds = mods_by ps s in
         (look (node n) ≡ Some (content (element_content tag (attrs_from vs (taken_pairs app σ vs)))))
-        × AttrsStand s ms (attrs_by ps) (filter (λ k. some_live (taken_values k vs)) (distinct_names vs)) xs
-        × ModsStand n s ms (mods_by ps) 0 ds zs
+        × AttrsStand made s ms (attrs_by ps) (filter (λ k. some_live (taken_values k vs)) (distinct_names vs)) xs
+        × ModsStand made n s ms (mods_by ps) 0 ds zs
         × StandIn m b s ms p 0 body ls
     Stands m b s ms p (if_stmt e unless c d) (branch_live z true k ls) =
         let vs = eval_all app σ s (one_expr e) in
