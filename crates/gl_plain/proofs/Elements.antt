@@ -1,17 +1,16 @@
 -- The attributes and modifiers of an element that is appended.
-use Rattle.std.proofs.Common.{◌≡◌, ℕ, ◌≤◌, Bool, true, false, true≢false, List, [], ◌∷◌, ◌++◌, map, cond, refl, sym, ◌∙◌, ap, arith}
+use Rattle.std.proofs.Common.{◌≡◌, ℕ, Bool, true, false, List, [], ◌∷◌, ◌++◌, map, cond, refl, sym, ◌∙◌, ap}
 use Rattle.std.specs.Prelude.{if◌then◌else◌, filter, ◌||◌, not, codes}
 use Rattle.std.specs.List.{cons_option}
 use Rattle.std.specs.Str.{bytes_eq}
 use Rattle.gl_base.specs.Texts.{Text}
-use Rattle.gl_value.specs.Value.{text}
 use Rattle.gl_ast.specs.Template.{Plain, Exprs, AttrValue, Slots, Part}
 use Rattle.gl_ast.specs.Template as t
 use Rattle.gl_meaning.specs.App.{App}
-use Rattle.gl_meaning.specs.Scope.{Pair, Scope, scope, of_value}
+use Rattle.gl_meaning.specs.Scope.{Pair, Scope, scope}
 use Rattle.gl_meaning.specs.Eval.{Store, eval_value}
 use Rattle.gl_meaning.specs.Parts.{WrittenValue, WrittenModifier, spread_in, passed_parts, written_parts, attribute_in, attributes_in, distinct_names, taken_values, last_only, is_live, some_live, modifier_in, modifiers_in, taken_pairs, Written}
-use Rattle.gl_plain.specs.State.{names_by, MScope, mscope, MPassed, mnothing, mpassed, scope_by, passed_by, State}
+use Rattle.gl_plain.specs.State.{names_by, MScope, mscope, MPassed, mnothing, mpassed, scope_by, passed_by}
 use Rattle.gl_plain.specs.MParts.{mpassed_parts, mwritten_parts, written_by, value_by, modifier_by}
 use Rattle.gl_plain.specs.Stands.{CellsIn, CellsPassed, ScopeBelow, PassedBelow, attrs_by, mods_by}
 

@@ -1,5 +1,5 @@
 -- Two scopes of one place write the same names, and take live values for the same ones.
-use Rattle.std.proofs.Common.{◌≡◌, List, [], ◌∷◌, map, true≢false, refl, ap, ap₂}
+use Rattle.std.proofs.Common.{◌≡◌, List, ◌∷◌, map, true≢false, refl, ap, ap₂}
 use Rattle.std.specs.Prelude.{false, filter, not, ◌||◌}
 use Rattle.std.specs.Str.{bytes_eq}
 use Rattle.gl_base.specs.Texts.{Text}

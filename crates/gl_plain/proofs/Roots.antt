@@ -1,15 +1,14 @@
 -- The laws of the machine.
-use Rattle.std.proofs.Common.{◌<◌, ◌≡◌, ℕ, zero, suc, max, ◌+◌, Bool, true, false, List, [], ◌∷◌, ◌++◌, Option, Some, None, refl, sym, ◌∙◌, ap, ap₂, subst, arith}
-use Rattle.std.specs.Prelude.{not, ◌&&◌, ◌||◌}
+use Rattle.std.proofs.Common.{◌<◌, ◌≡◌, ℕ, zero, suc, max, ◌+◌, List, [], Option, None, refl, sym, ◌∙◌, ap, ap₂, subst, arith}
+use Rattle.std.specs.Prelude.{not}
 use Rattle.gl_meaning.specs.App.{App}
 use Rattle.gl_meaning.specs.Path.{Path}
 use Rattle.gl_meaning.specs.Scope.{scope, nothing_passed}
 use Rattle.gl_meaning.specs.Eval.{Store, class_at}
 use Rattle.gl_meaning.specs.Render as r
 use Rattle.gl_meaning.specs.Render.{draw, components_at, fits}
-use Rattle.gl_plain.specs.Ids.{a_ref, Id, instance_id, occurs}
+use Rattle.gl_plain.specs.Ids.{Id, instance_id, occurs}
 use Rattle.gl_plain.specs.State.{Names, names_by, Inst, mscope, mnothing, State, pair_of, Thing}
-use Rattle.gl_plain.specs.Live
 use Rattle.gl_plain.specs.Live.{Live, Lives, times, times_in, is_deep, are_deep}
 use Rattle.gl_plain.specs.Grow.{grow_components}
 use Rattle.gl_plain.specs.Renew.{renew_root, renew_body}

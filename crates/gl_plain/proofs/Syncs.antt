@@ -1,19 +1,19 @@
 -- A list that is synced by keys stands for the list of now.
-use Rattle.std.proofs.Common.{◌≡◌, ℕ, suc, max, ◌+◌, ◌<◌, ◌≤◌, ◌||◌, Bool, true, false, true≢false, List, [], ◌∷◌, Option, Some, None, refl, sym, ◌∙◌, ap, ap₂, subst, arith, inl, inr}
+use Rattle.std.proofs.Common.{◌≡◌, ℕ, suc, max, ◌+◌, ◌<◌, ◌||◌, Bool, true, false, true≢false, List, [], ◌∷◌, Option, Some, None, refl, sym, ◌∙◌, ap, ap₂, subst, arith, inl, inr}
 use Rattle.std.specs.Prelude.{if◌then◌else◌}
 use Rattle.std.specs.Bool.{Decides}
 use Rattle.std.proofs.lemmas.Bool.Decides.{Decides-eqb}
 use Rattle.gl_base.specs.Texts.{Text}
-use Rattle.gl_value.specs.Value.{Values, no_values, value, count_value, same, key_of}
+use Rattle.gl_value.specs.Value.{count_value, same}
 use Rattle.gl_ast.specs.Template as t
 use Rattle.gl_meaning.specs.App.{App}
 use Rattle.gl_meaning.specs.Path.{item, Path, V, path_eq, no_owners}
 use Rattle.gl_meaning.specs.Scope.{Source, item_value, item_index, Scope, with_locals, bind}
 use Rattle.gl_meaning.specs.Eval.{Store}
-use Rattle.gl_meaning.specs.Render.{Entry, entry_pairs, entries, occurrences}
+use Rattle.gl_meaning.specs.Render.{Entry, entry_pairs}
 use Rattle.gl_meaning.specs.Laws.{Keeps, KeepsAll, keeps_none, keeps_more}
-use Rattle.gl_meaning.proofs.Once.{Later, Distinct, distinct}
-use Rattle.gl_meaning.proofs.Equal.{same_means, same_itself, no_owners-Decides, path_means, path_itself, both_left, both_right}
+use Rattle.gl_meaning.proofs.Once.{Later, Distinct}
+use Rattle.gl_meaning.proofs.Equal.{same_means, no_owners-Decides, path_means, path_itself, both_left, both_right}
 use Rattle.gl_plain.specs.Ids.{Kind, Id, id_eq, ref, hit, occurs}
 use Rattle.gl_plain.specs.State.{any_of, source_form, MScope, mscope, with_names, row, Thing, State, source_eq, touch, held_value}
 use Rattle.gl_plain.specs.Live.{ItemSpot, item_names, item_made, Lives, Items, times_in, times_items, times_comment}

@@ -1,5 +1,5 @@
 -- The parts of a tag that were bound mean what was written.
-use Rattle.std.proofs.Common.{◌≡◌, ◌<◌, Option, ℕ, ◌≤◌, Bool, true, false, true≢false, List, [], ◌∷◌, ◌++◌, map, cond, refl, sym, ◌∙◌, ap, ap₂, subst, arith}
+use Rattle.std.proofs.Common.{◌≡◌, Option, ℕ, ◌≤◌, Bool, true, false, true≢false, List, [], ◌∷◌, ◌++◌, map, cond, refl, sym, ◌∙◌, ap, ap₂, subst, arith}
 use Rattle.std.specs.Prelude.{if◌then◌else◌, filter, ◌||◌, not, codes}
 use Rattle.std.specs.Str.{bytes_eq}
 use Rattle.gl_base.specs.Texts.{Text}
@@ -12,7 +12,7 @@ use Rattle.gl_meaning.specs.Eval.{Store, eval, eval_all, eval_named, eval_value}
 use Rattle.gl_meaning.specs.Parts.{Written, WrittenValue, WrittenModifier, attributes_in, distinct_names, taken_values, last_only, is_live, some_live, modifiers_in}
 use Rattle.gl_plain.specs.Ids.{a_ref, Id, ref, occurs}
 use Rattle.gl_plain.specs.State.{names_by, constant_form, MScope, scope_by, Thing, State}
-use Rattle.gl_plain.specs.Binding.{BoundAll, bind_expr, bind_exprs, bind_pairs}
+use Rattle.gl_plain.specs.Binding.{bind_expr, bind_exprs, bind_pairs}
 use Rattle.gl_plain.specs.Tags.{BoundParts, bind_part, bind_written, Given, fixed_given, live_given, attributes_waiting, names_waiting, taken_waiting, is_live_given, some_waiting_live, given_pairs, given_refs, WaitingModifier, modifiers_waiting}
 use Rattle.gl_plain.specs.Tags as tags
 use Rattle.gl_plain.specs.Stands.{Obeys, CellsIn}

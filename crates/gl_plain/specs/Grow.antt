@@ -1,20 +1,19 @@
 -- What is appended: a template's statements, from the machine's scopes, with the state after it.
-use Rattle.std.specs.Prelude.{ℕ, zero, suc, List, [], ◌∷◌, ◌++◌, map, length, Bool, true, false, if◌then◌else◌, Option, Some, None}
+use Rattle.std.specs.Prelude.{ℕ, zero, suc, List, [], ◌∷◌, ◌++◌, Bool, true, false, if◌then◌else◌, Option, Some, None}
 use Rattle.gl_base.specs.Texts.{Text}
 use Rattle.gl_value.specs.Value.{Values, no_values, value, text_of, count_value}
 use Rattle.gl_ast.specs.Template.{Plain, no_exprs, expr, Stmt, text_stmt, comment_stmt, put, element, component_stmt, if_stmt, each, let_stmt, yield, Body, end, stmt}
 use Rattle.gl_meaning.specs.App.{App}
-use Rattle.gl_meaning.specs.Path.{at, main, otherwise, items, item, into, slot, Path, V}
+use Rattle.gl_meaning.specs.Path.{at, main, otherwise, items, item, into, slot, Path}
 use Rattle.gl_meaning.specs.Scope.{cell, item_value, item_index}
-use Rattle.gl_meaning.specs.Eval.{Store, class_at, cell_value, takes_first, values_in}
-use Rattle.gl_meaning.specs.Parts.{Attrs, attribute_value, WrittenModifier, WrittenValue, attributes_in, distinct_names, modifiers_in, some_live, taken_values}
+use Rattle.gl_meaning.specs.Eval.{Store, class_at, cell_value, takes_first}
 use Rattle.gl_meaning.specs.Render.{Entry, entries, values_listed, Block, block_named}
-use Rattle.gl_plain.specs.Ids.{a_ref, a_node, an_instance, a_block, a_modifier, Id, ref, block_id, instance_id}
-use Rattle.gl_plain.specs.State.{source_form, Names, Inst, MScope, mscope, MPassed, mnothing, mpassed, refs_of, with_names, Content, element_content, text_content, comment_content, content, instance_row, block_row, modifier_row, State, make, note_installed}
-use Rattle.gl_plain.specs.Binding.{BoundAll, BoundNames, made_row, bind_exprs, bind_pairs, bind_args, bind_params, Spot, Placed, place, first_value}
+use Rattle.gl_plain.specs.Ids.{a_ref, a_node, an_instance, a_block, Id, ref, block_id, instance_id}
+use Rattle.gl_plain.specs.State.{source_form, Names, Inst, MScope, mscope, MPassed, mnothing, mpassed, refs_of, with_names, Content, element_content, text_content, comment_content, content, instance_row, block_row, State, make}
+use Rattle.gl_plain.specs.Binding.{BoundNames, made_row, bind_exprs, bind_args, bind_params, Spot, place, first_value}
 use Rattle.gl_plain.specs.Tags.{bind_written, flush_parts, install_parts}
 use Rattle.gl_plain.specs.MParts.{mwritten_parts}
-use Rattle.gl_plain.specs.Live.{AttrSpot, ModSpot, ItemSpot, item_names, Live, still, put_live, element_live, branch_live, listed, unlisted, let_live, component_live, yield_live, deep_live, Items, no_items, item_live, Lives, no_lives, live_and, have_node}
+use Rattle.gl_plain.specs.Live.{ItemSpot, item_names, Live, still, put_live, element_live, branch_live, listed, unlisted, let_live, component_live, yield_live, deep_live, Items, no_items, item_live, Lives, no_lives, live_and, have_node}
 
 abbrev pub made_node : Content → State → State
 made_node c st = make a_node (content c) st
