@@ -1,4 +1,5 @@
 -- The references that are bound for an expression give its value.
+use Rattle.gl_plain.specs.Reads.{reads, IdsBelow}
 use Rattle.std.proofs.Common.{◌≡◌, ℕ, zero, suc, max, ◌+◌, ◌<◌, ◌≤◌, Bool, true, false, List, [], ◌∷◌, ◌++◌, map, Option, Some, None, refl, ◌∙◌, ap, ap₂, arith, inl, inr, ◌⊎◌}
 use Rattle.std.specs.Prelude.{if◌then◌else◌}
 use Rattle.std.proofs.lemmas.Bool.{cases_lt}
@@ -9,7 +10,7 @@ use Rattle.gl_meaning.specs.App.{App}
 use Rattle.gl_meaning.specs.Scope.{Pair, NamedPairs}
 use Rattle.gl_meaning.specs.Eval.{Store, with_properties}
 use Rattle.gl_plain.specs.Ids.{a_ref, Id, kind_eq, ref, occurs, hit}
-use Rattle.gl_plain.specs.State.{any_of, Form, property_form, Row, Names, names_by, form_pair, MScope, row, Thing, State, thing_pair}
+use Rattle.gl_plain.specs.State.{any_of, Form, property_form, Row, Names, names_by, form_pair, MScope, row, Thing, State, thing_pair, refs_of}
 use Rattle.gl_plain.specs.Binding.{Bound, BoundAll, BoundNames, made_row, old_ref, new_ref, after_made, bind_along}
 use Rattle.gl_plain.specs.Stands.{below, Obeys, CellsIn, Gives, above_ref, top, NamesBelow}
 use Rattle.gl_plain.proofs.Moves.{Moves, both_new, before_new, recount, no_move, make_moves, make_at, occurs_append, hit_self, hit_means, kind_means}
@@ -61,10 +62,6 @@ pub record Binds (app : App) (b : ℕ) (ms : MScope) (st : State) (x : Bound) (E
   pub gives : Gives app x.state.look x.made ms (λ f. f x.id) E
   pub low : x.id < max b (top x.made)
 
-abbrev pub IdsBelow : ℕ → List ℕ → Type 0
-IdsBelow b [] = Unit {0}
-IdsBelow b (r ∷ rs) = (r < b) × IdsBelow b rs
-
 pub record BindsAll (app : App) (b : ℕ) (ms : MScope) (st : State) (x : BoundAll) (E : Store → (ℕ → Pair) → List Pair) : Type 0 where
   pub moves : Moves st x.state (λ q. 0) (λ q. occurs q x.made)
   pub gives : Gives app x.state.look x.made ms (λ f. map f x.ids) E
@@ -78,6 +75,14 @@ pub record BindsNames (app : App) (b : ℕ) (ms : MScope) (st : State) (x : Boun
 pub ids_below : (b c : ℕ) → b ≤ c → (rs : List ℕ) → IdsBelow b rs → IdsBelow c rs
 ids_below b c le [] h = tt
 ids_below b c le (r ∷ rs) h = (let w = h.0 in omega (arith, w, le), ids_below b c le rs h.1)
+
+pub ids_append : (c : ℕ) (xs ys : List ℕ) → IdsBelow c xs → IdsBelow c ys → IdsBelow c (xs ++ ys)
+ids_append c [] ys h k = k
+ids_append c (x ∷ xs) ys h k = (h.0, ids_append c xs ys h.1 k)
+
+pub ids_of_names : (c : ℕ) (ns : Names) → NamesBelow c ns → IdsBelow c (refs_of ns)
+ids_of_names c [] h = tt
+ids_of_names c (n ∷ ns) h = (h.0, ids_of_names c ns h.1)
 
 pub ids_same : (n : ℕ) (f : ℕ → Pair) (rs : List ℕ) → IdsBelow n rs → map (below n f) rs ≡ map f rs
 ids_same n f [] h = refl
@@ -99,19 +104,19 @@ pub both_made : (st st1 st2 : State) (xs ys : List Id) → Moves st st1 (λ q. 0
     → Moves st st2 (λ q. 0) (λ q. occurs q (xs ++ ys))
 both_made st st1 st2 xs ys m n = recount st st2 (λ q. 0) (λ q. 0) (λ q. occurs q (xs ++ ys)) (λ q. occurs q xs + occurs q ys) (λ q. refl) (λ q. occurs_append q xs ys) (both_new st st1 st2 _ _ m n)
 
-pub row_moves : (form : Form) (st : State) → Moves st (made_row form st) (λ q. 0) (λ q. occurs q (ref (st.next a_ref) ∷ []))
-row_moves form st =
+pub row_moves : (form : Form) (st : State) → IdsBelow (st.next a_ref) (reads form) → Moves st (made_row form st) (λ q. 0) (λ q. occurs q (ref (st.next a_ref) ∷ []))
+row_moves form st fits =
     recount st (made_row form st) (λ q. 0) (λ q. 0) (λ q. occurs q (ref (st.next a_ref) ∷ [])) (λ q. hit q (ref (st.next a_ref))) (λ q. refl) (λ q. omega arith)
-    (make_moves a_ref (row (record { form = form; last = any_of [] })) st)
+    (make_moves a_ref (row (record { form = form; last = any_of [] })) st fits)
 
 module _ (app : App) (b : ℕ) (ms : MScope) where
-  pub after_is : (st0 st : State) (made : List Id) → Moves st0 st (λ q. 0) (λ q. occurs q made) → (form : Form) (E : Store → (ℕ → Pair) → Pair)
+  pub after_is : (st0 st : State) (made : List Id) → Moves st0 st (λ q. 0) (λ q. occurs q made) → (form : Form) → IdsBelow (st.next a_ref) (reads form) → (E : Store → (ℕ → Pair) → Pair)
       → ((f : ℕ → Pair) (τ : Store) → Obeys st.look made f → CellsIn app τ f ms → form_pair (below (st.next a_ref) f) form ≡ E τ f)
       → Binds app b ms st0 (after_made made form st) E
-  after_is st0 st made m form E hyp =
+  after_is st0 st made m form fits E hyp =
       let r = st.next a_ref in
       let x : Row = record { form = form; last = any_of [] } in
-      let n = row_moves form st in
+      let n = row_moves form st fits in
       let at = make_at a_ref (row x) st in
       let self : 0 < occurs (ref r) (ref r ∷ []) = (let h = hit_self (ref r) in omega (arith, h)) in
       record {
@@ -122,9 +127,9 @@ module _ (app : App) (b : ℕ) (ms : MScope) where
         low = let h = in_top r (made ++ ref r ∷ []) (right_occurs (ref r) made (ref r ∷ []) self) in omega (arith, h);
       }
 
-  pub new_is : (st : State) (form : Form) (E : Store → (ℕ → Pair) → Pair)
+  pub new_is : (st : State) (form : Form) → IdsBelow (st.next a_ref) (reads form) → (E : Store → (ℕ → Pair) → Pair)
       → ((f : ℕ → Pair) (τ : Store) → CellsIn app τ f ms → form_pair (below (st.next a_ref) f) form ≡ E τ f) → Binds app b ms st (new_ref form st) E
-  new_is st form E hyp = after_is st st [] (no_move st) form E (λ f τ ob c. hyp f τ c)
+  new_is st form fits E hyp = after_is st st [] (no_move st) form fits E (λ f τ ob c. hyp f τ c)
 
   pub old_is : (st : State) (r : ℕ) (E : Store → (ℕ → Pair) → Pair) → r < b → ((f : ℕ → Pair) (τ : Store) → CellsIn app τ f ms → f r ≡ E τ f) → Binds app b ms st (old_ref r st) E
   old_is st r E lt hyp = record { moves = no_move st; gives = λ f τ ob c. hyp f τ c; low = omega (arith, lt) }
@@ -134,7 +139,7 @@ module _ (app : App) (b : ℕ) (ms : MScope) where
   along_is [] st x E le h = h
   along_is (k ∷ ks) st x E le h =
       along_is ks st (after_made x.made (property_form x.id k) x.state) (λ τ f. with_properties (k ∷ []) (E τ f)) le
-      (after_is st x.state x.made h.moves (property_form x.id k) (λ τ f. with_properties (k ∷ []) (E τ f))
+      (after_is st x.state x.made h.moves (property_form x.id k) (lt, tt) (λ τ f. with_properties (k ∷ []) (E τ f))
       (λ f τ ob c. ap (with_properties (k ∷ [])) (below_at (x.state.next a_ref) f x.id lt ∙ h.gives f τ ob c)))
     where
       lt : x.id < x.state.next a_ref

@@ -1,4 +1,5 @@
 -- Each expression's references give its value.
+use Rattle.gl_plain.specs.Reads.{IdsBelow}
 use Rattle.std.proofs.Common.{◌≡◌, ℕ, zero, suc, max, ◌≤◌, List, [], ◌∷◌, ◌++◌, map, Option, Some, None, refl, sym, ◌∙◌, ap, ap₂, subst, arith}
 use Rattle.std.specs.Prelude.{unwrap_or}
 use Rattle.gl_base.specs.Texts.{Text}
@@ -10,12 +11,12 @@ use Rattle.gl_meaning.specs.App.{App}
 use Rattle.gl_meaning.specs.Scope.{Pair, absent, of_value, NamedPairs, bind, cell, own_scope}
 use Rattle.gl_meaning.specs.Eval.{Store, class_at, cell_value, Member, field_member, getter_member, action_member, member_of, call_pair, cat_pair, bare_pair, member_pair, eval_in, eval_all_in, eval_named_in, eval_deep, eval, eval_all, eval_named, eval_value, eval_given}
 use Rattle.gl_plain.specs.Ids.{a_ref, Id, ref, occurs}
-use Rattle.gl_plain.specs.State.{constant_form, call_form, joined_form, Names, names_by, Inst, MScope, mscope, MPassed, scope_by, own, cell_ref, State}
+use Rattle.gl_plain.specs.State.{constant_form, call_form, joined_form, Names, names_by, Inst, MScope, mscope, MPassed, scope_by, own, cell_ref, State, refs_of}
 use Rattle.gl_plain.specs.Binding.{Bound, BoundAll, BoundNames, old_ref, new_ref, bind_found, bind_bare, bind_member, bind_in, bind_all_in, bind_named_in, bind_deep, getters_in, bind_expr, bind_exprs, bind_pairs, bind_value, bind_args, bind_params}
 use Rattle.gl_plain.specs.Stands.{top, NamesBelow, ScopeBelow}
 use Rattle.gl_plain.proofs.Moves.{Moves, no_move}
 use Rattle.gl_plain.proofs.Pairs.{names_below}
-use Rattle.gl_plain.proofs.Binding.{Binds, BindsAll, BindsNames, IdsBelow, ids_below, ids_same, names_below_same, obeys_left, obeys_right, both_made, after_is, new_is, old_is, along_is, mapped, last_by, OptionBelow, last_below, top_append, top_ends}
+use Rattle.gl_plain.proofs.Binding.{Binds, BindsAll, BindsNames, ids_below, ids_same, names_below_same, obeys_left, obeys_right, both_made, after_is, new_is, old_is, along_is, mapped, last_by, OptionBelow, last_below, top_append, top_ends, ids_append, ids_of_names}
 
 -- lower than all that was made
 pub made_below : (b : ℕ) (st st' : State) (made : List Id) → b ≤ st.next a_ref → Moves st st' (λ q. 0) (λ q. occurs q made) → max b (top made) ≤ st'.next a_ref
@@ -65,7 +66,7 @@ module _ (app : App) (b : ℕ) (i : Inst) (a l : Names) (w : MPassed) (low : Sco
       (subst (OptionBelow b) e (last_below b n ns h))
       (λ f τ c. sym (ap (λ o. unwrap_or o absent) (last_by f n ns ∙ ap (mapped f) e)))
   found_is n ns h None e st =
-      new_is app b (mscope i a l w) st (constant_form undefined) (λ τ f. unwrap_or (last_named n (names_by f ns)) absent)
+      new_is app b (mscope i a l w) st (constant_form undefined) tt (λ τ f. unwrap_or (last_named n (names_by f ns)) absent)
       (λ f τ c. sym (ap (λ o. unwrap_or o absent) (last_by f n ns ∙ ap (mapped f) e)))
 
   bare_is : (n : Text) (ks : List Text) (o : Option ℕ) → last_named n l ≡ o → (st : State) → b ≤ st.next a_ref
@@ -75,7 +76,7 @@ module _ (app : App) (b : ℕ) (i : Inst) (a l : Names) (w : MPassed) (low : Sco
       (old_is app b (mscope i a l w) st r (λ τ f. f r) (subst (OptionBelow b) e (last_below b n l low.2)) (λ f τ c. refl)) in
       record { moves = h.moves; gives = λ f τ ob c. h.gives f τ ob c ∙ sym (ap (bare_pair n ks) (last_by f n l ∙ ap (mapped f) e)); low = h.low }
   bare_is n ks None e st le =
-      new_is app b (mscope i a l w) st (call_form n [] []) (λ τ f. bare_pair n ks (last_named n (names_by f l)))
+      new_is app b (mscope i a l w) st (call_form n [] []) tt (λ τ f. bare_pair n ks (last_named n (names_by f l)))
       (λ f τ c. sym (ap (bare_pair n ks) (last_by f n l ∙ ap (mapped f) e)))
 
   module _ (getter : Expr → State → Bound) (G : Store → (ℕ → Pair) → Expr → Pair)
@@ -85,12 +86,12 @@ module _ (app : App) (b : ℕ) (i : Inst) (a l : Names) (w : MPassed) (low : Sco
     member_is x field_member e st le =
         old_is app b (mscope i a l w) st (cell_ref i x) (λ τ f. record { value = cell_value app τ i.path x; sources = cell i.path x ∷ [] }) (low.0 x e) (λ f τ c. c.0 x e)
     member_is x (getter_member g) e st le = getter_is g st le
-    member_is x action_member e st le = new_is app b (mscope i a l w) st (constant_form (action i.path x no_values)) (λ τ f. of_value (action i.path x no_values)) (λ f τ c. refl)
+    member_is x action_member e st le = new_is app b (mscope i a l w) st (constant_form (action i.path x no_values)) tt (λ τ f. of_value (action i.path x no_values)) (λ f τ c. refl)
 
     mutual
       pub expr_is : (e : Expr) (st : State) → b ≤ st.next a_ref
           → Binds app b (mscope i a l w) st (bind_in app getter (mscope i a l w) e st) (λ τ f. eval_in app τ (G τ f) (scope_by f (mscope i a l w)) e)
-      expr_is (t.literal v) st le = new_is app b (mscope i a l w) st (constant_form (plain v)) (λ τ f. of_value (plain v)) (λ f τ c. refl)
+      expr_is (t.literal v) st le = new_is app b (mscope i a l w) st (constant_form (plain v)) tt (λ τ f. of_value (plain v)) (λ f τ c. refl)
       expr_is (t.this x ks) st le =
           along_is app b (mscope i a l w) ks st (bind_member app getter (mscope i a l w) x (member_of (class_at app i.path) x) st)
           (λ τ f. member_pair app τ (G τ f) (scope_by f (mscope i a l w)) x (member_of (class_at app i.path) x)) le
@@ -110,6 +111,7 @@ module _ (app : App) (b : ℕ) (i : Inst) (a l : Names) (w : MPassed) (low : Sco
           let lx = left_top b x.made y.made in
           let ly = right_top b x.made y.made in
           after_is app b (mscope i a l w) st y.state (x.made ++ y.made) m (call_form n x.ids y.names)
+          (ids_append _ x.ids (refs_of y.names) (ids_below _ _ (omega (arith, lx, j)) x.ids h.low) (ids_of_names _ y.names (names_below _ _ (omega (arith, ly, j)) y.names k.low)))
           (λ τ f. call_pair n (eval_all_in app τ (G τ f) (scope_by f (mscope i a l w)) es) (eval_named_in app τ (G τ f) (scope_by f (mscope i a l w)) ns))
           (λ f τ ob c. ap₂ (call_pair n)
           (ids_same (y.state.next a_ref) f x.ids (ids_below _ _ (omega (arith, lx, j)) x.ids h.low) ∙ h.gives f τ (obeys_left st x.state y.state x.made y.made f h.moves k.moves ob) c)
@@ -118,7 +120,7 @@ module _ (app : App) (b : ℕ) (i : Inst) (a l : Names) (w : MPassed) (low : Sco
           let x = bind_all_in app getter (mscope i a l w) es st in
           let h = exprs_are es st le in
           let j = made_below b st x.state x.made le h.moves in
-          after_is app b (mscope i a l w) st x.state x.made h.moves (joined_form x.ids)
+          after_is app b (mscope i a l w) st x.state x.made h.moves (joined_form x.ids) (ids_below _ _ j x.ids h.low)
           (λ τ f. cat_pair (eval_all_in app τ (G τ f) (scope_by f (mscope i a l w)) es))
           (λ f τ ob c. ap cat_pair (ids_same (x.state.next a_ref) f x.ids (ids_below _ _ j x.ids h.low) ∙ h.gives f τ ob c))
 
@@ -150,7 +152,7 @@ own_below app b (mscope i a l w) h = (h.0, h.1, tt, tt)
 module _ (app : App) (b : ℕ) where
   deep_is : (n : ℕ) (ms : MScope) → ScopeBelow app b ms → (e : Expr) (st : State) → b ≤ st.next a_ref
       → Binds app b ms st (bind_deep n app ms e st) (λ τ f. eval_deep n app τ (scope_by f ms) e)
-  deep_is zero ms low e st le = new_is app b ms st (constant_form undefined) (λ τ f. absent) (λ f τ c. refl)
+  deep_is zero ms low e st le = new_is app b ms st (constant_form undefined) tt (λ τ f. absent) (λ f τ c. refl)
   deep_is (suc n) (mscope i a l w) low e st le =
       expr_is app b i a l w low (bind_deep n app (own (mscope i a l w))) (λ τ f. eval_deep n app τ (own_scope (scope_by f (mscope i a l w))))
       (λ g st' le'. own_is app b (mscope i a l w) st' _ _ (deep_is n (own (mscope i a l w)) (own_below app b (mscope i a l w) low) g st' le')) e st le
@@ -171,7 +173,7 @@ module _ (app : App) (b : ℕ) where
       (λ g st' le'. own_is app b (mscope i a l w) st' _ _ (deep_is (getters_in app (mscope i a l w)) (own (mscope i a l w)) (own_below app b (mscope i a l w) low) g st' le')) ns st le
 
   pub value_is : (ms : MScope) → ScopeBelow app b ms → (v : AttrValue) (st : State) → b ≤ st.next a_ref → Binds app b ms st (bind_value app ms v st) (λ τ f. eval_value app τ (scope_by f ms) v)
-  value_is ms low (t.fixed z) st le = new_is app b ms st (constant_form (text z)) (λ τ f. of_value (text z)) (λ f τ c. refl)
+  value_is ms low (t.fixed z) st le = new_is app b ms st (constant_form (text z)) tt (λ τ f. of_value (text z)) (λ f τ c. refl)
   value_is ms low (t.live e) st le = bound_is ms low e st le
 
   pub args_are : (ms : MScope) → ScopeBelow app b ms → (gs : List (Text × AttrValue)) (st : State) → b ≤ st.next a_ref
@@ -189,7 +191,7 @@ module _ (app : App) (b : ℕ) where
   params_are ms [] rs st le h = none_named app b ms st
   params_are ms (n ∷ ns) [] st le h =
       let x = new_ref (constant_form undefined) st in
-      let k = new_is app b ms st (constant_form undefined) (λ τ f. absent) (λ f τ c. refl) in
+      let k = new_is app b ms st (constant_form undefined) tt (λ τ f. absent) (λ f τ c. refl) in
       let le1 : b ≤ x.state.next a_ref = (let j = k.moves.more (ref 0) in omega (arith, j, le)) in
       cons_named app b ms st n x (bind_params ns [] x.state) _ _ k (params_are ms ns [] x.state le1 tt)
   params_are ms (n ∷ ns) (r ∷ rs) st le h =

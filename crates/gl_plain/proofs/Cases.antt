@@ -108,7 +108,7 @@ component_app = record {
     actions = [];
     teardown = false;
     template = stmt (component_stmt (codes "Box") (attribute (codes "class") (fixed (codes "z")) ∷ modifier (codes "m") (expr (this (codes "n") []) no_exprs) no_named ∷ []) ((codes "v", live (this (codes "n") [])) ∷ [])
-    (block (codes "default") (codes "p" ∷ []) (stmt (put (bare (codes "p") [])) end) no_slots)) end;
+        (block (codes "default") (codes "p" ∷ []) (stmt (put (bare (codes "p") [])) end) no_slots)) end;
   } ∷ record {
     name = codes "Box";
     file = codes "box.hbs";

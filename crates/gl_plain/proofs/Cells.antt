@@ -31,7 +31,7 @@ module _ (app : App) (τ : Store) (q : Path) where
   cells_move [] st = no_move st
   cells_move (f ∷ fs) st =
       let st1 = made_row (source_form (cell q f.0) (cell_value app τ q f.0)) st in let c = grow_cells app τ q fs st1 in
-      both_made st st1 c.state (ref (st.next a_ref) ∷ []) c.made (row_moves (source_form (cell q f.0) (cell_value app τ q f.0)) st) (cells_move fs st1)
+      both_made st st1 c.state (ref (st.next a_ref) ∷ []) c.made (row_moves (source_form (cell q f.0) (cell_value app τ q f.0)) st tt) (cells_move fs st1)
 
   -- the cell of a name
   abbrev pub Found : Text → BoundNames → Type 0
@@ -53,7 +53,7 @@ module _ (app : App) (τ : Store) (q : Path) where
         let self : 0 < occurs (ref r) (ref r ∷ []) = (let k = hit_self (ref r) in omega (arith, k)) in
         let is = make_at a_ref (row (record { form = source_form (cell q f.0) (cell_value app τ q f.0); last = any_of [] })) st in
         let stays = before_new st (made_row (source_form (cell q f.0) (cell_value app τ q f.0)) st) c.state (λ z. occurs z (ref r ∷ [])) (λ z. occurs z c.made)
-        (row_moves (source_form (cell q f.0) (cell_value app τ q f.0)) st) (cells_move fs (made_row (source_form (cell q f.0) (cell_value app τ q f.0)) st)) (ref r) self in (
+        (row_moves (source_form (cell q f.0) (cell_value app τ q f.0)) st tt) (cells_move fs (made_row (source_form (cell q f.0) (cell_value app τ q f.0)) st)) (ref r) self in (
           r,
           ap (λ b. if b then Some r else named x c.names) t,
           left_above _ _ (hit_self (ref r)),

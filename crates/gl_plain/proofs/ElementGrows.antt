@@ -17,12 +17,12 @@ use Rattle.gl_plain.specs.Stands.{Obeys, CellsIn, Gives, attrs_by, mods_by, head
 use Rattle.gl_plain.specs.InScope.{InScope}
 use Rattle.gl_plain.proofs.Moves.{Moves, both_new, before_new, recount, no_move, make_moves, make_at, hit_self, is_old, owned_after}
 use Rattle.gl_plain.proofs.Pairs.{obeys_pairs, obeys_less, left_occurs}
-use Rattle.gl_plain.proofs.Binding.{obeys_right}
+use Rattle.gl_plain.proofs.Binding.{obeys_right, ids_below}
 use Rattle.gl_plain.proofs.Stay.{stay_in, attrs_stay, spot_stays_in, left_above, right_above}
 use Rattle.gl_plain.proofs.Placing.{scope_grows, Older, older_still, older_stays, place_in}
 use Rattle.gl_plain.proofs.Grows.{Grown, GrownIn}
 use Rattle.gl_plain.proofs.Elements.{element_attrs, element_mods, distinct_by, taken_by, live_by, taken_pairs_by, near_parts}
-use Rattle.gl_plain.proofs.Tags.{ModsMean, names_mean, taken_means, live_means, fixed_means, WrittenGives, written_are, refs_move, refs_mean}
+use Rattle.gl_plain.proofs.Tags.{ModsMean, names_mean, taken_means, live_means, fixed_means, WrittenGives, written_are, refs_move, refs_mean, GivensBelow, ModsBelow, attributes_below, modifiers_below, taken_below, refs_low}
 use Rattle.gl_plain.specs.Ids.{a_ref, a_node, a_modifier, Id, ref, node, hit, occurs, modifier_id}
 use Rattle.gl_plain.specs.State.{Names, names_by, MScope, scope_by, element_content, content, modifier_row, Installed, State, make, note_installed, pair_of}
 use Rattle.gl_plain.specs.Live.{times_attrs, times_mods, times_in}
@@ -32,7 +32,7 @@ low_still b st st' c le m = let h = m.more (ref 0) in omega (arith, h, le)
 
 -- Attributes
 
-module _ (app : App) (τ : Store) (b : ℕ) (w : Scope) (ms : MScope) (ps : List Part) (made : List Id) (parts : List Waiting) where
+module _ (app : App) (τ : Store) (b : ℕ) (w : Scope) (ms : MScope) (ps : List Part) (made : List Id) (parts : List Waiting) (n0 : ℕ) (low : GivensBelow n0 (attributes_waiting parts)) where
   abbrev pub live_names : List Text → List Text
   live_names ns = filter (λ k. some_live (taken_values k (attrs_by ps w))) ns
 
@@ -65,11 +65,11 @@ module _ (app : App) (τ : Store) (b : ℕ) (w : Scope) (ms : MScope) (ps : List
   pairs_are : (f : ℕ → Pair) → scope_by f ms ≡ w → (n : Text) → map (λ v. eval_value app τ (scope_by f v.by) v.value) (taken_values n vs) ≡ taken_pairs app τ (attrs_by ps w) n
   pairs_are f e n = taken_pairs_by f app τ ms ps n ∙ ap (λ z. taken_pairs app τ (attrs_by ps z) n) e
 
-  pub attrs_grow : (ns : List Text) (st : State) → b ≤ st.next a_ref → InScope app τ b st.look ms w → Older st made → Bound st → AttrsAre ns st (give_attrs gs ns st)
-  attrs_grow [] st le s o h = record { attrs = refl; moves = no_move st; stands = tt }
-  attrs_grow (n ∷ ns) st le s o h = by (some_waiting_live (taken_waiting n gs)) refl (attrs_grow ns) where
+  pub attrs_grow : (ns : List Text) (st : State) → n0 ≤ st.next a_ref → b ≤ st.next a_ref → InScope app τ b st.look ms w → Older st made → Bound st → AttrsAre ns st (give_attrs gs ns st)
+  attrs_grow [] st ne le s o h = record { attrs = refl; moves = no_move st; stands = tt }
+  attrs_grow (n ∷ ns) st ne le s o h = by (some_waiting_live (taken_waiting n gs)) refl (attrs_grow ns) where
     by : (u : Bool) → some_waiting_live (taken_waiting n gs) ≡ u
-        → ((st' : State) → b ≤ st'.next a_ref → InScope app τ b st'.look ms w → Older st' made → Bound st' → AttrsAre ns st' (give_attrs gs ns st'))
+        → ((st' : State) → n0 ≤ st'.next a_ref → b ≤ st'.next a_ref → InScope app τ b st'.look ms w → Older st' made → Bound st' → AttrsAre ns st' (give_attrs gs ns st'))
         → AttrsAre (n ∷ ns) st
         (if u
         then (let x = place (given_refs (taken_waiting n gs) st) in let r = give_attrs gs ns x.state in record { attrs = (n, attribute_value x.pairs) ∷ r.attrs; spots = record { name = n; spot = x.spot } ∷ r.spots; state = r.state })
@@ -89,12 +89,13 @@ module _ (app : App) (τ : Store) (b : ℕ) (w : Scope) (ms : MScope) (ps : List
         ∙ taken_pairs_by f app ρ ms ps n) in
         let s0 = scope_grows app τ b st x0.state ms w (λ q. occurs q x0.made) le m0 s in
         let x = place x0 in
-        let k = place_in app τ ms made st x0 E (taken_pairs app τ (attrs_by ps w) n) m0 (older_still st x0.state made (λ q. occurs q x0.made) m0 o) gives s0.cells (ap (λ z. taken_pairs app τ (attrs_by ps z) n) s0.is) in
+        let k = place_in app τ ms made st x0 E (taken_pairs app τ (attrs_by ps w) n) m0 (older_still st x0.state made (λ q. occurs q x0.made) m0 o) (refs_low n0 (taken_waiting n gs) st ne (taken_below n0 n gs low)) gives s0.cells (ap (λ z. taken_pairs app τ (attrs_by ps z) n) s0.is) in
         let cx : Id → ℕ = λ q. occurs q x.spot.made in
         let le1 = low_still b st x.state cx le k.moves in
         let s1 = scope_grows app τ b st x.state ms w cx le k.moves s in
         let o1 = older_still st x.state made cx k.moves o in
-        let i = g x.state le1 s1 o1 (bound_still st x.state cx k.moves o h) in
+        let ne1 : n0 ≤ x.state.next a_ref = (let j = k.moves.more (ref 0) in omega (arith, j, ne)) in
+        let i = g x.state ne1 le1 s1 o1 (bound_still st x.state cx k.moves o h) in
         let r = give_attrs gs ns x.state in
         let cr : Id → ℕ = λ q. times_attrs q r.spots in
         let live : some_live (taken_values n (attrs_by ps w)) ≡ true = live_is f0 s.is n ∙ (sym (live_means app f0 τ (taken_values n vs) (taken_waiting n gs) means) ∙ e) in
@@ -110,7 +111,7 @@ module _ (app : App) (τ : Store) (b : ℕ) (w : Scope) (ms : MScope) (ps : List
     by false e g =
         let f0 = pair_of st.look in
         let means = taken_means app f0 τ n vs gs (h f0 τ (obeys_pairs st.look made) s.cells).0 in
-        let i = g st le s o h in
+        let i = g st ne le s o h in
         let r = give_attrs gs ns st in
         let live : some_live (taken_values n (attrs_by ps w)) ≡ false = live_is f0 s.is n ∙ (sym (live_means app f0 τ (taken_values n vs) (taken_waiting n gs) means) ∙ e) in
         record {
@@ -175,8 +176,12 @@ module _ (app : App) where
   eval_names ρ g s t.no_named = refl
   eval_names ρ g s (t.named_expr n e ns) = ap (λ zs. n ∷ zs) (eval_names ρ g s ns)
 
+mods_wider : (n m : ℕ) → n ≤ m → (ks : List WaitingModifier) → ModsBelow n ks → ModsBelow m ks
+mods_wider n m le [] h = tt
+mods_wider n m le (k ∷ ks) h = (ids_below n m le (k.ids ++ map (λ y. y.1) k.names) h.0, mods_wider n m le ks h.1)
+
 pub noted_installed : (st st' : State) (a a' : Id → ℕ) (r : ℕ) → Moves st st' a a' → Moves st (note_installed r st') a a'
-noted_installed st st' a a' r m = record { kept = m.kept; more = m.more; fewer = m.fewer; once = m.once; old = m.old; still = m.still; gone = m.gone }
+noted_installed st st' a a' r m = record { kept = m.kept; more = m.more; fewer = m.fewer; once = m.once; old = m.old; still = m.still; gone = m.gone; lower = m.lower }
 
 module _ (app : App) (τ : Store) (b : ℕ) (w : Scope) (ms : MScope) (made : List Id) (f0 : ℕ → Pair) (e0 : scope_by f0 ms ≡ w) (n : ℕ) where
   -- what was bound means what was written, in this state
@@ -184,12 +189,12 @@ module _ (app : App) (τ : Store) (b : ℕ) (w : Scope) (ms : MScope) (made : Li
   BoundMods st ds ks = (f : ℕ → Pair) (ρ : Store) → Obeys st.look made f → CellsIn app ρ f ms → ModsMean app f ρ ds ks
 
   pub mods_grow : (ds : List (WrittenModifier MScope)) (ks : List WaitingModifier) (ws : Scope → List (WrittenModifier Scope)) → ((f : ℕ → Pair) → ws (scope_by f ms) ≡ map (modifier_by f) ds)
-      → (i : ℕ) (st : State) → b ≤ st.next a_ref → InScope app τ b st.look ms w → Older st made → BoundMods st ds ks
+      → (i : ℕ) (st : State) → b ≤ st.next a_ref → InScope app τ b st.look ms w → Older st made → ModsBelow (st.next a_ref) ks → BoundMods st ds ks
       → ModsAre app τ b w ms made n ws i (map (modifier_by f0) ds) st (install_all n i ks st)
-  mods_grow [] [] ws e i st le s o h = record { moves = no_move st; stands = tt }
-  mods_grow [] (k ∷ ks) ws e i st le s o h = absurd (h (pair_of st.look) τ (obeys_pairs st.look made) s.cells)
-  mods_grow (d ∷ ds) [] ws e i st le s o h = absurd (h (pair_of st.look) τ (obeys_pairs st.look made) s.cells)
-  mods_grow (d ∷ ds) (k ∷ ks) ws e i st le s o h =
+  mods_grow [] [] ws e i st le s o lw h = record { moves = no_move st; stands = tt }
+  mods_grow [] (k ∷ ks) ws e i st le s o lw h = absurd (h (pair_of st.look) τ (obeys_pairs st.look made) s.cells)
+  mods_grow (d ∷ ds) [] ws e i st le s o lw h = absurd (h (pair_of st.look) τ (obeys_pairs st.look made) s.cells)
+  mods_grow (d ∷ ds) (k ∷ ks) ws e i st le s o lw h =
       let f1 = pair_of st.look in
       let here = h f1 τ (obeys_pairs st.look made) s.cells in
       let now : ws w ≡ map (modifier_by f0) (d ∷ ds) = ap ws (sym e0) ∙ e f0 in
@@ -203,13 +208,13 @@ module _ (app : App) (τ : Store) (b : ℕ) (w : Scope) (ms : MScope) (made : Li
       let m = modifier_of app τ [] 0 (modifier_by f0 d) in
       let ps = modifier_pairs app τ (modifier_by f0 d) in
       let z = place x in
-      let kp = place_in app τ ms made st x E ps (no_move st) o gives s.cells (ap (λ y. pairs_for app τ (head_of (ws y))) s.is ∙ ap (λ y. pairs_for app τ (head_of y)) now) in
+      let kp = place_in app τ ms made st x E ps (no_move st) o lw.0 gives s.cells (ap (λ y. pairs_for app τ (head_of (ws y))) s.is ∙ ap (λ y. pairs_for app τ (head_of y)) now) in
       let vals = values_in z.pairs in
       let id = z.state.next a_modifier in
       let count0 = length k.ids in
       let names0 = map (λ y. y.0) k.names in
       let row : Installed = record { on_node = n; place = i; name = k.name; args = first_values count0 vals; names = named_with names0 (values_from count0 vals) } in
-      let mm = noted_installed z.state (make a_modifier (modifier_row row) z.state) (λ q. 0) (λ q. hit q (modifier_id id)) id (make_moves a_modifier (modifier_row row) z.state) in
+      let mm = noted_installed z.state (make a_modifier (modifier_row row) z.state) (λ q. 0) (λ q. hit q (modifier_id id)) id (make_moves a_modifier (modifier_row row) z.state tt) in
       let st1 = note_installed id (make a_modifier (modifier_row row) z.state) in
       let m1 = both_new st z.state st1 (λ q. occurs q z.spot.made) (λ q. hit q (modifier_id id)) kp.moves mm in
       let count : Id → ℕ = λ q. hit q (modifier_id id) + occurs q z.spot.made in
@@ -218,7 +223,7 @@ module _ (app : App) (τ : Store) (b : ℕ) (w : Scope) (ms : MScope) (made : Li
       let s1 = scope_grows app τ b st st1 ms w count le m2 s in
       let o1 = older_still st st1 made count m2 o in
       let h1 : BoundMods st1 ds ks = (λ f ρ ob c. (h f ρ (obeys_less st.look st1.look made made f (λ q u. (u, older_stays st st1 made count m2 o (ref q) u)) ob) c).3) in
-      let g = mods_grow ds ks (λ s'. tail_of (ws s')) (λ f. ap tail_of (e f)) (suc i) st1 le1 s1 o1 h1 in
+      let g = mods_grow ds ks (λ s'. tail_of (ws s')) (λ f. ap tail_of (e f)) (suc i) st1 le1 s1 o1 (mods_wider (st.next a_ref) (st1.next a_ref) (m2.more (ref 0)) ks lw.1) h1 in
       let r = install_all n (suc i) ks st1 in
       let cr : Id → ℕ = λ q. times_mods q r.spots in
       let counted : count0 ≡ length m.args = sym (count_same f1 k.ids) ∙ (ap length here.1 ∙ (eval_count app τ _ (scope_by f1 d.by) d.args ∙ sym (eval_count app τ _ (scope_by f0 d.by) d.args))) in
@@ -262,13 +267,14 @@ module _ (app : App) (τ : Store) (m : ℕ) (d : GrowComponents) (y : GrowYields
       let o0 : Older x.state made = is_old x.state cm (owned_after st x.state (λ q. 0) cm hx.moves) in
       let f0 = pair_of x.state.look in
       let waiting = (hx.gives f0 τ (obeys_pairs x.state.look made) s0.cells).0 in
+      let lowg = attributes_below (x.state.next a_ref) x.parts hx.low in
       let a = flush_parts x.parts x.state in
-      let ha = attrs_grow app τ b w ms ps made x.parts (names_waiting gs) x.state le0 s0 o0 hx.gives in
+      let ha = attrs_grow app τ b w ms ps made x.parts (x.state.next a_ref) lowg (names_waiting gs) x.state (omega arith) le0 s0 o0 hx.gives in
       let names : names_waiting gs ≡ distinct_names (attrs_by ps w) =
       names_mean app f0 τ vs gs waiting ∙ sym (ap (λ z. distinct_names (attrs_by ps z)) (sym s0.is) ∙ (ap distinct_names (element_attrs f0 ms ps) ∙ distinct_by f0 vs)) in
       let n = a.state.next a_node in
       let st1 = made_node (element_content tag a.attrs) a.state in
-      let mn = make_moves a_node (content (element_content tag a.attrs)) a.state in
+      let mn = make_moves a_node (content (element_content tag a.attrs)) a.state tt in
       let ca : Id → ℕ = λ q. times_attrs q a.spots in
       let cn : Id → ℕ = λ q. hit q (node n) in
       let ma = both_new st x.state a.state cm ca hx.moves ha.moves in
@@ -291,7 +297,7 @@ module _ (app : App) (τ : Store) (m : ℕ) (d : GrowComponents) (y : GrowYields
       let hm : BoundMods app τ b w ms made f0 s0.is n r.1 (modifiers_in ws) ks =
       (λ f ρ ob cells. (hx.gives f ρ (obeys_less x.state.look r.1.look made made f (λ q u. (u, older_stays x.state r.1 made since ms2 o0 (ref q) u)) ob) cells).1) in
       let z = install_parts n 0 x.parts r.1 in
-      let hz = mods_grow app τ b w ms made f0 s0.is n (modifiers_in ws) ks (mods_by ps) (λ f. element_mods f ms ps) 0 r.1 le2 s2 o2 hm in
+      let hz = mods_grow app τ b w ms made f0 s0.is n (modifiers_in ws) ks (mods_by ps) (λ f. element_mods f ms ps) 0 r.1 le2 s2 o2 (mods_wider (x.state.next a_ref) (r.1.next a_ref) (ms2.more (ref 0)) ks (modifiers_below (x.state.next a_ref) x.parts hx.low)) hm in
       let cz : Id → ℕ = λ q. times_mods q z.spots in
       let m3 = both_new st r.1 z.state upto cz m2 hz.moves in
       let last = before_new st r.1 z.state upto cz m2 hz.moves in
@@ -304,9 +310,9 @@ module _ (app : App) (τ : Store) (m : ℕ) (d : GrowComponents) (y : GrowYields
         stands = (
           last (node n) (left_above _ _ (right_above _ _ (hit_self (node n))))
               ∙ (mid (node n) (right_above _ _ (hit_self (node n)))
-              ∙ (make_at a_node (content (element_content tag a.attrs)) a.state ∙ ap (λ k. Some (content (element_content tag k))) (ha.attrs ∙ ap (all_attrs app τ b w ms ps made x.parts) names))),
-          subst (λ k. AttrsStand app τ τ z.state.look made w ms (attrs_by ps) (live_names app τ b w ms ps made x.parts k) a.spots) names
-              (attrs_stay app a.state.look z.state.look τ τ made w ms (attrs_by ps) (live_names app τ b w ms ps made x.parts (names_waiting gs)) a.spots
+              ∙ (make_at a_node (content (element_content tag a.attrs)) a.state ∙ ap (λ k. Some (content (element_content tag k))) (ha.attrs ∙ ap (all_attrs app τ b w ms ps made x.parts (x.state.next a_ref) lowg) names))),
+          subst (λ k. AttrsStand app τ τ z.state.look made w ms (attrs_by ps) (live_names app τ b w ms ps made x.parts (x.state.next a_ref) lowg k) a.spots) names
+              (attrs_stay app a.state.look z.state.look τ τ made w ms (attrs_by ps) (live_names app τ b w ms ps made x.parts (x.state.next a_ref) lowg (names_waiting gs)) a.spots
               (older_stays a.state z.state made after ms3 oa) (before_new x.state a.state z.state ca after ha.moves ms3) ha.stands),
           subst (λ k. ModsStand app τ τ z.state.look made n w ms (mods_by ps) 0 k z.spots) (sym mods) hz.stands,
           stay_in app r.1.look z.state.look τ τ m b w ms p 0 c r.0 (λ q u. last q (right_above _ _ u)) g.stands,

@@ -24,7 +24,7 @@ use Rattle.gl_plain.specs.Stands.{From, SpottedIn, attrs_by, mods_by, head_of, t
 use Rattle.gl_plain.proofs.Moves.{Moves, right_owned, both_move, then_move, recount, before_it, beside, left_owned, next_owned, same_owned, owned_after, id_itself, hit_self, unhit}
 use Rattle.gl_plain.proofs.Stay.{Same, stay_in, attrs_stay, mods_stay, spot_stays_in, left_above, right_above}
 use Rattle.gl_plain.proofs.ElementGrows.{eval_count, eval_names, args_first, args_after, names_after}
-use Rattle.gl_plain.proofs.Rereads.{Cold, CellsKeep, scope_less, put_moves, same_moves, noted_move, stale_in, cold_in, evaluated_in, cold_spot_in}
+use Rattle.gl_plain.proofs.Rereads.{reads_same, Cold, CellsKeep, scope_less, put_moves, same_moves, noted_move, stale_in, cold_in, evaluated_in, cold_spot_in}
 use Rattle.gl_plain.proofs.Renewing.{Ready, ready_goes, Renewed, next_more, idle_after, idle_before, idle_same, from_left, from_right}
 use Rattle.gl_plain.proofs.Renews.{BodyRenews}
 use Rattle.gl_plain.proofs.Keeping.{keep_less}
@@ -83,8 +83,8 @@ module _ (app : App) (σ τ : Store) (b : ℕ) (v w : Scope) (ms : MScope) (ps :
       let is = stale_in app τ ms made z (pairs_for_name k) (taken_pairs app σ (attrs_by ps v) k) (taken_pairs app τ (attrs_by ps w) k) st h r.scope.cells (ap (λ y. taken_pairs app τ (attrs_by ps y) k) r.scope.is) in
       let st1 = evaluate z.ref st in
       let x = content (changed_attr k (attribute_value (spot_pairs st z.ref)) (st.look (node n))) in
-      let m1 = noted_move st _ count count z.ref (put_moves st count (ref z.ref) _ o (right_above _ _ h.own)) in
-      let m2 = put_moves st1 count (node n) x (owned_after st st1 count count m1) (left_above _ _ (hit_self (node n))) in
+      let m1 = noted_move st _ count count z.ref (put_moves st count (ref z.ref) _ o (right_above _ _ h.own) (reads_same st z.ref _ h.is.0)) in
+      let m2 = put_moves st1 count (node n) x (owned_after st st1 count count m1) (left_above _ _ (hit_self (node n))) (λ l i e. tt) in
       let same : Same st1.look (put_thing (node n) x st1).look (λ q. occurs q z.made) =
       (λ q a. let c = o.once q in ap (λ d. if d then Some x else st1.look q) (unhit q (node n) (omega (arith, c, a)))) in
       record {
@@ -185,7 +185,7 @@ module _ (app : App) (σ τ : Store) (b : ℕ) (v w : Scope) (ms : MScope) (ps :
 -- Modifiers
 
 modifier_noted : (st st' : State) (a a' : Id → ℕ) (r : ℕ) → Moves st st' a a' → Moves st (note_updated r st') a a'
-modifier_noted st st' a a' r m = record { kept = m.kept; more = m.more; fewer = m.fewer; once = m.once; old = m.old; still = m.still; gone = m.gone }
+modifier_noted st st' a a' r m = record { kept = m.kept; more = m.more; fewer = m.fewer; once = m.once; old = m.old; still = m.still; gone = m.gone; lower = m.lower }
 
 module _ (app : App) (σ τ : Store) (b : ℕ) (v w : Scope) (ms : MScope) (made : List Id) (n : ℕ) where
   abbrev modifier_row_of : Store → ℕ → WrittenModifier Scope → Thing
@@ -244,8 +244,8 @@ module _ (app : App) (σ τ : Store) (b : ℕ) (v w : Scope) (ms : MScope) (made
         let st1 = evaluate z.spot.ref st in
         let y = modifier_row (refreshed z (values_in (spot_pairs st z.spot.ref)) (st.look (modifier_id z.id))) in
         let st2 = put_thing (modifier_id z.id) y st1 in
-        let m1 = noted_move st _ count count z.spot.ref (put_moves st count (ref z.spot.ref) _ o (right_above _ _ h.own)) in
-        let m2 = put_moves st1 count (modifier_id z.id) y (owned_after st st1 count count m1) (left_above _ _ (hit_self (modifier_id z.id))) in
+        let m1 = noted_move st _ count count z.spot.ref (put_moves st count (ref z.spot.ref) _ o (right_above _ _ h.own) (reads_same st z.spot.ref _ h.is.0)) in
+        let m2 = put_moves st1 count (modifier_id z.id) y (owned_after st st1 count count m1) (left_above _ _ (hit_self (modifier_id z.id))) (λ l i e. tt) in
         let same : Same st1.look st2.look (λ q. occurs q z.spot.made) =
         (λ q a. let c = o.once q in ap (λ d. if d then Some y else st1.look q) (unhit q (modifier_id z.id) (omega (arith, c, a)))) in
         record {

@@ -54,7 +54,7 @@ module _ (app : App) (τ : Store) where
       stands = g.stands;
     }
     by false e =
-        let n = make_moves a_node (content (comment_content [])) r.1 in
+        let n = make_moves a_node (content (comment_content [])) r.1 tt in
         let st' = made_node (comment_content []) r.1 in
         record {
           moves = both_new st r.1 st' (λ q. times_in q r.0) (λ q. hit q (node (r.1.next a_node))) g.moves n;
@@ -67,7 +67,7 @@ module _ (app : App) (τ : Store) where
   new_from b st st' c le m q lt = let h = m.fewer (ref q) (omega (arith, lt, le)) in omega (arith, h)
 
   forget : (st st' : State) (c : Id → ℕ) → Moves st st' (λ q. 0) c → Moves st st' (λ q. 0) (λ q. 0)
-  forget st st' c m = record { kept = m.kept; more = m.more; fewer = λ q lt. omega arith; once = λ q. omega arith; old = λ q le. refl; still = m.still; gone = λ q lt w z. absurd (omega (arith, w)) }
+  forget st st' c m = record { kept = m.kept; more = m.more; fewer = λ q lt. omega arith; once = λ q. omega arith; old = λ q le. refl; still = m.still; gone = λ q lt w z. absurd (omega (arith, w)); lower = m.lower }
 
   pub still_low : (b : ℕ) (st st' : State) (c : Id → ℕ) → b ≤ st.next a_ref → Moves st st' (λ q. 0) c → b ≤ st'.next a_ref
   still_low b st st' c le m = let h = m.more (ref 0) in omega (arith, h, le)
@@ -115,8 +115,8 @@ module _ (app : App) (τ : Store) where
       let st2 = made_row fi st1 in
       let y = bind_params ns (v ∷ i ∷ []) st2 in
       let back : named_as ns (refs_of y.names) ≡ y.names = named_back ns (v ∷ i ∷ []) st2 in
-      let mv = row_moves fv st in
-      let mi = row_moves fi st1 in
+      let mv = row_moves fv st tt in
+      let mi = row_moves fi st1 tt in
       let m2 = both_made st st1 st2 (ref v ∷ []) (ref i ∷ []) mv mi in
       let made2 = ref v ∷ ref i ∷ [] in
       let bv = in_top v made2 (left_above _ _ (hit_self (ref v))) in
@@ -203,7 +203,7 @@ module _ (app : App) (τ : Store) where
           let h = place_exprs app τ b ms w (one_expr e) st le s in
           let n = x.state.next a_node in
           let st' = made_node (text_content (text_of (first_value x.pairs))) x.state in
-          let k = after_spot b ms (one_expr e) w st st' x (λ q. hit q (node n)) h (make_moves a_node (content (text_content (text_of (first_value x.pairs)))) x.state) in
+          let k = after_spot b ms (one_expr e) w st st' x (λ q. hit q (node n)) h (make_moves a_node (content (text_content (text_of (first_value x.pairs)))) x.state tt) in
           record {
             moves = recount st st' (λ q. 0) (λ q. 0) (λ q. hit q (node n) + occurs q x.spot.made) (λ q. occurs q x.spot.made + hit q (node n)) (λ q. refl) (λ q. omega arith) k.0;
             stands = (
@@ -281,8 +281,8 @@ module _ (app : App) (τ : Store) where
       mutual
         pub stmt_grows : (x : t.Stmt) (b : ℕ) (w : Scope) (i : Inst) (a l : Names) (p : Path) (st : State) → b ≤ st.next a_ref → InScope app τ b st.look (mscope i a l v) w
             → Grown m b w (mscope i a l v) p x st (grow_stmt app d y (mscope i a l v) p x st)
-        stmt_grows (t.text_stmt z) b w i a l p st le s = record { moves = make_moves a_node (content (text_content z)) st; stands = make_at a_node (content (text_content z)) st }
-        stmt_grows (t.comment_stmt z) b w i a l p st le s = record { moves = make_moves a_node (content (comment_content z)) st; stands = make_at a_node (content (comment_content z)) st }
+        stmt_grows (t.text_stmt z) b w i a l p st le s = record { moves = make_moves a_node (content (text_content z)) st tt; stands = make_at a_node (content (text_content z)) st }
+        stmt_grows (t.comment_stmt z) b w i a l p st le s = record { moves = make_moves a_node (content (comment_content z)) st tt; stands = make_at a_node (content (comment_content z)) st }
         stmt_grows (t.put e) b w i a l p st le s = put_grows b w i a l p st le s e
         stmt_grows (t.element tag ps c) b w i a l p st le s = element_grows tag ps c (body_grows c) b w i a l p st le s
         stmt_grows (t.component_stmt c ps given bs) b w i a l p st le s = hd b w (mscope i a l v) p c ps given bs st le s

@@ -97,7 +97,7 @@ module _ (app : App) (τ : Store) where
           }
 
   forget : (st st' : State) (c : Id → ℕ) → Moves st st' (λ q. 0) c → Moves st st' (λ q. 0) (λ q. 0)
-  forget st st' c m = record { kept = m.kept; more = m.more; fewer = λ q lt. omega arith; once = λ q. omega arith; old = λ q le. refl; still = m.still; gone = λ q lt w z. absurd (omega (arith, w)) }
+  forget st st' c m = record { kept = m.kept; more = m.more; fewer = λ q lt. omega arith; once = λ q. omega arith; old = λ q le. refl; still = m.still; gone = λ q lt w z. absurd (omega (arith, w)); lower = m.lower }
 
   -- An instance with its template, at a path, where something is passed that is in scope.
   pub record InstanceGrown (n b : ℕ) (q : Path) (made : List Id) (args : Names) (given : NamedPairs) (o : Option ℕ) (v : MPassed) (w : Passed) (st st1 : State) (r : Live × State) : Type 0 where
@@ -135,7 +135,7 @@ module _ (app : App) (τ : Store) where
         let le1 = made_below b st0 st made le m in
         let mc = cells_move app τ q fields st in
         let m1 = both_made st0 st c.state made c.made m mc in
-        let mi = make_moves an_instance (instance_row i) c.state in
+        let mi = make_moves an_instance (instance_row i) c.state tt in
         let ci : Id → ℕ = λ x. hit x (instance_id i.id) in
         let m2 = recount st0 st2 (λ x. 0) (λ x. 0) (λ x. occurs x all) (λ x. occurs x (made ++ c.made) + ci x) (λ x. refl) (λ x. omega arith) (both_new st0 c.state st2 (λ x. occurs x (made ++ c.made)) ci m1 mi) in
         let up = both_new st c.state st2 (λ x. occurs x c.made) ci mc mi in
@@ -214,7 +214,7 @@ module _ (app : App) (τ : Store) where
       let k = z.state.next a_block in
       let st1 = make a_block block_row z.state in
       let mz = both_made st a.state z.state a.made z.made h.moves hz.moves in
-      let m = both_new st z.state st1 (λ q. occurs q made) (λ q. hit q (block_id k)) mz (make_moves a_block block_row z.state) in
+      let m = both_new st z.state st1 (λ q. occurs q made) (λ q. hit q (block_id k)) mz (make_moves a_block block_row z.state tt) in
       record { moves = forget st st1 (λ q. occurs q made + hit q (block_id k)) m; stands = refl }
   components_grow (suc n) b w ms p c ps given bs st le s =
       let a = bind_args app ms given st in
@@ -228,7 +228,7 @@ module _ (app : App) (τ : Store) where
       let both = a.made ++ z.made in
       let made = block_id k ∷ both in
       let mz = both_made st a.state z.state a.made z.made h.moves hz.moves in
-      let mk = make_moves a_block block_row z.state in
+      let mk = make_moves a_block block_row z.state tt in
       let ck : Id → ℕ = λ q. hit q (block_id k) in
       let ca : Id → ℕ = λ q. occurs q both in
       let m = recount st st1 (λ q. 0) (λ q. 0) (λ q. occurs q made) (λ q. ca q + ck q) (λ q. refl) (λ q. omega arith) (both_new st z.state st1 ca ck mz mk) in

@@ -1,10 +1,11 @@
 -- What a step over one part leaves to the others.
-use Rattle.std.proofs.Common.{◌≡◌, ℕ, suc, ◌+◌, ◌<◌, ◌≤◌, Bool, true, false, true≢false, List, [], ◌∷◌, ◌++◌, Some, None, cond, refl, sym, ◌∙◌, ap, ap₂, arith, inl, inr, ◌⊎◌}
+use Rattle.gl_plain.specs.Reads.{ReadsLower, RowsReadLower}
+use Rattle.std.proofs.Common.{◌≡◌, subst, ℕ, suc, ◌+◌, ◌<◌, ◌≤◌, Bool, true, false, true≢false, List, [], ◌∷◌, ◌++◌, Some, None, cond, refl, sym, ◌∙◌, ap, ap₂, arith, inl, inr, ◌⊎◌}
 use Rattle.std.specs.Prelude.{if◌then◌else◌}
 use Rattle.std.proofs.lemmas.Bool.{cases_lt}
 use Rattle.gl_meaning.specs.Scope.{Source}
 use Rattle.gl_plain.specs.Ids
-use Rattle.gl_plain.specs.Ids.{Kind, Id, id_eq, kind_eq, hit, occurs}
+use Rattle.gl_plain.specs.Ids.{Kind, Id, id_eq, kind_eq, hit, occurs, ref}
 use Rattle.gl_plain.specs.State.{Thing, State, make}
 use Rattle.gl_plain.specs.Stands.{Owned}
 use Rattle.gl_meaning.proofs.Equal.{both_left, both_right, both_true}
@@ -20,6 +21,7 @@ pub record Moves (st st' : State) (before after : Id → ℕ) : Type 0 where
   pub still : (x : Source) → st'.touched x ≡ false → st.touched x ≡ false
   -- what is no longer the part's own is there no longer
   pub gone : (q : Id) → q.num < st.next q.kind → 0 < before q → after q ≡ 0 → st'.look q ≡ None
+  pub lower : RowsReadLower st.look → RowsReadLower st'.look
 
 pub owned_after : (st st' : State) (a b : Id → ℕ) → Moves st st' a b → Owned st' b
 owned_after st st' a b m = record { once = m.once; old = m.old }
@@ -36,6 +38,7 @@ both_move st st1 st2 a a' b b' o m n = record {
   old = λ q le. let i = m.old q (let w = n.more q in omega (arith, w, le)) in let k = n.old q le in omega (arith, i, k);
   still = λ x e. m.still x (n.still x e);
   gone = λ q lt w z. gone_case q lt w z (cases_lt 0 (a q));
+  lower = λ l. n.lower (m.lower l);
 } where
   gone_case : (q : Id) → q.num < st.next q.kind → 0 < a q + b q → a' q + b' q ≡ 0 → ((0 < a q) ⊎ (a q ≤ 0)) → st2.look q ≡ None
   gone_case q lt w z (inl u) =
@@ -62,6 +65,7 @@ then_move st st1 st2 a b c m n = record {
   old = n.old;
   still = λ x e. m.still x (n.still x e);
   gone = λ q lt w z. gone_case q lt w z (cases_lt 0 (b q));
+  lower = λ l. n.lower (m.lower l);
 } where
   gone_case : (q : Id) → q.num < st.next q.kind → 0 < a q → c q ≡ 0 → ((0 < b q) ⊎ (b q ≤ 0)) → st2.look q ≡ None
   gone_case q lt w z (inl u) = let k = m.more q in n.gone q (omega (arith, k, lt)) u z
@@ -77,6 +81,7 @@ recount st st' a a' b b' e f m = record {
   old = λ q le. f q ∙ m.old q le;
   still = m.still;
   gone = λ q lt w z. m.gone q lt (let k = e q in omega (arith, w, k)) (sym (f q) ∙ z);
+  lower = m.lower;
 }
 
 -- a part that moved stays while the part beside it moves
@@ -126,7 +131,7 @@ pub nothing_owned : (st : State) → Owned st (λ q. 0)
 nothing_owned st = record { once = λ q. omega arith; old = λ q le. refl }
 
 pub no_move : (st : State) → Moves st st (λ q. 0) (λ q. 0)
-no_move st = record { kept = λ q lt zero. refl; more = λ q. omega arith; fewer = λ q lt. omega arith; once = λ q. omega arith; old = λ q le. refl; still = λ x e. e; gone = λ q lt w z. absurd (omega (arith, w)) }
+no_move st = record { kept = λ q lt zero. refl; more = λ q. omega arith; fewer = λ q lt. omega arith; once = λ q. omega arith; old = λ q le. refl; still = λ x e. e; gone = λ q lt w z. absurd (omega (arith, w)); lower = λ l. l }
 
 -- new parts one after the other
 pub both_new : (st st1 st2 : State) (a b : Id → ℕ) → Moves st st1 (λ q. 0) a → Moves st1 st2 (λ q. 0) b → Moves st st2 (λ q. 0) (λ q. a q + b q)
@@ -218,8 +223,8 @@ make_more k x st q = by (kind_eq q.kind k) refl where
   by true e = let h : st.next q.kind ≡ st.next k = ap st.next (kind_means q.kind k e) in omega (arith, h)
   by false e = omega arith
 
-pub make_moves : (k : Kind) (x : Thing) (st : State) → Moves st (make k x st) (λ q. 0) (λ q. hit q (record { kind = k; num = st.next k }))
-make_moves k x st =
+pub make_moves : (k : Kind) (x : Thing) (st : State) → ReadsLower (st.next k) (Some x) → Moves st (make k x st) (λ q. 0) (λ q. hit q (record { kind = k; num = st.next k }))
+make_moves k x st fits =
     let r : Id = record { kind = k; num = st.next k } in
     record {
       kept = λ q lt zero. ap (λ b. if b then Some x else st.look q) (unhit q r (is_other q lt));
@@ -229,7 +234,12 @@ make_moves k x st =
       old = λ q le. hit_num q r (λ e f. let h : (make k x st).next q.kind ≡ suc (st.next k) = ap (λ j. cond {A = ℕ} (kind_eq j k) (suc (st.next k)) (st.next j)) e ∙ ap (λ b. cond {A = ℕ} b (suc (st.next k)) (st.next k)) (kind_itself k) in omega (arith, le, h, f));
       still = λ y e. e;
       gone = λ q lt w z. absurd (omega (arith, w));
+      lower = λ l i. reads_lower i (l i) (id_case (ref i) r);
     } where
+      reads_lower : (i : ℕ) → ReadsLower i (st.look (ref i)) → IdCase (ref i) (record { kind = k; num = st.next k }) → ReadsLower i ((make k x st).look (ref i))
+      reads_lower i l (inl e) = subst (λ b. ReadsLower i (if b then Some x else st.look (ref i))) (sym e.0) (subst (λ j. ReadsLower j (Some x)) (sym (ap (λ q. q.num) e.1)) fits)
+      reads_lower i l (inr e) = subst (λ b. ReadsLower i (if b then Some x else st.look (ref i))) (sym e) l
+
       is_other : (q : Id) → q.num < st.next q.kind → hit q (record { kind = k; num = st.next k }) ≡ 0
       is_other q lt = hit_num q (record { kind = k; num = st.next k }) (λ e f. let h : st.next q.kind ≡ st.next k = ap st.next e in omega (arith, lt, h, f))
 

@@ -1,4 +1,5 @@
 -- New scopes and new positions.
+use Rattle.gl_plain.specs.Reads.{IdsBelow}
 use Rattle.gl_value.specs.Value.{undefined}
 use Rattle.std.proofs.Common.{◌≡◌, ℕ, zero, suc, max, ◌<◌, ◌≤◌, List, [], ◌∷◌, ◌++◌, map, Option, Some, refl, sym, ◌∙◌, ap, subst, arith}
 use Rattle.gl_base.specs.Texts.{Text}
@@ -13,11 +14,11 @@ use Rattle.gl_plain.specs.Stands.{CellsIn, Gives, SpottedIn, top, NamesBelow, Fr
 use Rattle.gl_plain.specs.InScope.{InScope}
 use Rattle.gl_plain.proofs.Moves.{Moves, is_old, owned_after, occurs_append, make_moves, make_at, recount, hit_self}
 use Rattle.gl_plain.proofs.Pairs.{pairs_agree, scope_same, cells_same, names_append, names_by_append, names_below, scope_below, obeys_pairs, obeys_less, left_occurs, right_occurs}
-use Rattle.gl_plain.proofs.Binding.{BindsAll, BindsNames, obeys_left, obeys_right, both_made, top_append}
+use Rattle.gl_plain.proofs.Binding.{BindsAll, BindsNames, obeys_left, obeys_right, both_made, top_append, ids_below}
 use Rattle.gl_plain.proofs.Bound.{made_below, bound_are, params_are}
 
 pub noted : (st st' : State) (a a' : Id → ℕ) (r : ℕ) → Moves st st' a a' → Moves st (note_evaluated r st') a a'
-noted st st' a a' r m = record { kept = m.kept; more = m.more; fewer = m.fewer; once = m.once; old = m.old; still = m.still; gone = m.gone }
+noted st st' a a' r m = record { kept = m.kept; more = m.more; fewer = m.fewer; once = m.once; old = m.old; still = m.still; gone = m.gone; lower = m.lower }
 
 -- a scope goes on while parts move that have none of its references
 pub scope_goes : (app : App) (τ : Store) (b : ℕ) (st st' : State) (ms : MScope) (w : Scope) (a a' : Id → ℕ) → b ≤ st.next a_ref → From b a → Moves st st' a a'
@@ -75,21 +76,21 @@ pub record PlacedIs (app : App) (b : ℕ) (ms : MScope) (st : State) (x : Placed
   pub spotted : Spotted app x.state.look ms x.spot E ps
   pub shows : x.pairs ≡ ps
 
-all_moves : (rs : List ℕ) (ps : List Pair) (st : State) → let r = st.next a_ref in
+all_moves : (rs : List ℕ) (ps : List Pair) (st : State) → IdsBelow (st.next a_ref) rs → let r = st.next a_ref in
     Moves st (note_evaluated r (make a_ref (row (record { form = all_form rs; last = any_of (sources_of ps) })) st)) (λ q. 0) (λ q. occurs q (ref r ∷ []))
-all_moves rs ps st =
+all_moves rs ps st fits =
     let r = st.next a_ref in let x = row (record { form = all_form rs; last = any_of (sources_of ps) }) in
     noted st (make a_ref x st) (λ q. 0) (λ q. occurs q (ref r ∷ [])) r
-    (recount st (make a_ref x st) (λ q. 0) (λ q. 0) (λ q. occurs q (ref r ∷ [])) (λ q. hit q (ref r)) (λ q. refl) (λ q. omega arith) (make_moves a_ref x st))
+    (recount st (make a_ref x st) (λ q. 0) (λ q. 0) (λ q. occurs q (ref r ∷ [])) (λ q. hit q (ref r)) (λ q. refl) (λ q. omega arith) (make_moves a_ref x st fits))
 
 pub place_is : (app : App) (τ : Store) (b : ℕ) (ms : MScope) (st : State) (x : BoundAll) (E : Store → (ℕ → Pair) → List Pair) (ps : List Pair)
-    → BindsAll app b ms st x E → CellsIn app τ (pair_of x.state.look) ms → E τ (pair_of x.state.look) ≡ ps → PlacedIs app b ms st (place x) E ps
-place_is app τ b ms st x E ps h c e =
+    → BindsAll app b ms st x E → IdsBelow (x.state.next a_ref) x.ids → CellsIn app τ (pair_of x.state.look) ms → E τ (pair_of x.state.look) ≡ ps → PlacedIs app b ms st (place x) E ps
+place_is app τ b ms st x E ps h fits c e =
     let r = x.state.next a_ref in
     let vs = map (pair_of x.state.look) x.ids in
     let y : Row = record { form = all_form x.ids; last = any_of (sources_of vs) } in
     let st' = note_evaluated r (make a_ref (row y) x.state) in
-    let n = all_moves x.ids vs x.state in
+    let n = all_moves x.ids vs x.state fits in
     let made = x.made ++ ref r ∷ [] in
     let shows : vs ≡ ps = h.gives (pair_of x.state.look) τ (obeys_pairs x.state.look x.made) c ∙ e in
     record {
@@ -122,14 +123,14 @@ pub older_stays : (st st' : State) (made : List Id) (c : Id → ℕ) → Moves s
 older_stays st st' made c m o q w = m.kept q (o q w) refl
 
 pub place_in : (app : App) (τ : Store) (ms : MScope) (more : List Id) (st : State) (x : BoundAll) (E : Store → (ℕ → Pair) → List Pair) (ps : List Pair)
-    → Moves st x.state (λ q. 0) (λ q. occurs q x.made) → Older x.state more → Gives app x.state.look (more ++ x.made) ms (λ f. map f x.ids) E
+    → Moves st x.state (λ q. 0) (λ q. occurs q x.made) → Older x.state more → IdsBelow (x.state.next a_ref) x.ids → Gives app x.state.look (more ++ x.made) ms (λ f. map f x.ids) E
     → CellsIn app τ (pair_of x.state.look) ms → E τ (pair_of x.state.look) ≡ ps → PlacedIn app ms more st (place x) E ps
-place_in app τ ms more st x E ps m older gives c e =
+place_in app τ ms more st x E ps m older fits gives c e =
     let r = x.state.next a_ref in
     let vs = map (pair_of x.state.look) x.ids in
     let y : Row = record { form = all_form x.ids; last = any_of (sources_of vs) } in
     let st' = note_evaluated r (make a_ref (row y) x.state) in
-    let n = all_moves x.ids vs x.state in
+    let n = all_moves x.ids vs x.state fits in
     let made = x.made ++ ref r ∷ [] in
     let shows : vs ≡ ps = gives (pair_of x.state.look) τ (obeys_pairs x.state.look (more ++ x.made)) c ∙ e in
     let own = is_old x.state (λ q. occurs q x.made) (owned_after st x.state (λ q. 0) (λ q. occurs q x.made) m) in
@@ -163,4 +164,4 @@ place_exprs app τ b ms w es st le s =
     let x = bind_exprs app ms es st in
     let h = bound_are app b ms s.low es st le in
     let s1 = scope_grows app τ b st x.state ms w (λ q. occurs q x.made) le h.moves s in
-    place_is app τ b ms st x (exprs_by app ms es) (eval_all app τ w es) h s1.cells (ap (λ z. eval_all app τ z es) s1.is)
+    place_is app τ b ms st x (exprs_by app ms es) (eval_all app τ w es) h (ids_below _ _ (made_below b st x.state x.made le h.moves) x.ids h.low) s1.cells (ap (λ z. eval_all app τ z es) s1.is)

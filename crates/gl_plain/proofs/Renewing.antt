@@ -202,7 +202,7 @@ module _ (app : App) (σ τ : Store) where
       × (spot_pairs st1 z.ref ≡ eval_all app τ w es) × Owned st1 c × ((q : Id) → 0 < c q → st1.look q ≡ st.look q)
   spot_then b st ms v w z es r c o from h =
       let st1 = reread z.ref st in
-      let m = reread_moves st z (left_owned st (λ q. occurs q z.made) c o) h.own in
+      let m = reread_moves st z _ (left_owned st (λ q. occurs q z.made) c o) h.own h.is.0 in
       let r1 = ready_goes b st st1 ms v w (λ q. occurs q z.made) (λ q. occurs q z.made) r m from in
       let s1 = reread_spot app τ ms z (exprs_by app ms es) (eval_all app σ v es) (eval_all app τ w es) st h r.scope.cells (ap (λ u. eval_all app τ u es) r.scope.is) (eval_all_keeps (Cold st) app σ τ r.cells r.keeps es) in (
         m,

@@ -27,7 +27,7 @@ use Rattle.gl_plain.proofs.Moves.{Moves, both_move, then_move, recount, before_i
 use Rattle.gl_plain.proofs.Stay.{Same, stay, stay_in, stay_items, comment_stays, cells_stay, gives_stays, spot_stays, left_above, right_above}
 use Rattle.gl_plain.proofs.Grows.{entries_grow}
 use Rattle.gl_plain.proofs.Layers.{all_grow, yields_grow, components_grow}
-use Rattle.gl_plain.proofs.Rereads.{Cold, put_moves, same_moves, noted_move, drop_moves, stale_pairs, cold_pairs, evaluated_spot, cold_spot}
+use Rattle.gl_plain.proofs.Rereads.{reads_same, Cold, put_moves, same_moves, noted_move, drop_moves, stale_pairs, cold_pairs, evaluated_spot, cold_spot}
 use Rattle.gl_plain.proofs.Renewing.{Ready, ready_goes, Renewed, RenewedIn, ArmRenewed, idle_before, idle_same, from_left, from_right, from_after, made_old, flipped, flipped_new, next_more, new_is_new, kept_arm, let_ready, yield_ready, component_ready, spot_then}
 use Rattle.gl_meaning.proofs.Once.{Later, Distinct, distinct}
 use Rattle.gl_plain.proofs.Syncs.{EachHandle, AllRight, ItemRenewed, ItemsRenewed, items_count, sync_is, sync_keeps, Absent, EachAbsent, AllKept, front_other, front_none}
@@ -47,8 +47,8 @@ module _ (app : App) (σ τ : Store) where
       let is = stale_pairs app τ ms z E old new st h.1 r.scope.cells (ap (λ y. eval_all app τ y (one_expr e)) r.scope.is) in
       let st1 = evaluate z.ref st in
       let x = content (text_content (text_of (first_value (spot_pairs st z.ref)))) in
-      let m1 = noted_move st _ count count z.ref (put_moves st count (ref z.ref) _ o (right_above _ _ h.1.own)) in
-      let m2 = put_moves st1 count (node n) x (owned_after st st1 count count m1) (left_above _ _ (hit_self (node n))) in
+      let m1 = noted_move st _ count count z.ref (put_moves st count (ref z.ref) _ o (right_above _ _ h.1.own) (reads_same st z.ref _ h.1.is.0)) in
+      let m2 = put_moves st1 count (node n) x (owned_after st st1 count count m1) (left_above _ _ (hit_self (node n))) (λ l i e. tt) in
       let same : Same st1.look (put_thing (node n) x st1).look (λ q. occurs q z.made) =
       (λ q a. let k = o.once q in ap (λ c. if c then Some x else st1.look q) (unhit q (node n) (omega (arith, k, a)))) in
       record {

@@ -1,4 +1,5 @@
 -- A position that is read again, where it is stale, has what is read now.
+use Rattle.gl_plain.specs.Reads.{IdsBelow, ReadsLower, RowsReadLower}
 use Rattle.std.proofs.Common.{◌≡◌, ◌≢◌, ℕ, ◌<◌, ◌||◌, Bool, true, false, true≢false, List, [], ◌∷◌, ◌++◌, map, Option, Some, None, refl, sym, ◌∙◌, ap, subst, arith, inl, inr, ◌⊎◌}
 use Rattle.std.specs.Prelude.{if◌then◌else◌, nat_eq}
 use Rattle.std.specs.List.{list_any}
@@ -92,8 +93,8 @@ none_touched st (x ∷ xs) e = (or_left (st.touched x) (list_any st.touched xs) 
 -- Steps on what is owned
 
 -- another thing for an id of the part
-pub put_moves : (st : State) (count : Id → ℕ) (i : Id) (x : Thing) → Owned st count → 0 < count i → Moves st (put_thing i x st) count count
-put_moves st count i x o w = record {
+pub put_moves : (st : State) (count : Id → ℕ) (i : Id) (x : Thing) → Owned st count → 0 < count i → (RowsReadLower st.look → (n : ℕ) → ref n ≡ i → ReadsLower n (Some x)) → Moves st (put_thing i x st) count count
+put_moves st count i x o w fits = record {
   kept = λ q lt zero. ap (λ b. if b then Some x else st.look q) (by q zero (id_case q i));
   more = λ q. omega arith;
   fewer = λ q lt. omega arith;
@@ -101,16 +102,21 @@ put_moves st count i x o w = record {
   old = o.old;
   still = λ y e. e;
   gone = λ q lt c z. absurd (omega (arith, c, z));
+  lower = λ l n. reads_lower l n (id_case (ref n) i);
 } where
+  reads_lower : RowsReadLower st.look → (n : ℕ) → IdCase (ref n) i → ReadsLower n ((put_thing i x st).look (ref n))
+  reads_lower l n (inl e) = subst (λ b. ReadsLower n (if b then Some x else st.look (ref n))) (sym e.0) (fits l n e.1)
+  reads_lower l n (inr e) = subst (λ b. ReadsLower n (if b then Some x else st.look (ref n))) (sym e) (l n)
+
   by : (q : Id) → count q ≡ 0 → IdCase q i → id_eq q i ≡ false
   by q z (inl e) = let k : count q ≡ count i = ap count e.1 in absurd (omega (arith, z, k, w))
   by q z (inr e) = e
 
 pub same_moves : (st : State) (count : Id → ℕ) → Owned st count → Moves st st count count
-same_moves st count o = record { kept = λ q lt zero. refl; more = λ q. omega arith; fewer = λ q lt. omega arith; once = o.once; old = o.old; still = λ y e. e; gone = λ q lt c z. absurd (omega (arith, c, z)) }
+same_moves st count o = record { kept = λ q lt zero. refl; more = λ q. omega arith; fewer = λ q lt. omega arith; once = o.once; old = o.old; still = λ y e. e; gone = λ q lt c z. absurd (omega (arith, c, z)); lower = λ l. l }
 
 pub noted_move : (st st' : State) (a a' : Id → ℕ) (r : ℕ) → Moves st st' a a' → Moves st (note_evaluated r st') a a'
-noted_move st st' a a' r m = record { kept = m.kept; more = m.more; fewer = m.fewer; once = m.once; old = m.old; still = m.still; gone = m.gone }
+noted_move st st' a a' r m = record { kept = m.kept; more = m.more; fewer = m.fewer; once = m.once; old = m.old; still = m.still; gone = m.gone; lower = m.lower }
 
 -- a part that goes
 pub drop_moves : (st : State) (count : Id → ℕ) → Moves st (dropped count st) count (λ q. 0)
@@ -122,7 +128,12 @@ drop_moves st count = record {
   old = λ q le. refl;
   still = λ y e. e;
   gone = λ q lt w z. ap (λ b. if b then st.look q else None) (by_not q w (eqb_tells (count q) 0));
+  lower = λ l n. reads_lower n (l n) (nat_eq (count (ref n)) 0);
 } where
+  reads_lower : (n : ℕ) → ReadsLower n (st.look (ref n)) → (b : Bool) → ReadsLower n (if b then st.look (ref n) else None)
+  reads_lower n l true = l
+  reads_lower n l false = tt
+
   by_not : (q : Id) → 0 < count q → ((nat_eq (count q) 0 ≡ true) × (count q ≡ 0)) ⊎ ((nat_eq (count q) 0 ≡ false) × (count q ≢ 0)) → nat_eq (count q) 0 ≡ false
   by_not q w (inl e) = let k = e.1 in absurd (omega (arith, w, k))
   by_not q w (inr e) = e.0
@@ -192,6 +203,11 @@ pub cold_spot : (app : App) (ms : MScope) (z : Spot) (E : Store → (ℕ → Pai
     → Spotted app look ms z E old → old ≡ new → Spotted app look ms z E new
 cold_spot app ms z = cold_spot_in app ms [] z
 
+-- a position that is evaluated reads what it read
+pub reads_same : (st : State) (r : ℕ) (last : (Source → Bool) → Bool) → st.look (ref r) ≡ Some (row (record { form = all_form (spot_ids (st.look (ref r))); last = last }))
+    → RowsReadLower st.look → (n : ℕ) → ref n ≡ ref r → ReadsLower n (Some (row (record { form = all_form (spot_ids (st.look (ref r))); last = any_of (sources_of (spot_pairs st r)) })))
+reads_same st r last at l n e = subst (λ i. IdsBelow i (spot_ids (st.look (ref r)))) (sym (ap (λ q. q.num) e)) (subst (ReadsLower r) at (l r))
+
 -- a position that is read again where it is stale
 pub record Reread (app : App) (ms : MScope) (z : Spot) (E : Store → (ℕ → Pair) → List Pair) (new : List Pair) (st st' : State) : Type 0 where
   pub moves : Moves st st' (λ q. occurs q z.made) (λ q. occurs q z.made)
@@ -206,10 +222,11 @@ pub spot_shows : (app : App) (τ : Store) (ms : MScope) (z : Spot) (E : Store �
     → Spotted app look ms z E new → CellsIn app τ (pair_of look) ms → E τ (pair_of look) ≡ new → map (pair_of look) (spot_ids (look (ref z.ref))) ≡ new
 spot_shows app τ ms z = spot_shows_in app τ ms [] z
 
-pub reread_moves : (st : State) (z : Spot) → Owned st (λ q. occurs q z.made) → 0 < occurs (ref z.ref) z.made → Moves st (reread z.ref st) (λ q. occurs q z.made) (λ q. occurs q z.made)
-reread_moves st z o w = by (is_stale st z.ref) where
+pub reread_moves : (st : State) (z : Spot) (last : (Source → Bool) → Bool) → Owned st (λ q. occurs q z.made) → 0 < occurs (ref z.ref) z.made
+    → st.look (ref z.ref) ≡ Some (row (record { form = all_form (spot_ids (st.look (ref z.ref))); last = last })) → Moves st (reread z.ref st) (λ q. occurs q z.made) (λ q. occurs q z.made)
+reread_moves st z last o w at = by (is_stale st z.ref) where
   by : (b : Bool) → Moves st (if b then evaluate z.ref st else st) (λ q. occurs q z.made) (λ q. occurs q z.made)
-  by true = noted_move st _ (λ q. occurs q z.made) (λ q. occurs q z.made) z.ref (put_moves st (λ q. occurs q z.made) (ref z.ref) _ o w)
+  by true = noted_move st _ (λ q. occurs q z.made) (λ q. occurs q z.made) z.ref (put_moves st (λ q. occurs q z.made) (ref z.ref) _ o w (reads_same st z.ref last at))
   by false = same_moves st (λ q. occurs q z.made) o
 
 pub reread_spot : (app : App) (τ : Store) (ms : MScope) (z : Spot) (E : Store → (ℕ → Pair) → List Pair) (old new : List Pair) (st : State)

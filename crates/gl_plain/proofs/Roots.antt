@@ -15,7 +15,7 @@ use Rattle.gl_plain.specs.Renew.{renew_root, renew_body}
 use Rattle.gl_plain.specs.Drawn.{drawn_app, drawn_in}
 use Rattle.gl_plain.specs.Stands.{top, Owned, StandIn}
 use Rattle.gl_plain.specs.Machine.{no_place, RootStands, OnlyTouched}
-use Rattle.gl_plain.specs.Laws.{StandingShows, DeepIsDeep, AppendedStands, UpdatedStands, UpdateLeavesOthers, IdsAreKept, LaidStands, FreshIsIdle}
+use Rattle.gl_plain.specs.Laws.{StandingShows, DeepIsDeep, AppendedStands, UpdatedStands, UpdateLeavesOthers, RowsStayLower, IdsAreKept, LaidStands, FreshIsIdle}
 use Rattle.gl_plain.proofs.Moves.{Moves, owned_after, left_owned, right_owned, recount, no_move, is_old, hit_self}
 use Rattle.gl_plain.proofs.Binding.{in_top}
 use Rattle.gl_plain.proofs.Stay.{cells_stay, left_above, right_above}
@@ -89,6 +89,12 @@ updated_stands app σ τ st l h cells =
 
 pub update_leaves_others : UpdateLeavesOthers
 update_leaves_others app σ τ st l h cells = let g = root_updated app σ τ app.limit st l h.owned h.stands cells in (g.0.kept, g.0.more, g.0.fewer, λ q w z. g.0.gone q (is_old st (λ i. times i l) h.owned q w) w z)
+
+pub rows_stay_lower : RowsStayLower
+rows_stay_lower = (
+  λ app τ st low. (root_appended app τ app.limit st).0.lower low,
+  λ app σ τ st l h cells low. (root_updated app σ τ app.limit st l h.owned h.stands cells).0.lower low,
+)
 
 root_shows : (app : App) (τ : Store) (m : ℕ) (st : State) (l : Live) → Owned st (λ q. times q l) → RootStands app τ τ st.look m l → drawn_app app st.look l ≡ components_at m app τ [] [] nothing_passed
 root_shows app τ (suc m) st (Live.component_live i made gm args None ls) o h =

@@ -1,4 +1,5 @@
 -- A list that is synced by keys stands for the list of now.
+use Rattle.gl_plain.specs.Reads.{ReadsLower}
 use Rattle.std.proofs.Common.{◌≡◌, ℕ, suc, max, ◌+◌, ◌<◌, ◌||◌, Bool, true, false, true≢false, List, [], ◌∷◌, Option, Some, None, refl, sym, ◌∙◌, ap, ap₂, subst, arith, inl, inr}
 use Rattle.std.specs.Prelude.{if◌then◌else◌}
 use Rattle.std.specs.Bool.{Decides}
@@ -74,11 +75,16 @@ give_by st count r x u v o w self at false e = record {
     old = o.old;
     still = λ y f. or_right_false (source_eq y x) (st.touched y) f;
     gone = λ q lt c z. absurd (omega (arith, c, z));
+    lower = λ l n. reads_lower n (l n) (id_eq (ref n) (ref r));
   };
   row = ap (λ b. if b then Some (row (record { form = source_form x v; last = any_of [] })) else st.look (ref r)) (id_itself (ref r));
   others = λ q z. other q (unhit q (ref r) z);
   keeps = λ c. absurd (true≢false (sym self ∙ or_left_false (source_eq x x) (st.touched x) c));
 } where
+  reads_lower : (n : ℕ) → ReadsLower n (st.look (ref n)) → (b : Bool) → ReadsLower n (if b then Some (row (record { form = source_form x v; last = any_of [] })) else st.look (ref n))
+  reads_lower n l true = tt
+  reads_lower n l false = l
+
   count_other : (q : Id) → count q ≡ 0 → IdCase q (ref r) → id_eq q (ref r) ≡ false
   count_other q z (inl k) = let j : count q ≡ count (ref r) = ap count k.1 in absurd (omega (arith, z, j, w))
   count_other q z (inr k) = k

@@ -1,5 +1,7 @@
 -- The parts of a tag that were bound mean what was written.
-use Rattle.std.proofs.Common.{◌≡◌, Option, ℕ, ◌≤◌, Bool, true, false, true≢false, List, [], ◌∷◌, ◌++◌, map, cond, refl, sym, ◌∙◌, ap, ap₂, subst, arith}
+use Rattle.gl_plain.proofs.Pairs.{names_below}
+use Rattle.gl_plain.specs.Reads.{IdsBelow}
+use Rattle.std.proofs.Common.{◌≡◌, Option, ℕ, ◌≤◌, Bool, true, false, true≢false, List, [], ◌∷◌, ◌++◌, map, cond, refl, sym, ◌∙◌, ap, ap₂, subst, arith, suc, max, ◌<◌}
 use Rattle.std.specs.Prelude.{if◌then◌else◌, filter, ◌||◌, not, codes}
 use Rattle.std.specs.Str.{bytes_eq}
 use Rattle.gl_base.specs.Texts.{Text}
@@ -11,14 +13,14 @@ use Rattle.gl_meaning.specs.Scope.{Pair, of_value}
 use Rattle.gl_meaning.specs.Eval.{Store, eval, eval_all, eval_named, eval_value}
 use Rattle.gl_meaning.specs.Parts.{Written, WrittenValue, WrittenModifier, attributes_in, distinct_names, taken_values, last_only, is_live, some_live, modifiers_in}
 use Rattle.gl_plain.specs.Ids.{a_ref, Id, ref, occurs}
-use Rattle.gl_plain.specs.State.{names_by, constant_form, MScope, scope_by, Thing, State}
+use Rattle.gl_plain.specs.State.{names_by, constant_form, MScope, scope_by, Thing, State, refs_of}
 use Rattle.gl_plain.specs.Binding.{bind_expr, bind_exprs, bind_pairs}
 use Rattle.gl_plain.specs.Tags.{BoundParts, bind_part, bind_written, Given, fixed_given, live_given, attributes_waiting, names_waiting, taken_waiting, is_live_given, some_waiting_live, given_pairs, given_refs, WaitingModifier, modifiers_waiting}
 use Rattle.gl_plain.specs.Tags as tags
 use Rattle.gl_plain.specs.Stands.{Obeys, CellsIn}
 use Rattle.gl_plain.proofs.Moves.{Moves, no_move}
-use Rattle.gl_plain.proofs.Binding.{row_moves, both_made, obeys_left, obeys_right, new_is}
-use Rattle.gl_plain.proofs.Bound.{bound_is, bound_are, bound_names}
+use Rattle.gl_plain.proofs.Binding.{row_moves, both_made, obeys_left, obeys_right, new_is, ids_append, ids_of_names, ids_below}
+use Rattle.gl_plain.proofs.Bound.{bound_is, bound_are, bound_names, made_below}
 use Rattle.gl_plain.proofs.Elements.{Near, NearWritten}
 
 module _ (app : App) (f : ℕ → Pair) (ρ : Store) where
@@ -102,6 +104,53 @@ module _ (app : App) (f : ℕ → Pair) (ρ : Store) where
   fixed_means [] (g ∷ gs) h e = absurd h
   fixed_means (w ∷ ws) [] h e = absurd h
 
+-- Of the parts that wait, no reference has a number from n on.
+
+abbrev pub PartsBelow : ℕ → List tags.Waiting → Type 0
+PartsBelow n [] = Unit {0}
+PartsBelow n (tags.fixed_part k t ∷ ws) = PartsBelow n ws
+PartsBelow n (tags.live_part k r ∷ ws) = (r < n) × PartsBelow n ws
+PartsBelow n (tags.modifier_part k rs ns ∷ ws) = IdsBelow n (rs ++ refs_of ns) × PartsBelow n ws
+
+abbrev pub GivenBelow : ℕ → Given → Type 0
+GivenBelow n (fixed_given t) = Unit {0}
+GivenBelow n (live_given r) = r < n
+
+abbrev pub GivensBelow : ℕ → List (Text × Given) → Type 0
+GivensBelow n [] = Unit {0}
+GivensBelow n (g ∷ gs) = GivenBelow n g.1 × GivensBelow n gs
+
+abbrev pub ModsBelow : ℕ → List WaitingModifier → Type 0
+ModsBelow n [] = Unit {0}
+ModsBelow n (k ∷ ks) = IdsBelow n (k.ids ++ refs_of k.names) × ModsBelow n ks
+
+pub attributes_below : (n : ℕ) (ws : List tags.Waiting) → PartsBelow n ws → GivensBelow n (attributes_waiting ws)
+attributes_below n [] h = tt
+attributes_below n (tags.fixed_part k t ∷ ws) h = (tt, attributes_below n ws h)
+attributes_below n (tags.live_part k r ∷ ws) h = (h.0, attributes_below n ws h.1)
+attributes_below n (tags.modifier_part k rs ns ∷ ws) h = attributes_below n ws h.1
+
+pub modifiers_below : (n : ℕ) (ws : List tags.Waiting) → PartsBelow n ws → ModsBelow n (modifiers_waiting ws)
+modifiers_below n [] h = tt
+modifiers_below n (tags.fixed_part k t ∷ ws) h = modifiers_below n ws h
+modifiers_below n (tags.live_part k r ∷ ws) h = modifiers_below n ws h.1
+modifiers_below n (tags.modifier_part k rs ns ∷ ws) h = (h.0, modifiers_below n ws h.1)
+
+group_below : (n : ℕ) (test : Text × Given → Bool) (gs : List (Text × Given)) → GivensBelow n gs → GivensBelow n (filter test gs)
+group_below n test [] h = tt
+group_below n test (g ∷ gs) h = elim (test g) as (λ c. GivensBelow n (cond c (g ∷ filter test gs) (filter test gs))) [ true ↦ (h.0, group_below n test gs h.1) | false ↦ group_below n test gs h.1 ]
+
+last_below_one : (n : ℕ) (gs : List (Text × Given)) → GivensBelow n gs → GivensBelow n (last_only gs)
+last_below_one n [] h = tt
+last_below_one n (g ∷ []) h = h
+last_below_one n (g ∷ k ∷ gs) h = last_below_one n (k ∷ gs) h.1
+
+pub taken_below : (n : ℕ) (k : Text) (gs : List (Text × Given)) → GivensBelow n gs → GivensBelow n (taken_waiting k gs)
+taken_below n k gs h =
+    let group = filter (λ w. bytes_eq k w.0) gs in
+    let low : GivensBelow n group = group_below n _ gs h in
+    elim (bytes_eq k (codes "class")) as (λ c. GivensBelow n (if c then group else last_only group)) [ true ↦ low | false ↦ last_below_one n group low ]
+
 -- What binding the parts gives. Their scopes are those in scope.
 
 module _ (app : App) (b : ℕ) (ms : MScope) where
@@ -113,17 +162,18 @@ module _ (app : App) (b : ℕ) (ms : MScope) where
   pub record BindsWritten (st : State) (ws : List (Written MScope)) (x : BoundParts) : Type 0 where
     pub moves : Moves st x.state (λ q. 0) (λ q. occurs q x.made)
     pub gives : WrittenGives x.state.look x.made ws x.parts
+    pub low : PartsBelow (x.state.next a_ref) x.parts
 
   pub still_low : (st st' : State) (c : Id → ℕ) → b ≤ st.next a_ref → Moves st st' (λ q. 0) c → b ≤ st'.next a_ref
   still_low st st' c le m = let h = m.more (ref 0) in omega (arith, h, le)
 
   pub written_are : (ws : List (Written MScope)) → NearWritten app b ms ws → (st : State) → b ≤ st.next a_ref → BindsWritten st ws (bind_written app ws st)
-  written_are [] near st le = record { moves = no_move st; gives = λ f ρ ob c. (tt, tt) }
+  written_are [] near st le = record { moves = no_move st; gives = λ f ρ ob c. (tt, tt); low = tt }
   written_are (w ∷ ws) near st le = by w.by w.part near.0 (written_are ws near.1) where
     by : (s : MScope) (p : Part) → Near app b ms s → ((st' : State) → b ≤ st'.next a_ref → BindsWritten st' ws (bind_written app ws st'))
         → BindsWritten st (record { part = p; by = s } ∷ ws) (bind_written app (record { part = p; by = s } ∷ ws) st)
     by s (t.attribute n (t.fixed z)) k rec =
-        let r = rec st le in record { moves = r.moves; gives = λ f ρ ob c. let g = r.gives f ρ ob c in ((refl, refl, g.0), g.1) }
+        let r = rec st le in record { moves = r.moves; gives = λ f ρ ob c. let g = r.gives f ρ ob c in ((refl, refl, g.0), g.1); low = r.low }
     by s (t.attribute n (t.live e)) k rec =
         let x = bind_expr app s e st in
         let h = bound_is app b s k.0 e st le in
@@ -134,6 +184,7 @@ module _ (app : App) (b : ℕ) (ms : MScope) where
           gives = λ f ρ ob c.
               let g = r.gives f ρ (obeys_right y.state.look x.made y.made f ob) c in
               ((refl, h.gives f ρ (obeys_left st x.state y.state x.made y.made f h.moves r.moves ob) (k.1 ρ f c), g.0), g.1);
+          low = (let i = h.low in let j = made_below b st x.state x.made le h.moves in let e = r.moves.more (ref 0) in omega (arith, i, j, e), r.low);
         }
     by s (t.modifier n es ns) k rec =
         let x = bind_exprs app s es st in
@@ -158,8 +209,16 @@ module _ (app : App) (b : ℕ) (ms : MScope) where
                   g.1,
                 ),
               );
+          low = (
+            let j = made_below b st x.state x.made le h.moves in
+                let u = made_below b x.state z.state z.made le1 i.moves in
+                let a = i.moves.more (ref 0) in
+                let e = r.moves.more (ref 0) in
+                ids_append _ x.ids (refs_of z.names) (ids_below _ _ (omega (arith, j, a, e)) x.ids h.low) (ids_of_names _ z.names (names_below _ _ (omega (arith, u, e)) z.names i.low)),
+            r.low,
+          );
         }
-    by s t.spread k rec = let r = rec st le in record { moves = r.moves; gives = r.gives }
+    by s t.spread k rec = let r = rec st le in record { moves = r.moves; gives = r.gives; low = r.low }
 
 -- The references of a position mean the values that it takes.
 
@@ -169,8 +228,21 @@ refs_move (g ∷ gs) st = by g.1 (refs_move gs) where
   by : (k : Given) → ((st' : State) → Moves st' (given_refs gs st').state (λ q. 0) (λ q. occurs q (given_refs gs st').made)) → let x = tags.given_ref k st in let y = given_refs gs x.state in Moves st y.state (λ q. 0) (λ q. occurs q (x.made ++ y.made))
   by (fixed_given u) rec =
       let x = tags.given_ref (fixed_given u) st in let y = given_refs gs x.state in
-      both_made st x.state y.state x.made y.made (row_moves (constant_form (text u)) st) (rec x.state)
+      both_made st x.state y.state x.made y.made (row_moves (constant_form (text u)) st tt) (rec x.state)
   by (live_given r) rec = rec st
+
+pub refs_low : (n : ℕ) (gs : List (Text × Given)) (st : State) → n ≤ st.next a_ref → GivensBelow n gs → IdsBelow ((given_refs gs st).state.next a_ref) (given_refs gs st).ids
+refs_low n [] st le h = tt
+refs_low n (g ∷ gs) st le h = by g.1 h.0 (λ st' le'. refs_low n gs st' le' h.1) where
+  by : (k : Given) → GivenBelow n k → ((st' : State) → n ≤ st'.next a_ref → IdsBelow ((given_refs gs st').state.next a_ref) (given_refs gs st').ids)
+      → let x = tags.given_ref k st in let y = given_refs gs x.state in IdsBelow (y.state.next a_ref) (x.id ∷ y.ids)
+  by (fixed_given u) i rec =
+      let x = tags.given_ref (fixed_given u) st in
+      let m = (row_moves (constant_form (text u)) st tt).more (ref 0) in
+      let e : x.state.next a_ref ≡ suc (st.next a_ref) = refl in
+      let j = (refs_move gs x.state).more (ref 0) in
+      (omega (arith, e, j), rec x.state (omega (arith, e, le)))
+  by (live_given r) i rec = let j = (refs_move gs st).more (ref 0) in (omega (arith, i, j, le), rec st le)
 
 module _ (app : App) (b : ℕ) (ms : MScope) (f : ℕ → Pair) (ρ : Store) (cells : CellsIn app ρ f ms) where
   pub refs_mean : (ws : List (WrittenValue MScope)) (gs : List (Text × Given)) (st : State) → ValuesMean app f ρ ws gs → Obeys (given_refs gs st).state.look (given_refs gs st).made f
@@ -183,7 +255,7 @@ module _ (app : App) (b : ℕ) (ms : MScope) (f : ℕ → Pair) (ρ : Store) (ce
         → (let x = tags.given_ref k st in let y = given_refs gs x.state in f x.id ∷ map f y.ids) ≡ eval_value app ρ (scope_by f w.by) v ∷ map (λ w. eval_value app ρ (scope_by f w.by) w.value) ws
     by (t.fixed z) (fixed_given u) m o rec =
         let x = tags.given_ref (fixed_given u) st in let y = given_refs gs x.state in
-        let n = new_is app b ms st (constant_form (text u)) (λ τ g. of_value (text u)) (λ g τ c. refl) in
+        let n = new_is app b ms st (constant_form (text u)) tt (λ τ g. of_value (text u)) (λ g τ c. refl) in
         ap₂ (λ p ps. p ∷ ps) (n.gives f ρ (obeys_left st x.state y.state x.made y.made f n.moves (refs_move gs x.state) o) cells ∙ ap (λ p. of_value (text p)) m)
         (rec x.state (obeys_right y.state.look x.made y.made f o))
     by (t.live e) (live_given r) m o rec = ap₂ (λ p ps. p ∷ ps) m (rec st o)
