@@ -1,7 +1,7 @@
 -- Worked turns: what the machine does, beside what the meaning counts.
-use Rattle.std.proofs.Common.{◌≡◌, ℕ, ◌+◌, List, [], ◌∷◌, length, refl}
-use Rattle.std.specs.Prelude.{pos, true, false, codes, Option, Some, None}
-use Rattle.gl_value.specs.Value.{boolean, integer, text, list, pairs, values_of, pairs_of}
+use Rattle.std.proofs.Common.{◌≡◌, ℕ, List, [], ◌∷◌, length, refl}
+use Rattle.std.specs.Prelude.{pos, true, false, codes}
+use Rattle.gl_value.specs.Value.{boolean, integer, text, list, values_of}
 use Rattle.gl_ast.specs.Template.{Plain, this, bare, argument, no_exprs, expr, no_named, fixed, live, attribute, modifier, spread, Body, text_stmt, put, element, component_stmt, if_stmt, each, yield, end, stmt, no_slots, block}
 use Rattle.gl_meaning.specs.App.{App}
 use Rattle.gl_meaning.specs.Path.{V}
@@ -9,7 +9,7 @@ use Rattle.gl_meaning.specs.Scope.{cell}
 use Rattle.gl_meaning.specs.Eval.{Store}
 use Rattle.gl_meaning.specs.Render.{Forest, no_pieces, draw}
 use Rattle.gl_meaning.specs.Work.{Work, work}
-use Rattle.gl_plain.specs.Ids.{a_node, a_modifier, hit}
+use Rattle.gl_plain.specs.Ids.{a_node, hit}
 use Rattle.gl_plain.specs.State.{State, touch}
 use Rattle.gl_plain.specs.Live.{Live}
 use Rattle.gl_plain.specs.Grow.{grow_app}

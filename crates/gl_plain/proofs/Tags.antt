@@ -1,7 +1,7 @@
 -- The parts of a tag that were bound mean what was written.
 use Rattle.gl_plain.proofs.Pairs.{names_below}
 use Rattle.gl_plain.specs.Reads.{IdsBelow}
-use Rattle.std.proofs.Common.{◌≡◌, Option, ℕ, ◌≤◌, Bool, true, false, true≢false, List, [], ◌∷◌, ◌++◌, map, cond, refl, sym, ◌∙◌, ap, ap₂, subst, arith, suc, max, ◌<◌}
+use Rattle.std.proofs.Common.{◌≡◌, Option, ℕ, ◌≤◌, Bool, true, false, true≢false, List, [], ◌∷◌, ◌++◌, map, cond, refl, sym, ◌∙◌, ap, ap₂, subst, arith, suc, ◌<◌}
 use Rattle.std.specs.Prelude.{if◌then◌else◌, filter, ◌||◌, not, codes}
 use Rattle.std.specs.Str.{bytes_eq}
 use Rattle.gl_base.specs.Texts.{Text}
