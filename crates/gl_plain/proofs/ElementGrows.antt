@@ -10,7 +10,7 @@ use Rattle.gl_meaning.specs.Scope.{Pair, NamedPairs, Scope}
 use Rattle.gl_meaning.specs.Eval.{Store, eval_all_in, eval_named_in, eval_value, values_in}
 use Rattle.gl_meaning.specs.Parts.{WrittenModifier, distinct_names, taken_values, some_live, taken_pairs, attribute_value, modifier_of, WrittenValue, attributes_in, modifiers_in}
 use Rattle.gl_plain.specs.Binding.{BoundAll, place}
-use Rattle.gl_plain.specs.MParts.{mwritten_parts, modifier_by}
+use Rattle.gl_plain.specs.Parts.{mwritten_parts, modifier_by}
 use Rattle.gl_plain.specs.Tags.{Waiting, bind_written, Given, attributes_waiting, names_waiting, taken_waiting, some_waiting_live, given_pairs, given_refs, AttrsGiven, give_attrs, flush_parts, WaitingModifier, modifiers_waiting, named_with, first_values, values_from, ModsGrown, install_all, install_parts}
 use Rattle.gl_plain.specs.Grow.{made_node, GrowComponents, GrowYields, grow_stmt, grow_body}
 use Rattle.gl_plain.specs.Stands.{Obeys, CellsIn, Gives, attrs_by, mods_by, head_of, tail_of, pairs_for, modifier_pairs, AttrsStand, ModsStand}

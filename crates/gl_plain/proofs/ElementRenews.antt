@@ -170,7 +170,7 @@ module _ (app : App) (σ τ : Store) (b : ℕ) (v w : Scope) (ms : MScope) (ps :
         moves = then_move st st1 st2 whole whole whole m1 m2;
         stands = (h.0, spot_stays_in app st1.look st2.look ms made a.spot (pairs_for_name k) (taken_pairs app τ (attrs_by ps w) k) (idle_same app σ τ st1 st2 cm rest rest om1 k2.moves) kept g.spotted, k2.stands);
         is = k2.is;
-        done = λ j. by j (bytes_eq j k) refl g.done g.still k2.done;
+        done = λ j. by j (bytes_eq j k) refl {now = g.now} {now2 = k2.now} g.done g.still k2.done;
       }
     where
       by : (j : Text) (d : Bool) → bytes_eq j k ≡ d → {now now2 : Text → Option Text} → now k ≡ new_value k → ((i : Text) → val i ≡ new_value i → now i ≡ new_value i)

@@ -11,7 +11,7 @@ use Rattle.gl_meaning.specs.Scope.{Pair, Scope, scope}
 use Rattle.gl_meaning.specs.Eval.{Store, eval_value}
 use Rattle.gl_meaning.specs.Parts.{WrittenValue, WrittenModifier, spread_in, passed_parts, written_parts, attribute_in, attributes_in, distinct_names, taken_values, last_only, is_live, some_live, modifier_in, modifiers_in, taken_pairs, Written}
 use Rattle.gl_plain.specs.State.{names_by, MScope, mscope, MPassed, mnothing, mpassed, scope_by, passed_by}
-use Rattle.gl_plain.specs.MParts.{mpassed_parts, mwritten_parts, written_by, value_by, modifier_by}
+use Rattle.gl_plain.specs.Parts.{mpassed_parts, mwritten_parts, written_by, value_by, modifier_by}
 use Rattle.gl_plain.specs.Stands.{CellsIn, CellsPassed, ScopeBelow, PassedBelow, attrs_by, mods_by}
 
 -- The machine's parts are the meaning's.

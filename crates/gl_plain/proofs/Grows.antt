@@ -14,7 +14,7 @@ use Rattle.gl_plain.specs.Ids.{a_ref, a_node, a_block, Id, ref, node, block_id, 
 use Rattle.gl_plain.specs.State.{any_of, source_form, Names, Inst, MScope, mscope, MPassed, mpassed, text_content, comment_content, content, block_row, row, Thing, State, thing_pair, pair_of, make, refs_of, named_as, names_by}
 use Rattle.gl_plain.specs.Binding.{made_row, bind_exprs, bind_args, bind_params, Placed, place, first_value}
 use Rattle.gl_plain.specs.Live.{ItemSpot, item_made, Live, Lives, Items, times, times_in, times_items, times_comment, have_node, item_names}
-use Rattle.gl_plain.specs.MParts.{mwritten_parts}
+use Rattle.gl_plain.specs.Parts.{mwritten_parts}
 use Rattle.gl_plain.specs.Tags.{bind_written}
 use Rattle.gl_plain.specs.Grow.{made_node, Arm, or_comment, item_spot, grow_item, grow_entries, branch_from, items_or_else, GrowComponents, GrowYields, grow_stmt, grow_body}
 use Rattle.gl_plain.specs.Stands.{below, top, NamesBelow, From, Spotted, exprs_by, one_expr, WhereValues, CommentStands, ItemStands, Stands, StandIn, ItemsStand, ListStands, ElseStands, LetStands, Gives}

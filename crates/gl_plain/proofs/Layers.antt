@@ -25,7 +25,7 @@ use Rattle.gl_plain.proofs.Stay.{gives_stays, cells_stay, left_above}
 use Rattle.gl_plain.proofs.Placing.{scope_grows, local_scope, params_bound, named_back}
 use Rattle.gl_plain.proofs.Cells.{cells_move, cells_stand, cells_at}
 use Rattle.gl_plain.proofs.Grows.{Grown, GrownIn, new_from, ComponentsGrow, YieldsGrow, body_grows, component_call}
-use Rattle.gl_plain.specs.MParts.{mwritten_parts}
+use Rattle.gl_plain.specs.Parts.{mwritten_parts}
 use Rattle.gl_plain.specs.Tags.{bind_written}
 use Rattle.gl_plain.proofs.Elements.{near_parts}
 use Rattle.gl_plain.proofs.Tags.{still_low, written_are}

@@ -1,21 +1,22 @@
 -- The laws of the machine.
-use Rattle.std.proofs.Common.{◌<◌, ◌≡◌, ℕ, zero, suc, max, ◌+◌, List, [], Option, None, refl, sym, ◌∙◌, ap, ap₂, subst, arith}
-use Rattle.std.specs.Prelude.{not}
+use Rattle.gl_plain.specs.Reads.{RowsReadLower, ReadsLower}
+use Rattle.std.proofs.Common.{Some, ◌<◌, ◌≡◌, ℕ, zero, suc, max, ◌+◌, List, [], Option, None, refl, sym, ◌∙◌, ap, ap₂, subst, arith, Bool, true, false}
+use Rattle.std.specs.Prelude.{not, if◌then◌else◌}
 use Rattle.gl_meaning.specs.App.{App}
-use Rattle.gl_meaning.specs.Path.{Path}
-use Rattle.gl_meaning.specs.Scope.{scope, nothing_passed}
+use Rattle.gl_meaning.specs.Path.{Path, V}
+use Rattle.gl_meaning.specs.Scope.{scope, nothing_passed, Source}
 use Rattle.gl_meaning.specs.Eval.{Store, class_at}
 use Rattle.gl_meaning.specs.Render as r
 use Rattle.gl_meaning.specs.Render.{draw, components_at, fits}
-use Rattle.gl_plain.specs.Ids.{Id, instance_id, occurs}
-use Rattle.gl_plain.specs.State.{Names, names_by, Inst, mscope, mnothing, State, pair_of, Thing}
+use Rattle.gl_plain.specs.Ids.{Id, instance_id, occurs, id_eq, ref}
+use Rattle.gl_plain.specs.State.{Names, names_by, Inst, mscope, mnothing, State, pair_of, Thing, touch, any_of, source_form, row}
 use Rattle.gl_plain.specs.Live.{Live, Lives, times, times_in, is_deep, are_deep}
 use Rattle.gl_plain.specs.Grow.{grow_components}
 use Rattle.gl_plain.specs.Renew.{renew_root, renew_body}
 use Rattle.gl_plain.specs.Drawn.{drawn_app, drawn_in}
 use Rattle.gl_plain.specs.Stands.{top, Owned, StandIn}
 use Rattle.gl_plain.specs.Machine.{no_place, RootStands, OnlyTouched}
-use Rattle.gl_plain.specs.Laws.{StandingShows, DeepIsDeep, AppendedStands, UpdatedStands, UpdateLeavesOthers, RowsStayLower, IdsAreKept, LaidStands, FreshIsIdle}
+use Rattle.gl_plain.specs.Laws.{StandingShows, DeepIsDeep, AppendedStands, UpdatedStands, UpdateLeavesOthers, RowsStayLower, IdsAreKept, LaidStands, FreshIsIdle, QuietIsIdle}
 use Rattle.gl_plain.proofs.Moves.{Moves, owned_after, left_owned, right_owned, recount, no_move, is_old, hit_self}
 use Rattle.gl_plain.proofs.Binding.{in_top}
 use Rattle.gl_plain.proofs.Stay.{cells_stay, left_above, right_above}
@@ -30,6 +31,8 @@ use Rattle.gl_plain.proofs.Renewing.{Ready, made_old, from_after, idle_before, i
 use Rattle.gl_plain.proofs.Renews.{body_renews}
 use Rattle.gl_plain.proofs.ElementRenews.{element_is}
 use Rattle.gl_plain.proofs.Deep.{and_true, all_fit}
+use Rattle.gl_plain.specs.Turns.{begin}
+use Rattle.gl_plain.proofs.Quiet.{quiet_in}
 use Rattle.gl_plain.proofs.Shown.{scope_itself, shows_in}
 
 -- the root's scope
@@ -90,8 +93,16 @@ updated_stands app σ τ st l h cells =
 pub update_leaves_others : UpdateLeavesOthers
 update_leaves_others app σ τ st l h cells = let g = root_updated app σ τ app.limit st l h.owned h.stands cells in (g.0.kept, g.0.more, g.0.fewer, λ q w z. g.0.gone q (is_old st (λ i. times i l) h.owned q w) w z)
 
+touch_lower : (st : State) (r : ℕ) (x : Source) (v : V) → RowsReadLower st.look → RowsReadLower (touch r x v st).look
+touch_lower st r x v low n = by (low n) (id_eq (ref n) (ref r)) where
+  by : ReadsLower n (st.look (ref n)) → (b : Bool) → ReadsLower n (if b then Some (row (record { form = source_form x v; last = any_of [] })) else st.look (ref n))
+  by l true = tt
+  by l false = l
+
 pub rows_stay_lower : RowsStayLower
 rows_stay_lower = (
+  λ n. tt,
+  touch_lower,
   λ app τ st low. (root_appended app τ app.limit st).0.lower low,
   λ app σ τ st l h cells low. (root_updated app σ τ app.limit st l h.owned h.stands cells).0.lower low,
 )
@@ -157,6 +168,17 @@ root_idle app σ τ _ st _ o h cells f = absurd h
 
 pub fresh_is_idle : FreshIsIdle
 fresh_is_idle app σ τ st l h cells f = root_idle app σ τ app.limit st l h.owned h.stands cells f
+
+-- At the beginning of a turn
+
+root_quiet : (app : App) (τ : Store) (m : ℕ) (st : State) (l : Live) → RootStands app τ τ st.look m l → NoneStale (begin st) l
+root_quiet app τ (suc m) st (Live.component_live i made gm args None ls) h = quiet_in app τ τ st m _ _ _ [] 0 (class_at app []).template ls h.5
+root_quiet app τ zero st (Live.deep_live q) h = tt
+root_quiet app τ _ st _ h = absurd h
+
+pub quiet_is_idle : QuietIsIdle
+quiet_is_idle app τ st l h =
+    fresh_is_idle app τ τ (begin st) l (record { owned = record { once = h.owned.once; old = h.owned.old }; stands = h.stands }) (λ i x e. refl) (root_quiet app τ app.limit st l h.stands)
 
 -- Where a component would stand too deep
 

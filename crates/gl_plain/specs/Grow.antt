@@ -12,7 +12,7 @@ use Rattle.gl_plain.specs.Ids.{a_ref, a_node, an_instance, a_block, Id, ref, blo
 use Rattle.gl_plain.specs.State.{source_form, Names, Inst, MScope, mscope, MPassed, mnothing, mpassed, refs_of, with_names, Content, element_content, text_content, comment_content, content, instance_row, block_row, State, make}
 use Rattle.gl_plain.specs.Binding.{BoundNames, made_row, bind_exprs, bind_args, bind_params, Spot, place, first_value}
 use Rattle.gl_plain.specs.Tags.{bind_written, flush_parts, install_parts}
-use Rattle.gl_plain.specs.MParts.{mwritten_parts}
+use Rattle.gl_plain.specs.Parts.{mwritten_parts}
 use Rattle.gl_plain.specs.Live.{ItemSpot, item_names, Live, still, put_live, element_live, branch_live, listed, unlisted, let_live, component_live, yield_live, deep_live, Items, no_items, item_live, Lives, no_lives, live_and, have_node}
 
 abbrev pub made_node : Content → State → State
