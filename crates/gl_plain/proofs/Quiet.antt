@@ -1,5 +1,5 @@
 -- At the beginning of a turn no position is stale.
-use Rattle.std.proofs.Common.{◌≡◌, ℕ, zero, suc, max, true, false, List, [], ◌∷◌, Option, Some, None, refl, sym, ◌∙◌, ap, subst}
+use Rattle.std.proofs.Common.{◌≡◌, ℕ, zero, suc, true, false, List, [], ◌∷◌, Option, Some, None, refl, sym, ◌∙◌, ap, subst}
 use Rattle.std.specs.List.{list_any}
 use Rattle.gl_base.specs.Texts.{Text}
 use Rattle.gl_value.specs.Value.{Values, no_values, value}
@@ -10,7 +10,7 @@ use Rattle.gl_meaning.specs.Scope.{Source, Pair, Scope, sources_of}
 use Rattle.gl_meaning.specs.Eval.{Store, class_at}
 use Rattle.gl_meaning.specs.Parts.{WrittenValue, WrittenModifier}
 use Rattle.gl_meaning.specs.Render.{Entry, Block, block_named}
-use Rattle.gl_plain.specs.Ids.{Id, ref}
+use Rattle.gl_plain.specs.Ids.{Id}
 use Rattle.gl_plain.specs.State.{MScope, passed_in, mslots, State}
 use Rattle.gl_plain.specs.Binding.{Spot}
 use Rattle.gl_plain.specs.Live
