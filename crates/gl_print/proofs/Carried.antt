@@ -1,5 +1,5 @@
 -- The numbers of the nodes that are counted, after pairs were carried.
-use Rattle.std.proofs.Common.{◌≡◌, ◌≢◌, ℕ, ◌+◌, ◌<◌, ◌≤◌, true, false, List, [], ◌∷◌, ◌++◌, Option, Some, None, refl, sym, ap, subst, ◌∙◌, inl, inr, arith, Result, Ok, Err, OnOk, OnErr}
+use Rattle.std.proofs.Common.{◌≡◌, ◌≢◌, ℕ, ◌+◌, ◌<◌, List, [], ◌∷◌, ◌++◌, Option, Some, None, refl, sym, ap, subst, ◌∙◌, inl, inr, arith, Result, Ok, Err, OnOk, OnErr}
 use Rattle.std.specs.Prelude.{if◌then◌else◌}
 use Rattle.gl_arena.specs.Id.{Id, same_id}
 use Rattle.gl_arena.proofs.Ids.{id_cases, same_id-refl, same_id-other}

@@ -7,3 +7,4 @@ pub mod Built
 pub mod Pieces
 pub mod Numberings
 pub mod Carried
+pub mod Turns

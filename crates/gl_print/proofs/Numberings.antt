@@ -177,3 +177,7 @@ on_if (Err e) f h = h
 pub on_both_ok : {T E P Q R : Type 0} (r : Result T E) → (P → Q → R) → OnOk r P → OnOk r Q → OnOk r R
 on_both_ok (Ok v) f h k = f h k
 on_both_ok (Err e) f h k = tt
+
+pub on_all_ok : {T E Q R : Type 0} {P S : T → Type 0} (r : Result T E) → ((x : T) → P x → Q → R → S x) → IfOk r P → OnOk r Q → OnOk r R → IfOk r S
+on_all_ok (Ok v) f h k l = f v h k l
+on_all_ok (Err e) f h k l = h
