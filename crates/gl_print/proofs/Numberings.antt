@@ -170,14 +170,6 @@ print_numbers old new f num of next = let q = numbered (λ k. at k old.of) old.n
 pub numbering_of : (m : Numbers) (counts : Id → ℕ) → IsNumbering m → IsNumberingOf counts (λ x. at x m.of) m.next
 numbering_of m counts is = record { once = λ i k n a b h w. is.once i k n h w; below = λ i n a h. is.below i n h }
 
-pub on_if : {T E : Type 0} {P Q : T → Type 0} (r : Result T E) → ((x : T) → P x → Q x) → IfOk r P → IfOk r Q
-on_if (Ok v) f h = f v h
-on_if (Err e) f h = h
-
-pub on_both_ok : {T E P Q R : Type 0} (r : Result T E) → (P → Q → R) → OnOk r P → OnOk r Q → OnOk r R
-on_both_ok (Ok v) f h k = f h k
-on_both_ok (Err e) f h k = tt
-
 pub on_all_ok : {T E Q R : Type 0} {P S : T → Type 0} (r : Result T E) → ((x : T) → P x → Q → R → S x) → IfOk r P → OnOk r Q → OnOk r R → IfOk r S
 on_all_ok (Ok v) f h k l = f v h k l
 on_all_ok (Err e) f h k l = h
