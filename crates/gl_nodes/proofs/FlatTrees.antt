@@ -148,7 +148,3 @@ moves-range old new (Some r) next flat h = λ p g at is among. moves-flat old ne
 pub removes-range : (old new : Tree) (r : Range) → IsFlat old → IsFlat new → Removes r old new → RemovesRange r old new
 removes-range old new None flat now h = λ q. ap (λ f. kids q f) h.0
 removes-range old new (Some r) flat now h = λ p g at is. removes-flat old new r p g flat now at is (h p g at is)
-
-pub on_if : {T E : Type 0} {P Q : T → Type 0} (r : Result T E) → ((x : T) → P x → Q x) → IfOk r P → IfOk r Q
-on_if (Ok v) f h = f v h
-on_if (Err e) f h = h
