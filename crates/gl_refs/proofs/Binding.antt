@@ -1,7 +1,6 @@
 -- A new reference leaves the others as they are.
-use Rattle.std.proofs.Common.{◌≡◌, ◌≢◌, ◌<◌, true, false, List, Option, Some, None, option_map, IsSome, refl, sym, subst, ◌∙◌, ap, ◌⊎◌, inl, inr, Result, Ok, Err, IfOk, OnErr}
+use Rattle.std.proofs.Common.{◌≡◌, ◌≢◌, ◌<◌, true, false, List, Option, Some, None, option_map, IsSome, refl, sym, subst, ◌∙◌, ap, ◌⊎◌, inl, inr}
 use Rattle.gl_arena.specs.Id.{Id}
-use Rattle.gl_arena.specs.Arena.{Arena, named, Gives, IsStamped}
 use Rattle.gl_arena.proofs.Ids.{id_cases}
 use Rattle.gl_tags.specs.Tags as t
 use Rattle.gl_refs.specs.Forms.{Form, constant_form, source_form, prop_form, call_form, cat_form, all_form, form_or, form_at, meaning, Like, AreLower, Each, parts}

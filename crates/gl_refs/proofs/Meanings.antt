@@ -6,7 +6,7 @@ use Rattle.std.proofs.lemmas.Bool.{or_parts, lt-ltb, ltb-true}
 use Rattle.std.proofs.lemmas.List.Folds.{list_any-append}
 use Rattle.gl_arena.specs.Id.{Id}
 use Rattle.gl_base.specs.Texts.{Text}
-use Rattle.gl_value.specs.Value.{undefined, truthy, property, join_values}
+use Rattle.gl_value.specs.Value.{truthy, property, join_values}
 use Rattle.gl_refs.specs.Forms.{V, NamedIds, Form, constant_form, source_form, prop_form, call_form, cat_form, all_form, Pair, blank, ids_of, is_choice, called, value_or, value_by, parts, branch, flipped, chosen, reads, own_sources, pair_by, Look, form_at, below, meaning_to, meaning, Like, Each}
 
 below_by : (f g : Id → Pair) (i k : Id) (b : Bool) → ltb k.1 i.1 ≡ b → (k.1 < i.1 → f k ≡ g k) → cond b (f k) blank ≡ cond b (g k) blank

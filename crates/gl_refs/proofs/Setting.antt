@@ -1,11 +1,11 @@
 -- A set leaves each kept value right.
-use Rattle.std.proofs.Common.{◌≡◌, ◌≢◌, ℕ, ◌+◌, ◌<◌, ◌≤◌, Bool, true, false, max, List, [], ◌∷◌, map, Option, Some, None, option_map, IsSome, refl, sym, subst, ◌∙◌, ap, arith, ◌⊎◌, inl, inr}
+use Rattle.std.proofs.Common.{◌≡◌, ◌≢◌, ℕ, ◌+◌, ◌<◌, ◌≤◌, Bool, true, false, List, [], ◌∷◌, map, Option, Some, None, option_map, IsSome, refl, sym, subst, ◌∙◌, ap, arith, ◌⊎◌, inl, inr}
 use Rattle.std.specs.List.{list_any}
 use Rattle.std.specs.Prelude.{◌||◌}
 use Rattle.std.proofs.lemmas.Bool.{or_parts}
 use Rattle.gl_arena.specs.Id.{Id, same_id}
 use Rattle.gl_arena.specs.Arena.{named, with_value}
-use Rattle.gl_arena.proofs.Ids.{id_cases, same_id-refl, same_id-true}
+use Rattle.gl_arena.proofs.Ids.{id_cases, same_id-refl}
 use Rattle.gl_arena.proofs.Values.{Writes, with_value-writes}
 use Rattle.gl_tags.specs.Tags as t
 use Rattle.gl_tags.proofs.Greatest.{lead_below}

@@ -1,13 +1,13 @@
 -- References that wait until what they read may be used.
-use Rattle.std.proofs.Common.{◌≡◌, ℕ, zero, suc, Bool, true, false, List, [], ◌∷◌, ◌++◌, take, Option, Some, None, unwrap_or, refl, sym, subst, ◌∙◌, ap}
+use Rattle.std.proofs.Common.{◌≡◌, ℕ, zero, suc, Bool, true, false, List, [], ◌∷◌, ◌++◌, take, Some, None, unwrap_or, refl, sym, subst, ◌∙◌, ap}
 use Rattle.std.specs.Prelude.{◌||◌, slice_get}
 use Rattle.std.specs.List.{list_any}
 use Rattle.gl_value.specs.Value.{undefined}
 use Rattle.gl_arena.specs.Id.{Id, same_id}
 use Rattle.gl_arena.proofs.Ids.{same_id-refl}
 use Rattle.gl_tags.specs.Tags as t
-use Rattle.gl_refs.specs.Forms.{V, Form, Pair, meaning, form_at, reads, Each, IsReadFor, itself, through}
-use Rattle.gl_refs.specs.State.{Rows, forms, held, held_value, reads_of, IsKept, IsSound, Settles, Waiting, IsReady, AllReady}
+use Rattle.gl_refs.specs.Forms.{V, meaning, form_at, reads, Each, IsReadFor, through}
+use Rattle.gl_refs.specs.State.{Rows, forms, held_value, reads_of, IsKept, IsSound, Settles, Waiting, IsReady, AllReady}
 use Rattle.gl_refs.proofs.Meanings.{each_map, reads_front}
 use Rattle.gl_refs.proofs.Computing.{value_now}
 
