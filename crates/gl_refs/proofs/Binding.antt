@@ -1,0 +1,96 @@
+-- A new reference leaves the others as they are.
+use Rattle.std.proofs.Common.{◌≡◌, ◌≢◌, ◌<◌, true, false, List, Option, Some, None, option_map, IsSome, refl, sym, subst, ◌∙◌, ap, ◌⊎◌, inl, inr}
+use Rattle.gl_arena.specs.Id.{Id}
+use Rattle.gl_arena.proofs.Ids.{id_cases}
+use Rattle.gl_tags.specs.Tags as t
+use Rattle.gl_refs.specs.Forms.{Form, constant_form, source_form, prop_form, call_form, cat_form, all_form, form_or, form_at, meaning, Like, AreLower, Each, parts}
+use Rattle.gl_refs.specs.State.{Row, Rows, forms, kept_by, kept_row, kept, kept_pair, IsRight, own_tag, own_by, RowFits, is_bound, IsSound, Binds}
+use Rattle.gl_refs.proofs.Meanings.{within, each_map}
+use Rattle.gl_refs.proofs.Rows.{fits_bound}
+
+module _ (tags : t.Tags) (rows rows' : Rows) (n : Id) (form : Form) (sound : IsSound tags rows) (b : Binds rows rows' n form) (bound : is_bound form ≡ true) where
+  not_new : (q : Id) → IsSome (forms rows q) → q ≢ n
+  not_new q h e = let z : false ≡ true = subst (λ o. IsSome (option_map (λ (r : Row). r.form) o)) (ap rows e ∙ b.vacant) h in cc
+
+  form_stays : (q : Id) → q ≢ n → forms rows' q ≡ forms rows q
+  form_stays q ne = ap (option_map (λ (r : Row). r.form)) (b.others q ne)
+
+  lives : (q : Id) → IsSome (forms rows q) → IsSome (forms rows' q)
+  lives q h = subst IsSome (sym (form_stays q (not_new q h))) h
+
+  good : (i : Id) → IsSome (forms rows i) → (form_at (forms rows') i ≡ form_at (forms rows) i) × Each (λ q. IsSome (forms rows q)) (parts (form_at (forms rows) i))
+  good i h = (ap form_or (form_stays i (not_new i h)), by (forms rows i) refl h) where
+    by : (o : Option Form) → forms rows i ≡ o → IsSome o → Each (λ q. IsSome (forms rows q)) (parts (form_or o))
+    by None e h = tt
+    by (Some g) e h = each_map (λ q. (q.1 < i.1) × IsSome (forms rows q)) (λ q. IsSome (forms rows q)) (parts g) (λ q d. d.1) (sound.lower i g e)
+
+  pub means : (i : Id) → IsSome (forms rows i) → meaning (forms rows') i ≡ meaning (forms rows) i
+  means i h = within (λ q. IsSome (forms rows q)) (forms rows) (forms rows') good i h
+
+  each_lives : (i : Id) (xs : List Id) → Each (λ q. (q.1 < i.1) × IsSome (forms rows q)) xs → Each (λ q. (q.1 < i.1) × IsSome (forms rows' q)) xs
+  each_lives i xs e = each_map (λ q. (q.1 < i.1) × IsSome (forms rows q)) (λ q. (q.1 < i.1) × IsSome (forms rows' q)) xs (λ q h. (h.0, lives q h.1)) e
+
+  own_none : (g : Form) → is_bound g ≡ true → own_by g None ≡ None
+  own_none (constant_form v) e = refl
+  own_none (source_form k s v) e = absurd (let z : false ≡ true = e in cc)
+  own_none (prop_form r m) e = refl
+  own_none (call_form m ids ns) e = refl
+  own_none (cat_form ids) e = refl
+  own_none (all_form ids) e = refl
+
+  own_old : (i u : Id) → own_tag (rows' i) ≡ Some u → own_tag (rows i) ≡ Some u
+  own_old i u e = by (id_cases i n) where
+    by : (i ≡ n) ⊎ (i ≢ n) → own_tag (rows i) ≡ Some u
+    by (inl q) = absurd (let z : None ≡ Some u = sym (ap own_tag (ap rows' q ∙ b.given) ∙ own_none form bound) ∙ e in cc)
+    by (inr ne) = ap own_tag (sym (b.others i ne)) ∙ e
+
+  lower_now : AreLower (forms rows')
+  lower_now i g e = by (id_cases i n) where
+    form_is : (x y : Form) → Some x ≡ Some y → x ≡ y
+    form_is x y e = cc
+
+    by : (i ≡ n) ⊎ (i ≢ n) → Each (λ q. (q.1 < i.1) × IsSome (forms rows' q)) (parts g)
+    by (inl q) =
+        let f : form ≡ g = form_is form g (sym (ap (option_map (λ (r : Row). r.form)) (ap rows' q ∙ b.given)) ∙ e) in
+        subst (λ x. Each (λ q. (q.1 < i.1) × IsSome (forms rows' q)) (parts x)) f (each_lives i (parts form) (subst (λ x. Each (λ q. (q.1 < x.1) × IsSome (forms rows q)) (parts form)) (sym q) b.parts))
+    by (inr ne) = each_lives i (parts g) (sound.lower i g (sym (form_stays i ne) ∙ e))
+
+  fits_now : (i : Id) (r : Row) → rows' i ≡ Some r → RowFits tags r.form r.last
+  fits_now i r e = by (id_cases i n) where
+    row_is : (x y : Row) → Some x ≡ Some y → x ≡ y
+    row_is x y e = cc
+
+    by : (i ≡ n) ⊎ (i ≢ n) → RowFits tags r.form r.last
+    by (inl q) =
+        let f = row_is (record { form = form; last = None }) r (sym (ap rows' q ∙ b.given) ∙ e) in
+        subst (λ (x : Row). RowFits tags x.form x.last) f (fits_bound tags form None bound tt)
+    by (inr ne) = sound.fits i r (sym (b.others i ne) ∙ e)
+
+  none_kept : (g : Form) → is_bound g ≡ true → kept_by tags g None ≡ None
+  none_kept (constant_form v) e = absurd (let z : false ≡ true = e in cc)
+  none_kept (source_form k s v) e = absurd (let z : false ≡ true = e in cc)
+  none_kept (prop_form r m) e = refl
+  none_kept (call_form m ids ns) e = refl
+  none_kept (cat_form ids) e = refl
+  none_kept (all_form ids) e = refl
+
+  right_now : IsRight tags rows'
+  right_now i k h = by (id_cases i n) where
+    live : (o : Option Row) → kept_row tags o ≡ Some k → IsSome (option_map (λ (r : Row). r.form) o)
+    live None e = absurd (let z : None ≡ Some k = e in cc)
+    live (Some r) e = refl
+
+    by : (i ≡ n) ⊎ (i ≢ n) → Like (kept_pair tags k) (meaning (forms rows') i)
+    by (inl q) = absurd (let z : None ≡ Some k = sym (ap (kept_row tags) (ap rows' q ∙ b.given) ∙ none_kept form bound) ∙ h in cc)
+    by (inr ne) =
+        let was : kept tags rows i ≡ Some k = ap (kept_row tags) (sym (b.others i ne)) ∙ h in
+        subst (Like (kept_pair tags k)) (sym (means i (live (rows i) was))) (sound.right i k was)
+
+  pub bind_sound : IsSound tags rows'
+  bind_sound = record {
+    tags_sound = sound.tags_sound;
+    lower = lower_now;
+    fits = fits_now;
+    owned = λ i k u e f. sound.owned i k u (own_old i u e) (own_old k u f);
+    right = right_now;
+  }

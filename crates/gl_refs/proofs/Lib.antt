@@ -1,0 +1,8 @@
+pub mod Meanings
+pub mod Rows
+pub mod Setting
+pub mod Evaluating
+pub mod Computing
+pub mod Binding
+pub mod Freeing
+pub mod Waits

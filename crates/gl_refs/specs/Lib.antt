@@ -1,0 +1,4 @@
+pub mod Forms
+pub mod State
+pub mod View
+pub mod Laws

@@ -1,0 +1,28 @@
+//! What references mean, and what keeps it. Each function does nothing: its contract is the law. The words of
+//! the contracts stand in `specs/Laws.antt`, each with its sentence.
+
+ghost use Rattle.gl_refs.specs.Laws.{MeaningIs, UntouchedStays, ApartStays, KeptIsNow, SetKeeps, BindKeeps, EvaluationKeeps, FreeKeeps};
+
+/// What a reference means is one equation, whatever stands in the others.
+pub fn meaning_is()
+    ensures { MeaningIs }
+{}
+
+/// A reference of which no source was touched means the same; so do references that name none whose form changed.
+pub fn meaning_stays()
+    ensures untouched { UntouchedStays }
+    ensures apart { ApartStays }
+{}
+
+/// What is kept, and may be used by the tags, is what the reference means now.
+pub fn kept_is_now()
+    ensures { KeptIsNow }
+{}
+
+/// A set, a new reference, an evaluation and an end leave every other reference as it is, with what is kept of it.
+pub fn changes_keep()
+    ensures set { SetKeeps }
+    ensures bind { BindKeeps }
+    ensures evaluation { EvaluationKeeps }
+    ensures free { FreeKeeps }
+{}

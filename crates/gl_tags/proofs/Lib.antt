@@ -1,0 +1,4 @@
+pub mod Keeping
+pub mod Leads
+pub mod Greatest
+pub mod Changes
