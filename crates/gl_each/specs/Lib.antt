@@ -1,0 +1,6 @@
+pub mod Counted
+pub mod Hashed
+pub mod Key
+pub mod SameKeys
+pub mod Sync
+pub mod View
