@@ -1,5 +1,5 @@
 // The keys of a list's items.
-ghost use Rattle.std.specs.Prelude.{◌≡◌, ◌<◌, ℕ, [], IfOk, length};
+ghost use Rattle.std.specs.Prelude.{◌≡◌, ◌<◌, ℕ, [], IfOk, map};
 ghost use Rattle.std.specs.Str.{chars};
 ghost use Rattle.std.specs.List.{zip};
 ghost use Rattle.gl_value.specs.View.{view, seen_items};
@@ -21,14 +21,11 @@ use std::alloc::{AllocError, Global};
 
 // The key of each item, without its occurrence.
 fn values_at(alloc: Global, items: &[Value], key: &str) -> Result<Vec<Value>, AllocError>
-    ensures value { IfOk result (λ vs. seen_items vs.items ≡ item_keys (chars key.now) 0 (seen_items items.now)) }
-    ensures proper { IfOk result (λ vs. AreProper (seen_items items.now) → AreProper (seen_items vs.items)) }
+    ensures { IfOk result (λ vs. seen_items vs.items ≡ item_keys (chars key.now) 0 (seen_items items.now)) }
 {
     let mut list = Vec::with_capacity(alloc, items.len())?;
-    let mut index = 0;
-    for item in items {
-        list.push(key_of(item, index, key)?)?;
-        index += 1;
+    for (index, item) in items.iter().enumerate() {
+        list.push(key_of(item, index as u64, key)?)?;
     }
     Ok(list)
 }
@@ -51,18 +48,15 @@ fn occurrences(alloc: Global, values: &[Value]) -> Result<Vec<u64>, AllocError>
     Ok(list)
 }
 
-fn with_occurrences(
-    alloc: Global,
-    values: Vec<Value>,
-    occurrences: Vec<u64>,
-) -> Result<Vec<Key>, AllocError>
-    ensures { IfOk result (λ ks. seen_keys ks.items ≡ zip (seen_items values.items) occurrences.items) }
+// The values with their occurrences.
+fn paired(alloc: Global, values: Vec<Value>, occurrences: Vec<u64>) -> Result<Vec<Key>, AllocError>
+    ensures { IfOk result (λ ks. ks.items ≡ map (λ p. record { value = p.0; occurrence = p.1 }) (zip values.items occurrences.items)) }
 {
-    let mut list = Vec::with_capacity(alloc, values.len())?;
-    for (value, occurrence) in values.into_iter().zip(occurrences) {
-        list.push(Key { value, occurrence })?;
-    }
-    Ok(list)
+    values
+        .into_iter()
+        .zip(occurrences)
+        .map(|(value, occurrence)| Key { value, occurrence })
+        .collect(alloc)
 }
 
 /// The keys of a list's items for a key text: each item's key with how many items before it have an equal one.
@@ -74,5 +68,5 @@ pub fn keys(alloc: Global, items: &[Value], key: &str) -> Result<Keys, AllocErro
 {
     let list = values_at(alloc, items, key)?;
     let counts = occurrences(alloc, list.as_slice())?;
-    Ok(Keys::from_vec(with_occurrences(alloc, list, counts)?))
+    Ok(Keys::from_vec(paired(alloc, list, counts)?))
 }

@@ -3,7 +3,8 @@ ghost use Rattle.std.specs.Prelude.{◌≡◌, ◌<◌, [], length, map, IfOk};
 ghost use Rattle.std.specs.List.{range_with_len};
 ghost use Rattle.gl_meaning.specs.Laws.{NoRepeat};
 ghost use Rattle.gl_each.specs.Sync.{AreSteps, IsSync, kept, has_place, unkept};
-ghost use Rattle.gl_each.specs.View.{seen_keys, seen_steps};
+ghost use Rattle.gl_each.specs.Planned.{step_for, greater};
+ghost use Rattle.gl_each.specs.View.{seen_keys, step_view, seen_steps};
 
 use crate::finding::KeyRef;
 use crate::step::Plan;
@@ -26,32 +27,51 @@ fn table(alloc: Global, old: &[Key]) -> Result<IndexSet<KeyRef<'_>>, AllocError>
     Ok(places)
 }
 
-// One step for each new key. `reach` is one more than the greatest place that was kept.
-fn steps(alloc: Global, places: &IndexSet<KeyRef<'_>>, new: &[Key]) -> Result<PlanSteps, AllocError>
+// The step of a new key that stands at a place of the old list or nowhere, where `greatest` is the greatest
+// place that was kept so far.
+fn step_for(place: Option<usize>, greatest: Option<usize>) -> PlanStep
+    ensures { step_view result ≡ step_for place greatest }
+{
+    let Some(place) = place else {
+        return PlanStep::Insert;
+    };
+    let old = place as u64;
+    match greatest {
+        Some(other) if place < other => PlanStep::Move { old },
+        _ => PlanStep::Retain { old },
+    }
+}
+
+fn greater(place: Option<usize>, greatest: Option<usize>) -> Option<usize>
+    ensures { result ≡ greater place greatest }
+{
+    match (place, greatest) {
+        (None, _) => greatest,
+        (_, None) => place,
+        (Some(one), Some(other)) => Some(one.max(other)),
+    }
+}
+
+// One step for each new key.
+fn steps_to(
+    alloc: Global,
+    places: &IndexSet<KeyRef<'_>>,
+    new: &[Key],
+) -> Result<PlanSteps, AllocError>
     ensures { IfOk result (λ ss. AreSteps places.now.keys [] (seen_keys new.now) ss) }
 {
-    let mut list = Vec::with_capacity(alloc, new.len())?;
-    let mut reach = 0;
+    let mut list = PlanSteps::new(alloc);
+    let mut greatest = None;
     for key in new {
         let at = KeyRef {
             value: &key.value,
             occurrence: key.occurrence,
         };
-        let step = match places.get_index_of(&at) {
-            None => PlanStep::Insert,
-            Some(place) => {
-                let old = place as u64;
-                if place + 1 < reach {
-                    PlanStep::Move { old }
-                } else {
-                    reach = place + 1;
-                    PlanStep::Retain { old }
-                }
-            }
-        };
-        list.push(step)?;
+        let place = (&*places).get_index_of(&at);
+        list.push(step_for(place, greatest))?;
+        greatest = greater(place, greatest);
     }
-    Ok(PlanSteps::from_vec(list))
+    Ok(list)
 }
 
 // Marks the places that steps keep.
@@ -60,14 +80,11 @@ fn marks(alloc: Global, count: usize, steps: &[PlanStep]) -> Result<Vec<bool>, A
 {
     let mut list = vec![in alloc; false; count]?;
     for step in steps {
-        match step {
-            PlanStep::Retain { old } | PlanStep::Move { old } => {
-                let place = *old as usize;
-                if place < list.len() {
-                    list[place] = true;
-                }
+        if let Some(old) = step.kept() {
+            let place = old as usize;
+            if place < list.len() {
+                list[place] = true;
             }
-            PlanStep::Insert => {}
         }
     }
     Ok(list)
@@ -94,7 +111,7 @@ pub fn plan(old: &Keys, new: &Keys) -> Result<Plan, AllocError>
 {
     let alloc = old.allocator();
     let places = table(alloc, old.as_slice())?;
-    let steps = steps(alloc, &places, new.as_slice())?;
+    let steps = steps_to(alloc, &places, new.as_slice())?;
     let removed = removed(alloc, old.len(), steps.as_slice())?;
     Ok(Plan { steps, removed })
 }
