@@ -176,60 +176,60 @@ module _ (app : App) (σ : Eval.Store) (cells : (P : Path.Path → Type 0) (i : 
   good-if i false f g a c = good-region (Path.otherwise ∷ i) g c
 
   -- the parts of an element
-  abbrev GoodValues : Path.Path → List Parts.WrittenValue → Type 0
+  abbrev GoodValues : Path.Path → List (Parts.WrittenValue Scope.Scope) → Type 0
   GoodValues i [] = Unit {0}
   GoodValues i (w ∷ ws) = GoodScope i w.by × GoodValues i ws
 
-  abbrev GoodModifiers : Path.Path → List Parts.WrittenModifier → Type 0
+  abbrev GoodModifiers : Path.Path → List (Parts.WrittenModifier Scope.Scope) → Type 0
   GoodModifiers i [] = Unit {0}
   GoodModifiers i (w ∷ ws) = GoodScope i w.by × GoodModifiers i ws
 
-  abbrev GoodWritten : Path.Path → List Parts.Written → Type 0
+  abbrev GoodWritten : Path.Path → List (Parts.Written Scope.Scope) → Type 0
   GoodWritten i [] = Unit {0}
   GoodWritten i (w ∷ ws) = GoodScope i w.by × GoodWritten i ws
 
-  good-filter : (i : Path.Path) (test : Parts.WrittenValue → Bool) (ws : List Parts.WrittenValue) → GoodValues i ws → GoodValues i (filter test ws)
+  good-filter : (i : Path.Path) (test : (Parts.WrittenValue Scope.Scope) → Bool) (ws : List (Parts.WrittenValue Scope.Scope)) → GoodValues i ws → GoodValues i (filter test ws)
   good-filter i test [] a = tt
   good-filter i test (w ∷ ws) a = elim (test w) as (λ b. GoodValues i (cond b (w ∷ filter test ws) (filter test ws))) [ true ↦ (a.0, good-filter i test ws a.1) | false ↦ good-filter i test ws a.1 ]
 
-  good-last : (i : Path.Path) (ws : List Parts.WrittenValue) → GoodValues i ws → GoodValues i (Parts.last_only ws)
+  good-last : (i : Path.Path) (ws : List (Parts.WrittenValue Scope.Scope)) → GoodValues i ws → GoodValues i (Parts.last_only ws)
   good-last i [] a = tt
   good-last i (w ∷ []) a = a
   good-last i (w ∷ z ∷ ws) a = good-last i (z ∷ ws) a.1
 
-  good-taken : (i : Path.Path) (n : Text) (ws : List Parts.WrittenValue) → GoodValues i ws → GoodValues i (Parts.taken_values n ws)
+  good-taken : (i : Path.Path) (n : Text) (ws : List (Parts.WrittenValue Scope.Scope)) → GoodValues i ws → GoodValues i (Parts.taken_values n ws)
   good-taken i n ws a =
       let group = filter (λ w. bytes_eq n w.name) ws in
       let h : GoodValues i group = good-filter i _ ws a in
       elim (bytes_eq n (codes "class")) as (λ b. GoodValues i (if b then group else Parts.last_only group)) [ true ↦ h | false ↦ good-last i group h ]
 
-  values-good : (i : Path.Path) (ws : List Parts.WrittenValue) → GoodValues i ws → PairsIn (AtOrAbove i) (map (λ w. Eval.eval_value app σ w.by w.value) ws)
+  values-good : (i : Path.Path) (ws : List (Parts.WrittenValue Scope.Scope)) → GoodValues i ws → PairsIn (AtOrAbove i) (map (λ w. Eval.eval_value app σ w.by w.value) ws)
   values-good i [] a = tt
   values-good i (w ∷ ws) a = (value-good i w.by a.0 w.value, values-good i ws a.1)
 
-  good-attribute : (i : Path.Path) (b : Scope.Scope) (q : Template.Part) → GoodScope i b → (ws : List Parts.WrittenValue) → GoodValues i ws → GoodValues i (cons_option (Parts.attribute_in b q) ws)
+  good-attribute : (i : Path.Path) (b : Scope.Scope) (q : Template.Part) → GoodScope i b → (ws : List (Parts.WrittenValue Scope.Scope)) → GoodValues i ws → GoodValues i (cons_option (Parts.attribute_in b q) ws)
   good-attribute i b (Template.attribute n z) a ws h = (a, h)
   good-attribute i b (Template.modifier n es ns) a ws h = h
   good-attribute i b Template.spread a ws h = h
 
-  good-attributes : (i : Path.Path) (ws : List Parts.Written) → GoodWritten i ws → GoodValues i (Parts.attributes_in ws)
+  good-attributes : (i : Path.Path) (ws : List (Parts.Written Scope.Scope)) → GoodWritten i ws → GoodValues i (Parts.attributes_in ws)
   good-attributes i [] a = tt
   good-attributes i (w ∷ ws) a = good-attribute i w.by w.part a.0 (Parts.attributes_in ws) (good-attributes i ws a.1)
 
-  good-modifier : (i : Path.Path) (b : Scope.Scope) (q : Template.Part) → GoodScope i b → (ws : List Parts.WrittenModifier) → GoodModifiers i ws → GoodModifiers i (cons_option (Parts.modifier_in b q) ws)
+  good-modifier : (i : Path.Path) (b : Scope.Scope) (q : Template.Part) → GoodScope i b → (ws : List (Parts.WrittenModifier Scope.Scope)) → GoodModifiers i ws → GoodModifiers i (cons_option (Parts.modifier_in b q) ws)
   good-modifier i b (Template.attribute n z) a ws h = h
   good-modifier i b (Template.modifier n es ns) a ws h = (a, h)
   good-modifier i b Template.spread a ws h = h
 
-  good-modifiers : (i : Path.Path) (ws : List Parts.Written) → GoodWritten i ws → GoodModifiers i (Parts.modifiers_in ws)
+  good-modifiers : (i : Path.Path) (ws : List (Parts.Written Scope.Scope)) → GoodWritten i ws → GoodModifiers i (Parts.modifiers_in ws)
   good-modifiers i [] a = tt
   good-modifiers i (w ∷ ws) a = good-modifier i w.by w.part a.0 (Parts.modifiers_in ws) (good-modifiers i ws a.1)
 
-  written-append : (i : Path.Path) (ws zs : List Parts.Written) → GoodWritten i ws → GoodWritten i zs → GoodWritten i (ws ++ zs)
+  written-append : (i : Path.Path) (ws zs : List (Parts.Written Scope.Scope)) → GoodWritten i ws → GoodWritten i zs → GoodWritten i (ws ++ zs)
   written-append i [] zs a b = b
   written-append i (w ∷ ws) zs a b = (a.0, written-append i ws zs a.1 b)
 
-  good-spread : (i : Path.Path) (for : List Parts.Written) (w : Scope.Scope) (ps : List Template.Part) → GoodWritten i for → GoodScope i w → GoodWritten i (Parts.spread_in for w ps)
+  good-spread : (i : Path.Path) (for : List (Parts.Written Scope.Scope)) (w : Scope.Scope) (ps : List Template.Part) → GoodWritten i for → GoodScope i w → GoodWritten i (Parts.spread_in for w ps)
   good-spread i for w [] a b = tt
   good-spread i for w (Template.spread ∷ ps) a b = written-append i for _ a (good-spread i for w ps a b)
   good-spread i for w (Template.attribute n z ∷ ps) a b = (b, good-spread i for w ps a b)
@@ -259,7 +259,7 @@ module _ (app : App) (σ : Eval.Store) (cells : (P : Path.Path → Type 0) (i : 
   good-attr-positions i pairs h (n ∷ ns) x (inl q) = good-by q (pairs-more (AtOrAbove i) (AtOrAbove (Path.attribute_at n ∷ i)) (λ k a. inr a) (pairs n) (h n))
   good-attr-positions i pairs h (n ∷ ns) x (inr m) = good-attr-positions i pairs h ns x m
 
-  good-modifier-positions : (i : Path.Path) (n : ℕ) (ws : List Parts.WrittenModifier) → GoodModifiers i ws → AllReadAbove (Render.forest_of (Render.modifier_positions (Parts.modifiers_of app σ i n ws)))
+  good-modifier-positions : (i : Path.Path) (n : ℕ) (ws : List (Parts.WrittenModifier Scope.Scope)) → GoodModifiers i ws → AllReadAbove (Render.forest_of (Render.modifier_positions (Parts.modifiers_of app σ i n ws)))
   good-modifier-positions i n [] a x m = absurd m
   good-modifier-positions i n (w ∷ ws) a x (inl q) =
       good-by q (pairs-append (AtOrAbove (Path.modifier_at n ∷ i)) (Eval.eval_all app σ w.by w.args) _
@@ -267,7 +267,7 @@ module _ (app : App) (σ : Eval.Store) (cells : (P : Path.Path → Type 0) (i : 
       (names-pairs (AtOrAbove (Path.modifier_at n ∷ i)) (Eval.eval_named app σ w.by w.names) (names-more (AtOrAbove i) (AtOrAbove (Path.modifier_at n ∷ i)) (λ k b. inr b) _ (named-good i w.by a.0 w.names))))
   good-modifier-positions i n (w ∷ ws) a x (inr m) = good-modifier-positions i (suc n) ws a.1 x m
 
-  good-element : (i : Path.Path) (tag : Text) (ws : List Parts.Written) (f : Render.Forest) → GoodWritten i ws → AllReadAbove f → AllReadAbove (Render.element_of app σ i tag ws f)
+  good-element : (i : Path.Path) (tag : Text) (ws : List (Parts.Written Scope.Scope)) (f : Render.Forest) → GoodWritten i ws → AllReadAbove f → AllReadAbove (Render.element_of app σ i tag ws f)
   good-element i tag ws f a h x m =
       let us = Parts.attributes_in ws in
       let pairs = Parts.taken_pairs app σ us in

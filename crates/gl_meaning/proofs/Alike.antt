@@ -173,9 +173,9 @@ module _ (U : Scope.Source → Type 0) where
   alike-branches i true false f g f' g' h h' u u' w w' = alike-apart (Render.region_at (Path.main ∷ i) f) (Render.region_at (Path.otherwise ∷ i) g') (apart-at i Path.main Path.otherwise (Render.region_at (Path.main ∷ i) f) (Render.region_at (Path.otherwise ∷ i) g') main-otherwise (under-region Path.main i f u) (under-region Path.otherwise i g' w'))
   alike-branches i false true f g f' g' h h' u u' w w' = alike-apart (Render.region_at (Path.otherwise ∷ i) g) (Render.region_at (Path.main ∷ i) f') (apart-at i Path.otherwise Path.main (Render.region_at (Path.otherwise ∷ i) g) (Render.region_at (Path.main ∷ i) f') (λ q. main-otherwise (sym q)) (under-region Path.otherwise i g w) (under-region Path.main i f' u'))
 
-  alike-element : (app : App) (σ τ : Eval.Store) (i : Path.Path) (tag : Text) (ws vs : List Parts.Written) (f g : Render.Forest) → EachPair Related (Render.forest_of (parts_of app σ i ws)) (Render.forest_of (parts_of app τ i vs)) → Alike f g → AllFrom i f → AllFrom i g → Alike (Render.element_of app σ i tag ws f) (Render.element_of app τ i tag vs g)
+  alike-element : (app : App) (σ τ : Eval.Store) (i : Path.Path) (tag : Text) (ws vs : List (Parts.Written Scope.Scope)) (f g : Render.Forest) → EachPair Related (Render.forest_of (parts_of app σ i ws)) (Render.forest_of (parts_of app τ i vs)) → Alike f g → AllFrom i f → AllFrom i g → Alike (Render.element_of app σ i tag ws f) (Render.element_of app τ i tag vs g)
   alike-element app σ τ i tag ws vs f g hp h u w items x y m n = by-kind (in_element app σ x i tag ws f m) (in_element app τ y i tag vs g n) where
-    in-body : (υ : Eval.Store) (us : List Parts.Written) (f : Render.Forest) (z : Render.Piece) → In z f → In z (Render.element_of app υ i tag us f)
+    in-body : (υ : Eval.Store) (us : List (Parts.Written Scope.Scope)) (f : Render.Forest) (z : Render.Piece) → In z f → In z (Render.element_of app υ i tag us f)
     in-body υ us f z o = in_right z (Render.forest_of (Render.attr_positions i (Parts.attributes_in us) (Parts.taken_pairs app υ (Parts.attributes_in us)) ++ Render.modifier_positions (Parts.modifiers_of app υ i 0 (Parts.modifiers_in us)))) (Render.single (Render.element_node i tag (Parts.attrs_from (Parts.attributes_in us) (Parts.taken_pairs app υ (Parts.attributes_in us))) (Parts.modifiers_of app υ i 0 (Parts.modifiers_in us)) f)) (inl (inr o))
 
     below : (f : Render.Forest) (z : Render.Piece) → AllFrom i f → In z f → Changes.piece_path z ≡ i → ⊥
@@ -301,53 +301,53 @@ module _ (U : Scope.Source → Type 0) where
   at-same n m q = ap at-number q
 
   module _ (app : App) (σ τ : Eval.Store) (cells : (i : Path.Path) (x : Text) → U (Scope.cell i x) → Eval.cell_value app σ i x ≡ Eval.cell_value app τ i x) where
-    keeps-given : {v w : Scope.Scope} → Frame.KeepsScope U v w → (gs : List (Text × Template.AttrValue)) → Frame.KeepsNames U (Eval.eval_given app σ v gs) (Eval.eval_given app τ w gs)
+    pub keeps-given : {v w : Scope.Scope} → Frame.KeepsScope U v w → (gs : List (Text × Template.AttrValue)) → Frame.KeepsNames U (Eval.eval_given app σ v gs) (Eval.eval_given app τ w gs)
     keeps-given h [] = Frame.names_none
     keeps-given h (g ∷ gs) = Frame.names_more (Frame.value_keeps U app σ τ cells h g.1) (keeps-given h gs)
 
     -- what the parts of an element read
-    data KeepsWritten : List Parts.Written → List Parts.Written → Type 0 where
+    pub data KeepsWritten : List (Parts.Written Scope.Scope) → List (Parts.Written Scope.Scope) → Type 0 where
       written_none : KeepsWritten [] []
-      written_more : {q : Template.Part} {v w : Scope.Scope} {xs ys : List Parts.Written} → Frame.KeepsScope U v w → KeepsWritten xs ys → KeepsWritten (record { part = q; by = v } ∷ xs) (record { part = q; by = w } ∷ ys)
+      written_more : {q : Template.Part} {v w : Scope.Scope} {xs ys : List (Parts.Written Scope.Scope)} → Frame.KeepsScope U v w → KeepsWritten xs ys → KeepsWritten (record { part = q; by = v } ∷ xs) (record { part = q; by = w } ∷ ys)
 
-    data KeepsValues : List Parts.WrittenValue → List Parts.WrittenValue → Type 0 where
+    pub data KeepsValues : List (Parts.WrittenValue Scope.Scope) → List (Parts.WrittenValue Scope.Scope) → Type 0 where
       values_none : KeepsValues [] []
-      values_more : {n : Text} {z : Template.AttrValue} {v w : Scope.Scope} {xs ys : List Parts.WrittenValue} → Frame.KeepsScope U v w → KeepsValues xs ys → KeepsValues (record { name = n; value = z; by = v } ∷ xs) (record { name = n; value = z; by = w } ∷ ys)
+      values_more : {n : Text} {z : Template.AttrValue} {v w : Scope.Scope} {xs ys : List (Parts.WrittenValue Scope.Scope)} → Frame.KeepsScope U v w → KeepsValues xs ys → KeepsValues (record { name = n; value = z; by = v } ∷ xs) (record { name = n; value = z; by = w } ∷ ys)
 
-    data KeepsModifiers : List Parts.WrittenModifier → List Parts.WrittenModifier → Type 0 where
+    pub data KeepsModifiers : List (Parts.WrittenModifier Scope.Scope) → List (Parts.WrittenModifier Scope.Scope) → Type 0 where
       modifiers_none : KeepsModifiers [] []
-      modifiers_more : {n : Text} {es : Template.Exprs} {ns : Template.NamedExprs} {v w : Scope.Scope} {xs ys : List Parts.WrittenModifier} → Frame.KeepsScope U v w → KeepsModifiers xs ys → KeepsModifiers (record { name = n; args = es; names = ns; by = v } ∷ xs) (record { name = n; args = es; names = ns; by = w } ∷ ys)
+      modifiers_more : {n : Text} {es : Template.Exprs} {ns : Template.NamedExprs} {v w : Scope.Scope} {xs ys : List (Parts.WrittenModifier Scope.Scope)} → Frame.KeepsScope U v w → KeepsModifiers xs ys → KeepsModifiers (record { name = n; args = es; names = ns; by = v } ∷ xs) (record { name = n; args = es; names = ns; by = w } ∷ ys)
 
-    written-append : {xs ys us vs : List Parts.Written} → KeepsWritten xs ys → KeepsWritten us vs → KeepsWritten (xs ++ us) (ys ++ vs)
+    pub written-append : {xs ys us vs : List (Parts.Written Scope.Scope)} → KeepsWritten xs ys → KeepsWritten us vs → KeepsWritten (xs ++ us) (ys ++ vs)
     written-append written_none g = g
     written-append (written_more h hs) g = written_more h (written-append hs g)
 
-    keeps-spread : {xs ys : List Parts.Written} {v w : Scope.Scope} → KeepsWritten xs ys → Frame.KeepsScope U v w → (ps : List Template.Part) → KeepsWritten (Parts.spread_in xs v ps) (Parts.spread_in ys w ps)
+    pub keeps-spread : {xs ys : List (Parts.Written Scope.Scope)} {v w : Scope.Scope} → KeepsWritten xs ys → Frame.KeepsScope U v w → (ps : List Template.Part) → KeepsWritten (Parts.spread_in xs v ps) (Parts.spread_in ys w ps)
     keeps-spread h g [] = written_none
     keeps-spread h g (Template.spread ∷ ps) = written-append h (keeps-spread h g ps)
     keeps-spread h g (Template.attribute n z ∷ ps) = written_more g (keeps-spread h g ps)
     keeps-spread h g (Template.modifier n es ns ∷ ps) = written_more g (keeps-spread h g ps)
 
-    keeps-passed : {v w : Scope.Passed} → Frame.KeepsPassed U v w → KeepsWritten (Parts.passed_parts v) (Parts.passed_parts w)
+    pub keeps-passed : {v w : Scope.Passed} → Frame.KeepsPassed U v w → KeepsWritten (Parts.passed_parts v) (Parts.passed_parts w)
     keeps-passed Frame.keeps_nothing = written_none
     keeps-passed (Frame.keeps_passed {ps = ps} (Frame.keeps_scope a l h)) = keeps-spread (keeps-passed h) (Frame.keeps_scope a l h) ps
 
-    keeps-written : {v w : Scope.Scope} → Frame.KeepsScope U v w → (ps : List Template.Part) → KeepsWritten (Parts.written_parts v ps) (Parts.written_parts w ps)
+    pub keeps-written : {v w : Scope.Scope} → Frame.KeepsScope U v w → (ps : List Template.Part) → KeepsWritten (Parts.written_parts v ps) (Parts.written_parts w ps)
     keeps-written (Frame.keeps_scope a l h) ps = keeps-spread (keeps-passed h) (Frame.keeps_scope a l h) ps
 
-    keeps-attributes : {xs ys : List Parts.Written} → KeepsWritten xs ys → KeepsValues (Parts.attributes_in xs) (Parts.attributes_in ys)
+    pub keeps-attributes : {xs ys : List (Parts.Written Scope.Scope)} → KeepsWritten xs ys → KeepsValues (Parts.attributes_in xs) (Parts.attributes_in ys)
     keeps-attributes written_none = values_none
     keeps-attributes (written_more {q = Template.attribute n z} h hs) = values_more h (keeps-attributes hs)
     keeps-attributes (written_more {q = Template.modifier n es ns} h hs) = keeps-attributes hs
     keeps-attributes (written_more {q = Template.spread} h hs) = keeps-attributes hs
 
-    keeps-modifiers : {xs ys : List Parts.Written} → KeepsWritten xs ys → KeepsModifiers (Parts.modifiers_in xs) (Parts.modifiers_in ys)
+    pub keeps-modifiers : {xs ys : List (Parts.Written Scope.Scope)} → KeepsWritten xs ys → KeepsModifiers (Parts.modifiers_in xs) (Parts.modifiers_in ys)
     keeps-modifiers written_none = modifiers_none
     keeps-modifiers (written_more {q = Template.attribute n z} h hs) = keeps-modifiers hs
     keeps-modifiers (written_more {q = Template.modifier n es ns} h hs) = modifiers_more h (keeps-modifiers hs)
     keeps-modifiers (written_more {q = Template.spread} h hs) = keeps-modifiers hs
 
-    keeps-group : {xs ys : List Parts.WrittenValue} → KeepsValues xs ys → (n : Text) → KeepsValues (filter (λ w. bytes_eq n w.name) xs) (filter (λ w. bytes_eq n w.name) ys)
+    pub keeps-group : {xs ys : List (Parts.WrittenValue Scope.Scope)} → KeepsValues xs ys → (n : Text) → KeepsValues (filter (λ w. bytes_eq n w.name) xs) (filter (λ w. bytes_eq n w.name) ys)
     keeps-group values_none n = values_none
     keeps-group (values_more {n = m} {z = z} {v = v} {w = w} {xs = xs} {ys = ys} h hs) n = chosen (bytes_eq n m) (keeps-group hs n) where
       chosen : (b : Bool) → KeepsValues (filter (λ w. bytes_eq n w.name) xs) (filter (λ w. bytes_eq n w.name) ys)
@@ -355,26 +355,26 @@ module _ (U : Scope.Source → Type 0) where
       chosen true g = values_more h g
       chosen false g = g
 
-    keeps-last : {xs ys : List Parts.WrittenValue} → KeepsValues xs ys → KeepsValues (Parts.last_only xs) (Parts.last_only ys)
+    pub keeps-last : {xs ys : List (Parts.WrittenValue Scope.Scope)} → KeepsValues xs ys → KeepsValues (Parts.last_only xs) (Parts.last_only ys)
     keeps-last values_none = values_none
     keeps-last (values_more h values_none) = values_more h values_none
     keeps-last (values_more h (values_more g hs)) = keeps-last (values_more g hs)
 
-    keeps-taken : {xs ys : List Parts.WrittenValue} → KeepsValues xs ys → (n : Text) → KeepsValues (Parts.taken_values n xs) (Parts.taken_values n ys)
+    pub keeps-taken : {xs ys : List (Parts.WrittenValue Scope.Scope)} → KeepsValues xs ys → (n : Text) → KeepsValues (Parts.taken_values n xs) (Parts.taken_values n ys)
     keeps-taken {xs} {ys} h n = chosen (bytes_eq n (codes "class")) (keeps-group h n) where
       chosen : (b : Bool) → KeepsValues (filter (λ w. bytes_eq n w.name) xs) (filter (λ w. bytes_eq n w.name) ys) → KeepsValues (if b then filter (λ w. bytes_eq n w.name) xs else Parts.last_only (filter (λ w. bytes_eq n w.name) xs)) (if b then filter (λ w. bytes_eq n w.name) ys else Parts.last_only (filter (λ w. bytes_eq n w.name) ys))
       chosen true g = g
       chosen false g = keeps-last g
 
-    keeps-values : {xs ys : List Parts.WrittenValue} → KeepsValues xs ys → KeepsAll U (map (λ w. Eval.eval_value app σ w.by w.value) xs) (map (λ w. Eval.eval_value app τ w.by w.value) ys)
+    pub keeps-values : {xs ys : List (Parts.WrittenValue Scope.Scope)} → KeepsValues xs ys → KeepsAll U (map (λ w. Eval.eval_value app σ w.by w.value) xs) (map (λ w. Eval.eval_value app τ w.by w.value) ys)
     keeps-values values_none = keeps_none
     keeps-values (values_more {z = z} h hs) = keeps_more (Frame.value_keeps U app σ τ cells h z) (keeps-values hs)
 
-    all-append : {xs ys us vs : List Scope.Pair} → KeepsAll U xs ys → KeepsAll U us vs → KeepsAll U (xs ++ us) (ys ++ vs)
+    pub all-append : {xs ys us vs : List Scope.Pair} → KeepsAll U xs ys → KeepsAll U us vs → KeepsAll U (xs ++ us) (ys ++ vs)
     all-append keeps_none g = g
     all-append (keeps_more h hs) g = keeps_more h (all-append hs g)
 
-    all-names : {xs ys : Scope.NamedPairs} → Frame.KeepsNames U xs ys → KeepsAll U (map (λ n. n.1) xs) (map (λ n. n.1) ys)
+    pub all-names : {xs ys : Scope.NamedPairs} → Frame.KeepsNames U xs ys → KeepsAll U (map (λ n. n.1) xs) (map (λ n. n.1) ys)
     all-names Frame.names_none = keeps_none
     all-names (Frame.names_more h hs) = keeps_more h (all-names hs)
 
@@ -391,7 +391,7 @@ module _ (U : Scope.Source → Type 0) where
     is-attribute pairs i (n ∷ ns) x (inl q) = (n, q)
     is-attribute pairs i (n ∷ ns) x (inr m) = is-attribute pairs i ns x m
 
-    is-modifier : (υ : Eval.Store) (i : Path.Path) (n : ℕ) (ws : List Parts.WrittenModifier) (x : Render.Piece) → In x (Render.forest_of (Render.modifier_positions (Parts.modifiers_of app υ i n ws))) → IsModifier n i x
+    is-modifier : (υ : Eval.Store) (i : Path.Path) (n : ℕ) (ws : List (Parts.WrittenModifier Scope.Scope)) (x : Render.Piece) → In x (Render.forest_of (Render.modifier_positions (Parts.modifiers_of app υ i n ws))) → IsModifier n i x
     unfolding IsModifier
     is-modifier υ i n [] x m = absurd m
     is-modifier υ i n (w ∷ ws) x (inl q) = (n, _, omega arith, q)
@@ -421,7 +421,7 @@ module _ (U : Scope.Source → Type 0) where
     unfolding step-number last-of
     apart-modifier i n m vs ws x y h q o z = let g : n ≡ m = ap (λ j. step-number (last-of j)) (sym (ap Changes.piece_path q) ∙ (z ∙ ap Changes.piece_path o)) in omega arith
 
-    two-modifiers : {xs ys : List Parts.WrittenModifier} → KeepsModifiers xs ys → (i : Path.Path) (n : ℕ) → EachPair Related (Render.forest_of (Render.modifier_positions (Parts.modifiers_of app σ i n xs))) (Render.forest_of (Render.modifier_positions (Parts.modifiers_of app τ i n ys)))
+    two-modifiers : {xs ys : List (Parts.WrittenModifier Scope.Scope)} → KeepsModifiers xs ys → (i : Path.Path) (n : ℕ) → EachPair Related (Render.forest_of (Render.modifier_positions (Parts.modifiers_of app σ i n xs))) (Render.forest_of (Render.modifier_positions (Parts.modifiers_of app τ i n ys)))
     unfolding IsModifier
     two-modifiers modifiers_none i n x y m l = absurd m
     two-modifiers (modifiers_more {es = es} {ns = ns} h hs) i n x y (inl q) (inl o) =
@@ -430,7 +430,7 @@ module _ (U : Scope.Source → Type 0) where
     two-modifiers (modifiers_more {xs = xs} h hs) i n x y (inr q) (inl o) = let a = is-modifier σ i (suc n) xs x q in let b : suc n ≤ a.0 = a.2 in λ z. absurd (apart-modifier i n a.0 _ _ y x (omega arith) o a.3 (sym z))
     two-modifiers (modifiers_more h hs) i n x y (inr q) (inr o) = two-modifiers hs i (suc n) x y q o
 
-    alike-parts : {ws zs : List Parts.Written} → KeepsWritten ws zs → (i : Path.Path) → EachPair Related (Render.forest_of (parts_of app σ i ws)) (Render.forest_of (parts_of app τ i zs))
+    alike-parts : {ws zs : List (Parts.Written Scope.Scope)} → KeepsWritten ws zs → (i : Path.Path) → EachPair Related (Render.forest_of (parts_of app σ i ws)) (Render.forest_of (parts_of app τ i zs))
     unfolding IsAttribute IsModifier
     alike-parts {ws} {zs} h i x y m l =
         let us = Parts.attributes_in ws in let vs = Parts.attributes_in zs in

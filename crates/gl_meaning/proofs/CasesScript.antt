@@ -1,12 +1,12 @@
 -- Scripts, computed from their JSON.
-use Rattle.std.specs.Prelude.{◌≡◌, ℕ, List, [], ◌∷◌, ◌++◌, codes, refl, pos, Ok, Err, Option, Some, None}
+use Rattle.std.specs.Prelude.{◌≡◌, ℕ, List, [], ◌∷◌, ◌++◌, codes, refl, pos, Ok, Err, Some, None}
 use Rattle.std.specs.Str.{chars}
 use Rattle.serde_json.specs.Data as json
 use Rattle.gl_base.specs.Texts.{Text}
 use Rattle.gl_value.specs.Value.{undefined, integer, text}
 use Rattle.gl_meaning.specs.App.{Event, set_event, fire, batch, events_of}
 use Rattle.gl_meaning.specs.Pointer.{key_step, item_step}
-use Rattle.gl_meaning.specs.ScriptOf.{Fields, simple_found, event_found, script_found, first_unknown, ScriptReading, bad_shape, unknown_name, script, of_found}
+use Rattle.gl_meaning.specs.ScriptOf.{Fields, simple_found, event_found, script_found, first_unknown, unknown_name, of_found}
 
 abbrev number : ℕ → json.Data
 number n = json.number (json.unsigned n)

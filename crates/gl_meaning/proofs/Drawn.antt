@@ -16,7 +16,7 @@ module _ (app : App) (σ : Eval.Store) (Q : Render.Forest → Type 0) (none : Q 
     (of_text : (i : Path.Path) (z : Text) → Q (Render.single (Render.text_node i z))) (of_comment : (i : Path.Path) (z : Text) → Q (Render.single (Render.comment_node i z))) (of_deep : (i : Path.Path) → Q (Render.single (Render.too_deep i)))
     (of_position : (i : Path.Path) (vs : List Scope.Pair) (f : Render.Forest) → Q f → Q (Render.piece (Render.position i vs) f)) (of_branch : (i : Path.Path) (f : Render.Forest) → Q f → Q (Render.single (Render.branch i f)))
     (of_item : (i : Path.Path) (v : Path.V) (n : ℕ) (f g : Render.Forest) → Q f → Q g → Q (Render.piece (Render.item_region i v n f) g)) (of_component : (i : Path.Path) (w : Scope.Scope) (f : Render.Forest) → Q f → Q (Render.single (Render.component i w f)))
-    (of_element : (i : Path.Path) (tag : Text) (ws : List Parts.Written) (f : Render.Forest) → Q f → Q (Render.element_of app σ i tag ws f)) where
+    (of_element : (i : Path.Path) (tag : Text) (ws : List (Parts.Written Scope.Scope)) (f : Render.Forest) → Q f → Q (Render.element_of app σ i tag ws f)) where
   of-comment-or : (i : Path.Path) (f : Render.Forest) → Q f → Q (Render.or_comment i f)
   of-comment-or i f h = both f (if Render.has_node f then Render.no_pieces else Render.single (Render.comment_node (Path.empty ∷ i) [])) h (chosen (Render.has_node f)) where
     chosen : (b : Bool) → Q (if b then Render.no_pieces else Render.single (Render.comment_node (Path.empty ∷ i) []))

@@ -76,7 +76,7 @@ placed-item i v n f g a b x (inl (inr m)) = more-placed f (Render.piece (Render.
 placed-item i v n f g a b x (inr m) = more-placed g (Render.piece (Render.item_region i v n f) g) x (λ y k. inr k) (b x m)
 
 module _ (app : App) (σ : Eval.Store) where
-  numbered : (i : Path.Path) (n : ℕ) (ws : List Parts.WrittenModifier) → Numbered i n (Parts.modifiers_of app σ i n ws)
+  numbered : (i : Path.Path) (n : ℕ) (ws : List (Parts.WrittenModifier Scope.Scope)) → Numbered i n (Parts.modifiers_of app σ i n ws)
   numbered i n [] = tt
   numbered i n (w ∷ ws) = (refl, numbered i (suc n) ws)
 
@@ -100,8 +100,8 @@ module _ (app : App) (σ : Eval.Store) where
   modifier-bare (n ∷ ms) x (inr m) = modifier-bare ms x m
 
   -- an element's own modifiers, with their positions before it
-  module _ (i : Path.Path) (tag : Text) (ws : List Parts.Written) (f : Render.Forest) (a : AllPlaced f) where
-    abbrev us : List Parts.WrittenValue
+  module _ (i : Path.Path) (tag : Text) (ws : List (Parts.Written Scope.Scope)) (f : Render.Forest) (a : AllPlaced f) where
+    abbrev us : List (Parts.WrittenValue Scope.Scope)
     us = Parts.attributes_in ws
 
     abbrev ms : List Parts.Modifier

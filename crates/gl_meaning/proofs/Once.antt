@@ -223,13 +223,13 @@ is-attribute pairs i [] x m = absurd m
 is-attribute pairs i (n ∷ ns) x (inl q) = (n, inl refl, ap Changes.piece_path q)
 is-attribute pairs i (n ∷ ns) x (inr m) = let a = is-attribute pairs i ns x m in (a.0, inr a.1, a.2)
 
-is-modifier : (app : App) (σ : Eval.Store) (i : Path.Path) (n : ℕ) (ws : List Parts.WrittenModifier) (x : Render.Piece) → In x (Render.forest_of (Render.modifier_positions (Parts.modifiers_of app σ i n ws))) → IsModifier n i x
+is-modifier : (app : App) (σ : Eval.Store) (i : Path.Path) (n : ℕ) (ws : List (Parts.WrittenModifier Scope.Scope)) (x : Render.Piece) → In x (Render.forest_of (Render.modifier_positions (Parts.modifiers_of app σ i n ws))) → IsModifier n i x
 unfolding IsModifier
 is-modifier app σ i n [] x m = absurd m
 is-modifier app σ i n (w ∷ ws) x (inl q) = (n, omega arith, ap Changes.piece_path q)
 is-modifier app σ i n (w ∷ ws) x (inr m) = let h = is-modifier app σ i (suc n) ws x m in let g : suc n ≤ h.0 = h.1 in (h.0, omega arith, h.2)
 
-distinct-names : (ws : List Parts.WrittenValue) → NoRepeat (Parts.distinct_names ws)
+distinct-names : (ws : List (Parts.WrittenValue Scope.Scope)) → NoRepeat (Parts.distinct_names ws)
 distinct-names [] = tt
 distinct-names (w ∷ ws) = (absent w.name (Parts.distinct_names ws), no-repeat-filter (λ n. not (bytes_eq w.name n)) (Parts.distinct_names ws) (distinct-names ws)) where
   absent : (x : Text) (ns : List Text) → Among x (filter (λ n. not (bytes_eq x n)) ns) → ⊥
@@ -248,7 +248,7 @@ module _ (k : Sort) (app : App) (σ : Eval.Store) where
       once-piece k (Render.position (Path.attribute_at n ∷ i) (pairs n)) _ (once-over k (Render.position (Path.attribute_at n ∷ i) (pairs n)) tt (λ x m q. m)) (once-attributes pairs i ns d.1)
       (λ x y m l q. let a = is-attribute pairs i ns y l in d.0 (subst (λ z. Among z ns) (sym (ap (λ j. step-name (last-step j)) (sym (ap Changes.piece_path m) ∙ (q ∙ a.2)))) a.1))
 
-  once-modifiers : (i : Path.Path) (n : ℕ) (ws : List Parts.WrittenModifier) → Once k (Render.forest_of (Render.modifier_positions (Parts.modifiers_of app σ i n ws)))
+  once-modifiers : (i : Path.Path) (n : ℕ) (ws : List (Parts.WrittenModifier Scope.Scope)) → Once k (Render.forest_of (Render.modifier_positions (Parts.modifiers_of app σ i n ws)))
   unfolding IsModifier step-number last-step
   once-modifiers i n [] = tt
   once-modifiers i n (w ∷ ws) =
@@ -263,7 +263,7 @@ module _ (k : Sort) (app : App) (σ : Eval.Store) where
   unfolding last-step
   attribute-modifier i n m q = let h : Path.attribute_at n ≡ Path.modifier_at m = ap last-step q in cc
 
-  once-parts : (i : Path.Path) (ws : List Parts.Written) → Once k (Render.forest_of (parts_of app σ i ws))
+  once-parts : (i : Path.Path) (ws : List (Parts.Written Scope.Scope)) → Once k (Render.forest_of (parts_of app σ i ws))
   unfolding IsAttribute IsModifier
   once-parts i ws =
       let us = Parts.attributes_in ws in let pairs = Parts.taken_pairs app σ us in
@@ -286,7 +286,7 @@ module _ (k : Sort) (app : App) (σ : Eval.Store) where
   part-apart i (Path.slot m) h j w (inr b) = h
   part-apart i Path.empty h j w (inr b) = h
 
-  once-element : (i : Path.Path) (tag : Text) (ws : List Parts.Written) (f : Render.Forest) → AllFrom i f → Once k f → Once k (Render.element_of app σ i tag ws f)
+  once-element : (i : Path.Path) (tag : Text) (ws : List (Parts.Written Scope.Scope)) (f : Render.Forest) → AllFrom i f → Once k f → Once k (Render.element_of app σ i tag ws f)
   once-element i tag ws f u h =
       let vs = Parts.attributes_in ws in let pairs = Parts.taken_pairs app σ vs in let ms = Parts.modifiers_of app σ i 0 (Parts.modifiers_in ws) in
       let el = Render.element_node i tag (Parts.attrs_from vs pairs) ms f in
@@ -309,13 +309,13 @@ abbrev pub Later : Template.Plain → ℕ → List Render.Entry → Type 0
 Later k n [] = Unit {0}
 Later k n (x ∷ xs) = (x.key ≡ k → n ≤ x.occurrence) × Later k n xs
 
-occurrences-more : (k : Template.Plain) (l : Template.Plain) (ls : List Template.Plain) → Render.occurrences k ls ≤ Render.occurrences k (l ∷ ls)
+pub occurrences-more : (k : Template.Plain) (l : Template.Plain) (ls : List Template.Plain) → Render.occurrences k ls ≤ Render.occurrences k (l ∷ ls)
 occurrences-more k l ls = chosen (Value.same Path.no_owners k l) where
   chosen : (b : Bool) → Render.occurrences k ls ≤ (if b then suc (Render.occurrences k ls) else Render.occurrences k ls)
   chosen true = omega arith
   chosen false = omega arith
 
-later : (key : Text) (k : Template.Plain) (n i : ℕ) (before : List Template.Plain) (vs : Value.Values Path.Path) → n ≤ Render.occurrences k before → Later k n (Render.entries key i before vs)
+pub later : (key : Text) (k : Template.Plain) (n i : ℕ) (before : List Template.Plain) (vs : Value.Values Path.Path) → n ≤ Render.occurrences k before → Later k n (Render.entries key i before vs)
 later key k n i before Value.no_values h = tt
 later key k n i before (Value.value x vs) h = (
   (λ q. subst (λ z. n ≤ Render.occurrences z before) (sym q) h),

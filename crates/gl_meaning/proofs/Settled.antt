@@ -88,70 +88,70 @@ module _ (app : App) (σ τ : Eval.Store) where
   value_same w a (Template.live x) = eval_same w a x
 
   -- the parts of elements
-  abbrev AgreeValues : List Parts.WrittenValue → Type 0
+  abbrev AgreeValues : List (Parts.WrittenValue Scope.Scope) → Type 0
   AgreeValues [] = Unit {0}
   AgreeValues (w ∷ ws) = AgreeAt app σ τ (Scope.this_of w.by) × AgreeValues ws
 
-  abbrev AgreeModifiers : List Parts.WrittenModifier → Type 0
+  abbrev AgreeModifiers : List (Parts.WrittenModifier Scope.Scope) → Type 0
   AgreeModifiers [] = Unit {0}
   AgreeModifiers (w ∷ ws) = AgreeAt app σ τ (Scope.this_of w.by) × AgreeModifiers ws
 
-  abbrev AgreeWritten : List Parts.Written → Type 0
+  abbrev AgreeWritten : List (Parts.Written Scope.Scope) → Type 0
   AgreeWritten [] = Unit {0}
   AgreeWritten (w ∷ ws) = AgreeAt app σ τ (Scope.this_of w.by) × AgreeWritten ws
 
-  agree-filter : (test : Parts.WrittenValue → Bool) (ws : List Parts.WrittenValue) → AgreeValues ws → AgreeValues (filter test ws)
+  agree-filter : (test : (Parts.WrittenValue Scope.Scope) → Bool) (ws : List (Parts.WrittenValue Scope.Scope)) → AgreeValues ws → AgreeValues (filter test ws)
   agree-filter test [] a = tt
   agree-filter test (w ∷ ws) a = elim (test w) as (λ b. AgreeValues (cond b (w ∷ filter test ws) (filter test ws))) [ true ↦ (a.0, agree-filter test ws a.1) | false ↦ agree-filter test ws a.1 ]
 
-  agree-last : (ws : List Parts.WrittenValue) → AgreeValues ws → AgreeValues (Parts.last_only ws)
+  agree-last : (ws : List (Parts.WrittenValue Scope.Scope)) → AgreeValues ws → AgreeValues (Parts.last_only ws)
   agree-last [] a = tt
   agree-last (w ∷ []) a = a
   agree-last (w ∷ v ∷ ws) a = agree-last (v ∷ ws) a.1
 
-  agree-taken : (n : Text) (ws : List Parts.WrittenValue) → AgreeValues ws → AgreeValues (Parts.taken_values n ws)
+  agree-taken : (n : Text) (ws : List (Parts.WrittenValue Scope.Scope)) → AgreeValues ws → AgreeValues (Parts.taken_values n ws)
   agree-taken n ws a =
       let group = filter (λ w. bytes_eq n w.name) ws in
       let h : AgreeValues group = agree-filter _ ws a in
       elim (bytes_eq n (codes "class")) as (λ b. AgreeValues (if b then group else Parts.last_only group)) [ true ↦ h | false ↦ agree-last group h ]
 
-  values-same : (ws : List Parts.WrittenValue) → AgreeValues ws → map (λ w. Eval.eval_value app σ w.by w.value) ws ≡ map (λ w. Eval.eval_value app τ w.by w.value) ws
+  values-same : (ws : List (Parts.WrittenValue Scope.Scope)) → AgreeValues ws → map (λ w. Eval.eval_value app σ w.by w.value) ws ≡ map (λ w. Eval.eval_value app τ w.by w.value) ws
   values-same [] a = refl
   values-same (w ∷ ws) a = ap₂ (λ y ys. y ∷ ys) (value_same w.by a.0 w.value) (values-same ws a.1)
 
-  taken-same : (ws : List Parts.WrittenValue) → AgreeValues ws → (n : Text) → Parts.taken_pairs app σ ws n ≡ Parts.taken_pairs app τ ws n
+  taken-same : (ws : List (Parts.WrittenValue Scope.Scope)) → AgreeValues ws → (n : Text) → Parts.taken_pairs app σ ws n ≡ Parts.taken_pairs app τ ws n
   taken-same ws a n = values-same (Parts.taken_values n ws) (agree-taken n ws a)
 
-  modifiers-same : (ws : List Parts.WrittenModifier) → AgreeModifiers ws → (i : Path.Path) (n : ℕ) → Parts.modifiers_of app σ i n ws ≡ Parts.modifiers_of app τ i n ws
+  modifiers-same : (ws : List (Parts.WrittenModifier Scope.Scope)) → AgreeModifiers ws → (i : Path.Path) (n : ℕ) → Parts.modifiers_of app σ i n ws ≡ Parts.modifiers_of app τ i n ws
   modifiers-same [] a i n = refl
   modifiers-same (w ∷ ws) a i n =
       ap₂ (λ y ys. y ∷ ys)
       (ap₂ (λ es ns. record { path = Path.modifier_at n ∷ i; name = w.name; args = es; names = ns }) (eval_all_same w.by a.0 w.args) (eval_named_same w.by a.0 w.names))
       (modifiers-same ws a.1 i (suc n))
 
-  agree-attribute : (b : Scope.Scope) (q : Template.Part) → AgreeAt app σ τ (Scope.this_of b) → (ws : List Parts.WrittenValue) → AgreeValues ws → AgreeValues (cons_option (Parts.attribute_in b q) ws)
+  agree-attribute : (b : Scope.Scope) (q : Template.Part) → AgreeAt app σ τ (Scope.this_of b) → (ws : List (Parts.WrittenValue Scope.Scope)) → AgreeValues ws → AgreeValues (cons_option (Parts.attribute_in b q) ws)
   agree-attribute b (Template.attribute n v) a ws h = (a, h)
   agree-attribute b (Template.modifier n es ns) a ws h = h
   agree-attribute b Template.spread a ws h = h
 
-  agree-attributes : (ws : List Parts.Written) → AgreeWritten ws → AgreeValues (Parts.attributes_in ws)
+  agree-attributes : (ws : List (Parts.Written Scope.Scope)) → AgreeWritten ws → AgreeValues (Parts.attributes_in ws)
   agree-attributes [] a = tt
   agree-attributes (w ∷ ws) a = agree-attribute w.by w.part a.0 (Parts.attributes_in ws) (agree-attributes ws a.1)
 
-  agree-modifier : (b : Scope.Scope) (q : Template.Part) → AgreeAt app σ τ (Scope.this_of b) → (ws : List Parts.WrittenModifier) → AgreeModifiers ws → AgreeModifiers (cons_option (Parts.modifier_in b q) ws)
+  agree-modifier : (b : Scope.Scope) (q : Template.Part) → AgreeAt app σ τ (Scope.this_of b) → (ws : List (Parts.WrittenModifier Scope.Scope)) → AgreeModifiers ws → AgreeModifiers (cons_option (Parts.modifier_in b q) ws)
   agree-modifier b (Template.attribute n v) a ws h = h
   agree-modifier b (Template.modifier n es ns) a ws h = (a, h)
   agree-modifier b Template.spread a ws h = h
 
-  agree-modifiers : (ws : List Parts.Written) → AgreeWritten ws → AgreeModifiers (Parts.modifiers_in ws)
+  agree-modifiers : (ws : List (Parts.Written Scope.Scope)) → AgreeWritten ws → AgreeModifiers (Parts.modifiers_in ws)
   agree-modifiers [] a = tt
   agree-modifiers (w ∷ ws) a = agree-modifier w.by w.part a.0 (Parts.modifiers_in ws) (agree-modifiers ws a.1)
 
-  agree-written-append : (ws vs : List Parts.Written) → AgreeWritten ws → AgreeWritten vs → AgreeWritten (ws ++ vs)
+  agree-written-append : (ws vs : List (Parts.Written Scope.Scope)) → AgreeWritten ws → AgreeWritten vs → AgreeWritten (ws ++ vs)
   agree-written-append [] vs a b = b
   agree-written-append (w ∷ ws) vs a b = (a.0, agree-written-append ws vs a.1 b)
 
-  agree-spread : (for : List Parts.Written) (w : Scope.Scope) (ps : List Template.Part) → AgreeWritten for → AgreeAt app σ τ (Scope.this_of w) → AgreeWritten (Parts.spread_in for w ps)
+  agree-spread : (for : List (Parts.Written Scope.Scope)) (w : Scope.Scope) (ps : List Template.Part) → AgreeWritten for → AgreeAt app σ τ (Scope.this_of w) → AgreeWritten (Parts.spread_in for w ps)
   agree-spread for w [] a b = tt
   agree-spread for w (Template.spread ∷ ps) a b = agree-written-append for _ a (agree-spread for w ps a b)
   agree-spread for w (Template.attribute n v ∷ ps) a b = (b, agree-spread for w ps a b)
@@ -164,7 +164,7 @@ module _ (app : App) (σ τ : Eval.Store) where
   agree-written : (w : Scope.Scope) (ps : List Template.Part) → AgreeScope app σ τ w → AgreeWritten (Parts.written_parts w ps)
   agree-written (Scope.scope i b l w) ps a = agree-spread (Parts.passed_parts w) (Scope.scope i b l w) ps (agree-passed-parts w a.1) a.0
 
-  element-same : (i : Path.Path) (tag : Text) (ws : List Parts.Written) → AgreeWritten ws → (f : Render.Forest) → Render.element_of app σ i tag ws f ≡ Render.element_of app τ i tag ws f
+  element-same : (i : Path.Path) (tag : Text) (ws : List (Parts.Written Scope.Scope)) → AgreeWritten ws → (f : Render.Forest) → Render.element_of app σ i tag ws f ≡ Render.element_of app τ i tag ws f
   element-same i tag ws a f =
       let taken : Parts.taken_pairs app σ (Parts.attributes_in ws) ≡ Parts.taken_pairs app τ (Parts.attributes_in ws) = fun_ext (taken-same (Parts.attributes_in ws) (agree-attributes ws a)) in
       ap₂ (λ ps ms. Render.element_from i tag (Parts.attributes_in ws) ps ms f) taken (modifiers-same (Parts.modifiers_in ws) (agree-modifiers ws a) i 0)
@@ -177,7 +177,7 @@ module _ (app : App) (σ τ : Eval.Store) where
   agree-comment : (i : Path.Path) (f : Render.Forest) → AgreeIn app σ τ (Render.or_comment i f) → AgreeIn app σ τ f
   agree-comment i f a = (agree-join f _ a).0
 
-  agree-element : (i : Path.Path) (tag : Text) (ws : List Parts.Written) (f : Render.Forest) → AgreeIn app σ τ (Render.element_of app σ i tag ws f) → AgreeIn app σ τ f
+  agree-element : (i : Path.Path) (tag : Text) (ws : List (Parts.Written Scope.Scope)) (f : Render.Forest) → AgreeIn app σ τ (Render.element_of app σ i tag ws f) → AgreeIn app σ τ f
   agree-element i tag ws f a = ((agree-join (Render.forest_of _) (Render.single (Render.element_node i tag _ _ f)) a).1).0
 
   region-same : (i : Path.Path) (f g : Render.Forest) → (AgreeIn app σ τ f → f ≡ g) → AgreeIn app σ τ (Render.region_at i f) → Render.region_at i f ≡ Render.region_at i g

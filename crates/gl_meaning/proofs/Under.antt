@@ -114,7 +114,7 @@ in-attributes x i pairs [] m = absurd m
 in-attributes x i pairs (n ∷ ns) (inl q) = (Path.attribute_at n, pairs n, tt, q)
 in-attributes x i pairs (n ∷ ns) (inr m) = in-attributes x i pairs ns m
 
-in-modifiers : (app : App) (σ : Eval.Store) (x : Render.Piece) (i : Path.Path) (n : ℕ) (ws : List Parts.WrittenModifier) → In x (Render.forest_of (Render.modifier_positions (Parts.modifiers_of app σ i n ws))) → IsPart i x
+in-modifiers : (app : App) (σ : Eval.Store) (x : Render.Piece) (i : Path.Path) (n : ℕ) (ws : List (Parts.WrittenModifier Scope.Scope)) → In x (Render.forest_of (Render.modifier_positions (Parts.modifiers_of app σ i n ws))) → IsPart i x
 in-modifiers app σ x i n [] m = absurd m
 in-modifiers app σ x i n (w ∷ ws) (inl q) = (Path.modifier_at n, _, tt, q)
 in-modifiers app σ x i n (w ∷ ws) (inr m) = in-modifiers app σ x i (suc n) ws m
@@ -125,10 +125,10 @@ pub data InElement (x : Render.Piece) (i : Path.Path) (tag : Text) (qs : List Re
   itself : (a : Parts.Attrs) (ms : List Parts.Modifier) → x ≡ Render.element_node i tag a ms f → InElement x i tag qs f
   inside : In x f → InElement x i tag qs f
 
-abbrev pub parts_of : App → Eval.Store → Path.Path → List Parts.Written → List Render.Piece
+abbrev pub parts_of : App → Eval.Store → Path.Path → List (Parts.Written Scope.Scope) → List Render.Piece
 parts_of app σ i ws = Render.attr_positions i (Parts.attributes_in ws) (Parts.taken_pairs app σ (Parts.attributes_in ws)) ++ Render.modifier_positions (Parts.modifiers_of app σ i 0 (Parts.modifiers_in ws))
 
-pub in_parts : (app : App) (σ : Eval.Store) (x : Render.Piece) (i : Path.Path) (ws : List Parts.Written) → In x (Render.forest_of (parts_of app σ i ws)) → IsPart i x
+pub in_parts : (app : App) (σ : Eval.Store) (x : Render.Piece) (i : Path.Path) (ws : List (Parts.Written Scope.Scope)) → In x (Render.forest_of (parts_of app σ i ws)) → IsPart i x
 in_parts app σ x i ws m =
     let vs = Parts.attributes_in ws in let pairs = Parts.taken_pairs app σ vs in
     elim (in-forest-append x (Render.attr_positions i vs pairs) (Render.modifier_positions (Parts.modifiers_of app σ i 0 (Parts.modifiers_in ws))) m) [
@@ -141,7 +141,7 @@ in-single x i tag a ms qs f (inl (inl q)) = itself a ms q
 in-single x i tag a ms qs f (inl (inr m)) = inside m
 in-single x i tag a ms qs f (inr m) = absurd m
 
-pub in_element : (app : App) (σ : Eval.Store) (x : Render.Piece) (i : Path.Path) (tag : Text) (ws : List Parts.Written) (f : Render.Forest) → In x (Render.element_of app σ i tag ws f) → InElement x i tag (parts_of app σ i ws) f
+pub in_element : (app : App) (σ : Eval.Store) (x : Render.Piece) (i : Path.Path) (tag : Text) (ws : List (Parts.Written Scope.Scope)) (f : Render.Forest) → In x (Render.element_of app σ i tag ws f) → InElement x i tag (parts_of app σ i ws) f
 in_element app σ x i tag ws f m =
     let vs = Parts.attributes_in ws in
     let pairs = Parts.taken_pairs app σ vs in

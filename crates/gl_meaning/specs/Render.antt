@@ -72,7 +72,7 @@ abbrev pub put_of : Path → Pair → Forest
 put_of p v = piece (position p (v ∷ [])) (single (text_node p (text_of v.value)))
 
 -- An attribute is a position where it takes a live value.
-abbrev pub attr_positions : Path → List WrittenValue → (Text → List Pair) → List Piece
+abbrev pub attr_positions : Path → List (WrittenValue Scope) → (Text → List Pair) → List Piece
 attr_positions p ws pairs =
     map (λ n. position (attribute_at n ∷ p) (pairs n))
     (filter (λ n. some_live (taken_values n ws)) (distinct_names ws))
@@ -82,12 +82,12 @@ abbrev pub modifier_positions : List Modifier → List Piece
 modifier_positions ms = map (λ m. position m.path (m.args ++ map (λ n. n.1) m.names)) ms
 
 -- An element: its positions, and the node with what is in it.
-abbrev pub element_from : Path → Text → List WrittenValue → (Text → List Pair) → List Modifier → Forest → Forest
+abbrev pub element_from : Path → Text → List (WrittenValue Scope) → (Text → List Pair) → List Modifier → Forest → Forest
 element_from p tag ws pairs ms f =
     join (forest_of (attr_positions p ws pairs ++ modifier_positions ms))
     (single (element_node p tag (attrs_from ws pairs) ms f))
 
-abbrev pub element_of : App → Store → Path → Text → List Written → Forest → Forest
+abbrev pub element_of : App → Store → Path → Text → List (Written Scope) → Forest → Forest
 element_of app store p tag ws f =
     element_from p tag (attributes_in ws) (taken_pairs app store (attributes_in ws)) (modifiers_of app store p 0 (modifiers_in ws)) f
 

@@ -1,6 +1,6 @@
 -- The script that JSON holds. A script is an array of events, and an event is an object with exactly the members of one form:
 -- `set` and `to`; `fire`, `event` and perhaps `data`; or `batch`, which is an array of events of the first two forms.
-use Rattle.std.specs.Prelude.{ℕ, ◌+◌, nat_lt, nat_le, List, [], ◌∷◌, Bool, ◌&&◌, ◌==◌, codes, if◌then◌else◌, Result, Ok, Err, Option, Some, None, option_map, option_and_then, is_some}
+use Rattle.std.specs.Prelude.{ℕ, ◌+◌, nat_lt, nat_le, List, [], ◌∷◌, Bool, ◌&&◌, ◌==◌, codes, if◌then◌else◌, Ok, Err, Option, Some, None, option_map, option_and_then, is_some}
 use Rattle.std.specs.Str.{chars}
 use Rattle.gl_base.specs.Names.{named, or_else}
 use Rattle.gl_base.specs.Texts.{Text}

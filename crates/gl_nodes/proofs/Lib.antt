@@ -13,3 +13,10 @@ pub mod Trees
 pub mod Removing
 pub mod Views
 pub mod Callers
+pub mod Flats
+pub mod FlatTrees
+pub mod Orders
+pub mod FlatPlaces
+pub mod FlatLists
+pub mod Siblings
+pub mod Looks

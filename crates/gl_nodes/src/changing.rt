@@ -8,6 +8,7 @@ ghost use Rattle.gl_nodes.specs.Node as n;
 ghost use Rattle.gl_nodes.specs.Tree.{node_at, IsMade, IsPlace, ParentIsElement, CanMove, Moves, CanRemove, Removes, Changes};
 ghost use Rattle.gl_nodes.specs.View.{seen_range, seen_node, nodes_of, links_of};
 ghost use Rattle.gl_nodes.specs.Links as l;
+ghost use Rattle.gl_nodes.specs.Flat.{IsFlat, PutsFlat, MovesRange, RemovesRange, ChangesFlat, stamp_of};
 ghost use Rattle.gl_nodes.specs.Freeing.{RemovesRun};
 
 use crate::freeing::free_run;
@@ -20,6 +21,27 @@ impl NodeTree {
     /// Puts a made node that is not in the tree before a child of a parent, or at the end of its children. With no
     /// parent these are the trees of the forest.
     pub fn insert_before(
+        &mut self,
+        parent: Option<NodeId>,
+        node: NodeId,
+        next: Option<NodeId>,
+    ) -> Result<(), AllocError>
+        requires node { IsMade node self.old }
+        requires parent { ParentIsElement self.old parent }
+        requires place { IsPlace self.old parent next }
+        ensures ok { OnOk result (self.new ≡ record self.old { forest = f.edit parent (f.put_before next (f.leaf node)) self.old.forest; inserts = self.old.inserts + 1 }) }
+        ensures flat { OnOk result (PutsFlat self.old self.new (stamp_of parent) (stamp_of next) node.1) }
+        ensures sound { IsFlat self.new }
+        ensures err { OnErr result (self.new ≡ self.old) }
+    {
+        self.flat();
+        let done = self.put_below(parent, node, next);
+        self.flat();
+        done
+    }
+
+    // The same, without what it does by stamps.
+    fn put_below(
         &mut self,
         parent: Option<NodeId>,
         node: NodeId,
@@ -46,6 +68,20 @@ impl NodeTree {
         requires range { CanMove self.old.forest (seen_range range) next }
         ensures forest { Moves (seen_range range) next self.old.forest self.new.forest }
         ensures rest { self.new ≡ record self.old { forest = self.new.forest; moves = self.old.moves + 1 } }
+        ensures flat { MovesRange (seen_range range) next self.old self.new }
+        ensures sound { IsFlat self.new }
+    {
+        self.flat();
+        self.move_nodes(range, next);
+        self.flat();
+    }
+
+    // The same, without what it does by stamps.
+    fn move_nodes(&mut self, range: Range, next: Option<NodeId>)
+        requires room { self.old.moves + 1 < 2 ^ 128 }
+        requires range { CanMove self.old.forest (seen_range range) next }
+        ensures forest { Moves (seen_range range) next self.old.forest self.new.forest }
+        ensures rest { self.new ≡ record self.old { forest = self.new.forest; moves = self.old.moves + 1 } }
     {
         match &range {
             Range::Empty => {}
@@ -64,6 +100,21 @@ impl NodeTree {
         ensures made { self.new.made ≡ self.old.made }
         ensures moves { self.new.moves ≡ self.old.moves }
         ensures inserts { self.new.inserts ≡ self.old.inserts }
+        ensures flat { RemovesRange (seen_range range) self.old self.new }
+        ensures sound { IsFlat self.new }
+    {
+        self.flat();
+        self.remove_nodes(range);
+        self.flat();
+    }
+
+    // The same, without what it does by stamps.
+    fn remove_nodes(&mut self, range: Range)
+        requires { CanRemove self.old.forest (seen_range range) }
+        ensures removes { Removes (seen_range range) self.old self.new }
+        ensures made { self.new.made ≡ self.old.made }
+        ensures moves { self.new.moves ≡ self.old.moves }
+        ensures inserts { self.new.inserts ≡ self.old.inserts }
     {
         match &range {
             Range::Empty => {}
@@ -75,6 +126,20 @@ impl NodeTree {
 
     /// Gives a text or a comment another text.
     pub fn set_text(&mut self, node: NodeId, text: &str) -> Result<(), AllocError>
+        requires { IfSome (node_at self.old node) n.IsTold × IsSome (node_at self.old node) }
+        ensures ok { OnOk result (Changes self.old self.new node (option_map (n.retold (chars text.now)) (node_at self.old node))) }
+        ensures flat { OnOk result (ChangesFlat self.old self.new node.1 (option_map (n.retold (chars text.now)) (node_at self.old node))) }
+        ensures sound { IsFlat self.new }
+        ensures err { OnErr result (self.new ≡ self.old) }
+    {
+        self.flat();
+        let done = self.retell(node, text);
+        self.flat();
+        done
+    }
+
+    // The same, without what it does by stamps.
+    fn retell(&mut self, node: NodeId, text: &str) -> Result<(), AllocError>
         requires { IfSome (node_at self.old node) n.IsTold × IsSome (node_at self.old node) }
         ensures ok { OnOk result (Changes self.old self.new node (option_map (n.retold (chars text.now)) (node_at self.old node))) }
         ensures err { OnErr result (self.new ≡ self.old) }
@@ -92,6 +157,20 @@ impl NodeTree {
         name: &str,
         value: Option<&str>,
     ) -> Result<(), AllocError>
+        requires { IfSome (node_at self.old node) n.IsElement × IsSome (node_at self.old node) }
+        ensures ok { OnOk result (Changes self.old self.new node (option_map (n.attributed (chars name.now) (option_map (λ v. chars v.now) value.entry)) (node_at self.old node))) }
+        ensures flat { OnOk result (ChangesFlat self.old self.new node.1 (option_map (n.attributed (chars name.now) (option_map (λ v. chars v.now) value.entry)) (node_at self.old node))) }
+        ensures sound { IsFlat self.new }
+        ensures err { OnErr result (self.new ≡ self.old) }
+    {
+        self.flat();
+        let done = self.put_attr(node, name, value);
+        self.flat();
+        done
+    }
+
+    // The same, without what it does by stamps.
+    fn put_attr(&mut self, node: NodeId, name: &str, value: Option<&str>) -> Result<(), AllocError>
         requires { IfSome (node_at self.old node) n.IsElement × IsSome (node_at self.old node) }
         ensures ok { OnOk result (Changes self.old self.new node (option_map (n.attributed (chars name.now) (option_map (λ v. chars v.now) value.entry)) (node_at self.old node))) }
         ensures err { OnErr result (self.new ≡ self.old) }

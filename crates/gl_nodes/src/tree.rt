@@ -5,6 +5,8 @@ ghost use Rattle.gl_nodes.specs.Forest as f;
 ghost use Rattle.gl_nodes.specs.Node as n;
 ghost use Rattle.gl_nodes.specs.Tree.{node_at, first_in, IsIn, IsSound, Makes};
 ghost use Rattle.gl_nodes.specs.View.{seen_node, AddsEntry};
+ghost use Rattle.gl_nodes.specs.Flat.{IsFlat, MakesFlat, IsNextOf, children, node_by, stamp_of, head_of, IsRead, walked, order};
+ghost use Rattle.gl_arena.specs.Arena.{IsOwn};
 
 use crate::links::{Entries, Entry, first_at, links_below, next_at};
 use crate::{Attrs, Node, NodeId};
@@ -54,6 +56,7 @@ impl NodeTree {
         ensures made { IfOk result (λ t. t.made ≡ 0) }
         ensures moves { IfOk result (λ t. t.moves ≡ 0) }
         ensures inserts { IfOk result (λ t. t.inserts ≡ 0) }
+        ensures stamps { IfOk result (λ t. t.nodes.made ≡ 1) }
     {
         let mut entries = Arena::new(alloc)?;
         let root = add(&mut entries, None)?;
@@ -70,8 +73,11 @@ impl NodeTree {
     /// Makes an element without attributes, which is not in the tree yet.
     pub fn element(&mut self, tag: &str) -> Result<NodeId, AllocError>
         ensures ok { IfOk result (λ i. Makes self.old self.new i (n.element (chars tag.now) [])) }
+        ensures flat { IfOk result (λ i. MakesFlat self.old self.new i (n.element (chars tag.now) [])) }
+        ensures sound { IsFlat self.new }
         ensures err { OnErr result (self.new ≡ self.old) }
     {
+        self.flat();
         let tag = Text::from_str(self.alloc, tag)?;
         let attrs = Attrs::new(self.alloc);
         self.make(Node::Element { tag, attrs })
@@ -80,8 +86,11 @@ impl NodeTree {
     /// Makes a text, which is not in the tree yet.
     pub fn text(&mut self, text: &str) -> Result<NodeId, AllocError>
         ensures ok { IfOk result (λ i. Makes self.old self.new i (n.text (chars text.now))) }
+        ensures flat { IfOk result (λ i. MakesFlat self.old self.new i (n.text (chars text.now))) }
+        ensures sound { IsFlat self.new }
         ensures err { OnErr result (self.new ≡ self.old) }
     {
+        self.flat();
         let text = Text::from_str(self.alloc, text)?;
         self.make(Node::Text(text))
     }
@@ -89,13 +98,30 @@ impl NodeTree {
     /// Makes a comment, which is not in the tree yet.
     pub fn comment(&mut self, text: &str) -> Result<NodeId, AllocError>
         ensures ok { IfOk result (λ i. Makes self.old self.new i (n.comment (chars text.now))) }
+        ensures flat { IfOk result (λ i. MakesFlat self.old self.new i (n.comment (chars text.now))) }
+        ensures sound { IsFlat self.new }
         ensures err { OnErr result (self.new ≡ self.old) }
     {
+        self.flat();
         let text = Text::from_str(self.alloc, text)?;
         self.make(Node::Comment(text))
     }
 
+    // Makes a node that is not in the tree yet.
     fn make(&mut self, node: Node) -> Result<NodeId, AllocError>
+        ensures ok { IfOk result (λ i. Makes self.old self.new i (seen_node node)) }
+        ensures flat { IfOk result (λ i. MakesFlat self.old self.new i (seen_node node)) }
+        ensures sound { IsFlat self.new }
+        ensures err { OnErr result (self.new ≡ self.old) }
+    {
+        self.flat();
+        let made = self.make_entry(node);
+        self.flat();
+        made
+    }
+
+    // The same, without what it does by stamps.
+    fn make_entry(&mut self, node: Node) -> Result<NodeId, AllocError>
         ensures ok { IfOk result (λ i. Makes self.old self.new i (seen_node node)) }
         ensures err { OnErr result (self.new ≡ self.old) }
     {
@@ -119,12 +145,26 @@ impl NodeTree {
         }
     }
 
+    /// The node of an id that is in the tree, or made and not in it yet, and else none. For an id that this tree
+    /// gave it is the node of the id's stamp.
+    pub fn find(&self, node: NodeId) -> Option<&Node>
+        ensures id { option_map (λ v. seen_node v.now) result ≡ node_at self.now node }
+        ensures stamp { IsOwn self.now.nodes node → option_map (λ v. seen_node v.now) result ≡ node_by self.now node.1 }
+    {
+        match self.entries.find(node) {
+            Some(entry) => entry.node.as_ref(),
+            None => None,
+        }
+    }
+
     /// The first child of a node of the tree, or the first node of the forest.
     pub fn first(&self, parent: Option<NodeId>) -> Option<NodeId>
         requires { IsSome (f.below parent self.now.forest) }
         ensures child { result ≡ first_in (f.below parent self.now.forest) }
+        ensures flat { stamp_of result ≡ head_of (children self.now (stamp_of parent)) }
         ensures sound { IsSound self.now }
     {
+        self.flat();
         first_at(&self.entries, parent.unwrap_or(self.root))
     }
 
@@ -132,10 +172,35 @@ impl NodeTree {
     pub fn next(&self, node: NodeId) -> Option<NodeId>
         requires { IsIn node self.now }
         ensures sibling { result ≡ first_in (f.after_node node self.now.forest) }
+        ensures flat { IsNextOf self.now node.1 (stamp_of result) }
         ensures sound { IsSound self.now }
     {
-        let _ = &self.root;
+        self.flat();
         next_at(&self.entries, node)
+    }
+
+    /// The law that each id and each stamp stands once in the forest and names a node, and that no two live ids have
+    /// one stamp.
+    pub fn flat(&self)
+        ensures { IsFlat self.now }
+    {
+        self.sound();
+        self.entries.stamps();
+    }
+
+    /// The law that the recursion over children gives the forest, in document order.
+    pub fn in_order(&self)
+        ensures read { IsRead (λ s. children self.now (Some s)) self.now.forest }
+        ensures order { walked (λ s. children self.now (Some s)) (f.size self.now.forest) (children self.now None) ≡ order self.now.forest }
+    {
+        self.flat();
+    }
+
+    // The law that each id stands once and names a node.
+    fn sound(&self)
+        ensures { IsSound self.now }
+    {
+        let _ = &self.root;
     }
 
     /// How many nodes were made.

@@ -4,3 +4,7 @@ pub mod Looking
 pub mod Printings
 pub mod Carries
 pub mod Built
+pub mod Pieces
+pub mod Numberings
+pub mod Carried
+pub mod Turns

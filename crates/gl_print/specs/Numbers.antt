@@ -1,8 +1,8 @@
 -- The numbers of nodes.
-use Rattle.std.specs.Prelude.{◌≡◌, ℕ, suc, ◌==◌, List, [], ◌∷◌, ◌++◌, Option, Some, None, if◌then◌else◌, refl}
+use Rattle.std.specs.Prelude.{◌≡◌, ℕ, suc, ◌+◌, ◌<◌, ◌==◌, List, [], ◌∷◌, ◌++◌, Option, Some, None, if◌then◌else◌, refl}
 use Rattle.std.specs.Coded.{Coded, code_by, coded×, coded_ℕ, coded_list}
 use Rattle.gl_arena.specs.Id.{Id, same_id}
-use Rattle.gl_nodes.specs.Forest.{Forest, end, tree}
+use Rattle.gl_nodes.specs.Forest.{Forest, end, tree, hit}
 
 -- the numbers that nodes have, and the next one that is given
 pub record Numbers : Type 0 where
@@ -62,3 +62,35 @@ pub record CarriesFront (m m' : Id → Option ℕ) (ps : List (Id × Id)) : Type
   pub rest : List (Id × Id)
   pub pairs : ps ≡ done ++ rest
   pub numbers : m' ≡ carried m done
+
+-- each node stands once among the numbers
+abbrev pub AreKeysOnce : List (Id × ℕ) → Type 0
+AreKeysOnce [] = Unit {0}
+AreKeysOnce (p ∷ ps) = (at p.0 ps ≡ None) × AreKeysOnce ps
+
+-- No two nodes have one number, and each number is below the next one.
+pub record IsNumbering (m : Numbers) : Type 0 where
+  pub once : (i k : Id) (n : ℕ) → at i m.of ≡ Some n → at k m.of ≡ Some n → i ≡ k
+  pub below : (i : Id) (n : ℕ) → at i m.of ≡ Some n → n < m.next
+
+-- The same of those nodes alone that are counted, as those of a tree: where numbers were carried, an old node and its
+-- new one have one number, and only one of the two stands in the tree.
+pub record IsNumberingOf (counts : Id → ℕ) (of : Id → Option ℕ) (next : ℕ) : Type 0 where
+  pub once : (i k : Id) (n : ℕ) → 0 < counts i → 0 < counts k → of i ≡ Some n → of k ≡ Some n → i ≡ k
+  pub below : (i : Id) (n : ℕ) → 0 < counts i → of i ≡ Some n → n < next
+
+-- how often a node is the old one of a pair
+abbrev pub olds : Id → List (Id × Id) → ℕ
+olds i [] = 0
+olds i (p ∷ ps) = hit i p.0 + olds i ps
+
+-- each old node is that of one pair, and is not counted
+abbrev pub AreOld : (Id → ℕ) → List (Id × Id) → Type 0
+AreOld counts [] = Unit {0}
+AreOld counts (p ∷ ps) = (counts p.0 ≡ 0) × (olds p.0 ps ≡ 0) × AreOld counts ps
+
+-- Where the nodes that are counted and the old ones have numbers of their own, the ones that are counted have these
+-- after the pairs were carried.
+abbrev pub KeepsNumbering : Numbers → Numbers → List (Id × Id) → Type 0
+KeepsNumbering old new ps =
+    (counts : Id → ℕ) → AreOld counts ps → IsNumberingOf (λ i. counts i + olds i ps) (λ i. at i old.of) old.next → IsNumberingOf counts (λ i. at i new.of) new.next

@@ -1,5 +1,5 @@
 // The numbers of nodes.
-ghost use Rattle.std.specs.Prelude.{◌≡◌, ◌≢◌, ◌+◌, [], Some, None, IfOk, OnOk, OnErr, IfSome, IfNone, MatchOption};
+ghost use Rattle.std.specs.Prelude.{◌≡◌, ◌≢◌, ◌↔◌, ◌+◌, [], Some, None, IfOk, OnOk, OnErr, IfSome, IfNone, MatchOption};
 ghost use Rattle.gl_arena.specs.Id.{Id};
 ghost use Rattle.gl_print.specs.Numbers as n;
 
@@ -32,6 +32,7 @@ impl Numbers {
     pub fn new(alloc: Global) -> Numbers
         ensures of { result.of ≡ [] }
         ensures next { result.next ≡ 1 }
+        ensures numbering { n.IsNumbering result }
     {
         Numbers {
             next: 1,
@@ -57,8 +58,26 @@ impl Numbers {
         self.pairs.get(&node).copied()
     }
 
-    /// The node of a number.
+    /// The node of a number: where no two nodes have one number, it is exactly the one that has this. Else it is the
+    /// first of them.
     pub fn node(&self, number: u128) -> Option<NodeId>
+        ensures first { result ≡ n.node_of number self.now.of }
+        ensures number { IfSome result (λ i. n.at i self.now.of ≡ Some number) }
+        ensures tied { n.IsNumbering self.now → (i : Id) → (result ≡ Some i) ↔ (n.at i self.now.of ≡ Some number) }
+    {
+        self.keys_once();
+        self.find_node(number)
+    }
+
+    // The keys of a map ascend.
+    fn keys_once(&self)
+        ensures { n.AreKeysOnce self.now.of }
+    {
+        let _ = self.pairs.iter();
+    }
+
+    // The first node that has a number.
+    fn find_node(&self, number: u128) -> Option<NodeId>
         ensures { result ≡ n.node_of number self.now.of }
     {
         for (node, given) in self.pairs.iter() {
@@ -70,8 +89,19 @@ impl Numbers {
     }
 
     /// Gives each new node the number of its old one, where that has a number, and leaves all other numbers. Where
-    /// memory is wanting, some of the first pairs were carried.
+    /// memory is wanting, some of the first pairs were carried. The nodes of a tree in which no old node stands keep
+    /// numbers of their own.
     pub fn carry(&mut self, pairs: &NodePairs) -> Result<(), AllocError>
+        ensures of { OnOk result ((λ i. n.at i self.new.of) ≡ n.carried (λ i. n.at i self.old.of) pairs.now) }
+        ensures next { self.new.next ≡ self.old.next }
+        ensures err { OnErr result (n.CarriesFront (λ i. n.at i self.old.of) (λ i. n.at i self.new.of) pairs.now) }
+        ensures numbering { n.KeepsNumbering self.old self.new pairs.now }
+    {
+        self.carry_all(pairs)
+    }
+
+    // The pairs in turn.
+    fn carry_all(&mut self, pairs: &NodePairs) -> Result<(), AllocError>
         ensures of { OnOk result ((λ i. n.at i self.new.of) ≡ n.carried (λ i. n.at i self.old.of) pairs.now) }
         ensures next { self.new.next ≡ self.old.next }
         ensures err { OnErr result (n.CarriesFront (λ i. n.at i self.old.of) (λ i. n.at i self.new.of) pairs.now) }
@@ -82,6 +112,7 @@ impl Numbers {
         Ok(())
     }
 
+    // One pair.
     fn carry_one(&mut self, pair: &(NodeId, NodeId)) -> Result<(), AllocError>
         ensures of { OnOk result ((λ i. n.at i self.new.of) ≡ n.given_on (λ i. n.at i self.old.of) pair.now) }
         ensures next { self.new.next ≡ self.old.next }
