@@ -7,6 +7,7 @@
 mod finding;
 mod key;
 mod keying;
+pub mod laws;
 mod lists;
 mod planning;
 mod step;

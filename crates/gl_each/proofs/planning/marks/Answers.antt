@@ -3,9 +3,12 @@ use Rattle.gl_each.specs.Sync.{kept_by}
 use Rattle.gl_each.specs.View.{step_view}
 use Rattle.gl_each.specs.declared.step.PlanStep.{PlanStep}
 use Rattle.gl_each.specs.declared.step.PlanStep.TheVariants.{Retain}
-use Rattle.gl_each.proofs.Plans.{marks_none, marks_one, marks_far, get_or-within}
+use Rattle.gl_each.proofs.Plans.{marks_none, marks_one, marks_far, get_or-within, unmarked}
 use Rattle.gl_each.proofs.planning.marks.Goals as goal
 use Rattle.gl_each.proofs.planning.marks.Goals.{in-Some+then-place-len, in-Some+else-place-len, in_default}
+
+pub loop-step-init : goal.loop-step-init
+loop-step-init c = c.in_ok-list.ensures.items_if_clones_equal (λ y e. e) ∙ unmarked c.args.count
 
 pub loop-step-preserved : goal.loop-step-preserved
 loop-step-preserved c =
