@@ -17,3 +17,6 @@ pub use keying::keys;
 pub use lists::{Keys, Places, PlanSteps};
 pub use planning::plan;
 pub use step::{Plan, PlanStep};
+
+#[cfg(test)]
+mod tests;
