@@ -1,13 +1,12 @@
 -- A plan carried out on the list of old items gives the new list.
-use Rattle.std.proofs.Common.{◌≡◌, ◌≢◌, ℕ, zero, suc, ◌+◌, ◌<◌, ◌≤◌, List, [], ◌∷◌, ◌++◌, length, map, Bool, true, false, Option, Some, None, true≢false, add-one, refl, sym, ap, ap₂, subst, ◌∙◌, append_assoc, inl, inr, arith, eq-eqb, eqb-true, ltb-true, ltb-false, lt-ltb, le-ltb}
+use Rattle.std.proofs.Common.{◌≡◌, ◌≢◌, ℕ, zero, suc, ◌+◌, ◌<◌, ◌≤◌, List, [], ◌∷◌, ◌++◌, length, map, Bool, true, false, Some, None, true≢false, add-one, refl, sym, ap, ap₂, subst, ◌∙◌, append_assoc, inl, inr, arith, eq-eqb, eqb-true, ltb-true, lt-ltb}
 use Rattle.std.specs.Prelude.{◌||◌, ◌⊎◌, filter, not, nat_eq, nat_lt, slice_get, if◌then◌else◌}
 use Rattle.std.specs.List.{list_any, range_with_len}
 use Rattle.std.proofs.lemmas.List.{append-nil}
 use Rattle.std.proofs.lemmas.List.Elements.{filter-append}
-use Rattle.std.proofs.lemmas.Bool.{ne_eqb}
 use Rattle.gl_meaning.specs.Known.{Among}
 use Rattle.gl_meaning.specs.Laws.{NoRepeat}
-use Rattle.gl_each.specs.Sync.{Step, retain, move, insert, kept_by, kept, is_passed, has_place, IsStep, AreSteps, unkept, IsSync}
+use Rattle.gl_each.specs.Sync.{Step, retain, move, insert, kept, is_passed, has_place, AreSteps, unkept, IsSync}
 use Rattle.gl_each.specs.Carried.{Item, old_item, new_item, is_old, old_items, without, up_to, behind, carried, carried_out, wanted, item_key}
 
 -- an item that a later step keeps

@@ -1,10 +1,10 @@
 -- What is given to a hash function, item by item.
-use Rattle.std.proofs.Common.{◌≡◌, ℕ, zero, suc, ◌+◌, ◌<◌, ◌≤◌, max, List, [], ◌∷◌, ◌++◌, length, get_or, take, drop, fold, refl, ap, sym, ◌∙◌, append_assoc, add-one, arith}
+use Rattle.std.proofs.Common.{◌≡◌, ℕ, zero, suc, ◌+◌, ◌<◌, ◌≤◌, List, [], ◌∷◌, ◌++◌, length, get_or, take, drop, fold, refl, ap, sym, ◌∙◌, append_assoc, add-one, arith}
 use Rattle.std.specs.Prelude.{encode_utf8_all}
 use Rattle.std.specs.Hash.{fed_then, fed_along}
 use Rattle.std.proofs.lemmas.List.{map_more}
 use Rattle.gl_base.specs.Texts.{Text}
-use Rattle.gl_value.specs.Value.{Value, values_of, pairs_of, depth, values_depth, members_depth}
+use Rattle.gl_value.specs.Value.{Value, values_of, pairs_of, values_depth, members_depth}
 use Rattle.gl_value.specs.View.{view, seen_items, seen_pair, seen_pairs}
 use Rattle.gl_value.specs.declared.value.Value as code
 use Rattle.gl_value.specs.declared.value.Pair as code_pair

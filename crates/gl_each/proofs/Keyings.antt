@@ -1,6 +1,6 @@
 -- The keys of a list's items, and how often each key stands before its place.
-use Rattle.std.proofs.Common.{◌≡◌, ℕ, zero, suc, ◌+◌, ◌<◌, ◌≤◌, List, [], ◌∷◌, ◌++◌, length, get_or, take, map, cond, Bool, true, false, Option, Some, None, add-one, refl, sym, ap, ap₂, subst, ◌∙◌, append_assoc, inl, inr, arith}
-use Rattle.std.specs.Prelude.{◌&&◌, nat_eq, unwrap_or, count_by, sum_by, if◌then◌else◌, codes}
+use Rattle.std.proofs.Common.{◌≡◌, ℕ, suc, ◌+◌, ◌<◌, ◌≤◌, List, [], ◌∷◌, ◌++◌, length, get_or, take, map, cond, Bool, true, false, Option, Some, add-one, refl, sym, ap, ap₂, subst, ◌∙◌, append_assoc, inl, inr, arith}
+use Rattle.std.specs.Prelude.{◌&&◌, nat_eq, unwrap_or, sum_by, if◌then◌else◌, codes}
 use Rattle.std.specs.Bool.{Decides}
 use Rattle.std.specs.List.{zip}
 use Rattle.std.specs.Str.{bytes_eq}
@@ -11,7 +11,6 @@ use Rattle.gl_base.specs.Texts.{Text}
 use Rattle.gl_value.specs.Value.{Value, undefined, null, boolean, integer, text, list, pairs, action, Values, no_values, value, Members, no_members, member, values_of, same, plain, plain_values, plain_members, properties, split, count_value, key_of}
 use Rattle.gl_value.specs.Owners.{with_owners, values_with}
 use Rattle.gl_value.specs.View.{view, seen_items}
-use Rattle.gl_value.specs.Proper.{IsProper}
 use Rattle.gl_value.specs.declared.value.Value as code
 use Rattle.gl_value.proofs.Owners.{plain_leaves_owners}
 use Rattle.gl_value.proofs.Propers.{key_proper}
@@ -26,7 +25,7 @@ use Rattle.gl_meaning.proofs.Once.{Later, Distinct, distinct}
 use Rattle.gl_each.specs.Key.{Key, same_key, entry_key, entry_keys}
 use Rattle.gl_each.specs.SameKeys.{same-numbers}
 use Rattle.gl_each.specs.Counted.{item_keys, times, counts_after, counts, AreProper, KeysAreProper}
-use Rattle.gl_each.specs.View.{key_view, seen_keys}
+use Rattle.gl_each.specs.View.{seen_keys}
 use Rattle.gl_each.specs.declared.key.Key as code_key
 
 -- Keys of items

@@ -1,6 +1,6 @@
 -- A plan moves as many items as the meaning of a turn says.
-use Rattle.std.proofs.Common.{◌≡◌, ◌≢◌, ℕ, zero, suc, ◌+◌, ◌<◌, ◌≤◌, List, [], ◌∷◌, ◌++◌, length, map, Bool, true, false, Option, Some, None, true≢false, add-one, refl, sym, ap, ap₂, subst, ◌∙◌, append_assoc, inl, inr, arith, eq-eqb, eqb-true, ltb-true, lt-ltb}
-use Rattle.std.specs.Prelude.{◌&&◌, ◌||◌, filter, filter_map, nat_eq, nat_lt, slice_get, if◌then◌else◌}
+use Rattle.std.proofs.Common.{◌≡◌, ◌≢◌, ℕ, zero, suc, ◌+◌, ◌<◌, ◌≤◌, List, [], ◌∷◌, ◌++◌, length, Bool, true, false, Some, None, refl, sym, ap, ap₂, subst, ◌∙◌, append_assoc, inl, inr, arith, ltb-true, lt-ltb}
+use Rattle.std.specs.Prelude.{◌&&◌, ◌||◌, filter, nat_lt, slice_get, if◌then◌else◌}
 use Rattle.std.specs.List.{list_any, cons_option}
 use Rattle.std.proofs.lemmas.List.{append-nil, length-map}
 use Rattle.std.proofs.lemmas.List.Folds.{list_any-append}
@@ -16,7 +16,7 @@ use Rattle.gl_meaning.specs.Known.{Among}
 use Rattle.gl_meaning.specs.Laws.{NoRepeat}
 use Rattle.gl_meaning.proofs.Equal.{path_means, path_itself}
 use Rattle.gl_each.specs.Key.{Key, entry_key, entry_keys}
-use Rattle.gl_each.specs.Sync.{Step, retain, move, insert, kept_by, is_passed, AreSteps, IsSync}
+use Rattle.gl_each.specs.Sync.{Step, retain, move, insert, is_passed, AreSteps, IsSync}
 use Rattle.gl_each.specs.Moved.{item_at, items_at, persisting, moved_among, moves}
 use Rattle.gl_each.proofs.Keyings.{keys_apart}
 

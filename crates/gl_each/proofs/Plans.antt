@@ -5,15 +5,14 @@ use Rattle.std.specs.List.{list_any, range_with_len, prefix_len}
 use Rattle.std.proofs.lemmas.Option.{slice_get-get_or}
 use Rattle.std.proofs.lemmas.List.FromFn.{length-map-range_with_len, get_or-map-range_with_len}
 use Rattle.std.proofs.lemmas.Bool.Decides.{nat_tests}
-use Rattle.std.proofs.lemmas.List.{append-nil, map_more, take_more}
-use Rattle.std.proofs.lemmas.List.Folds.{list_any-append, list_any_at}
+use Rattle.std.proofs.lemmas.List.{append-nil, map_more}
+use Rattle.std.proofs.lemmas.List.Folds.{list_any-append}
 use Rattle.std.proofs.lemmas.List.Elements.{filter-append}
 use Rattle.std.proofs.lemmas.List.Quantifiers.{position-Some}
-use Rattle.std.proofs.lemmas.Bool.Decides.{Decides-eqb}
 use Rattle.std.specs.Bool.{Decides}
 use Rattle.gl_meaning.specs.Known.{Among}
 use Rattle.gl_meaning.specs.Laws.{NoRepeat}
-use Rattle.gl_each.specs.Sync.{Step, retain, move, insert, kept_by, kept, is_passed, has_place, IsStep, AreSteps, unkept}
+use Rattle.gl_each.specs.Sync.{Step, retain, move, kept_by, kept, is_passed, has_place, IsStep, AreSteps, unkept}
 use Rattle.indexmap.specs.IndexSet.{insert_key}
 use Rattle.gl_each.specs.Planned.{is_below, step_for, greater}
 

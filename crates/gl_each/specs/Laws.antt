@@ -1,5 +1,5 @@
 -- The laws of keys and plans. `src/laws.rt` proves each.
-use Rattle.std.specs.Prelude.{◌≡◌, ℕ, List, [], map, length, Option, Some}
+use Rattle.std.specs.Prelude.{◌≡◌, ℕ, List, [], map, length, Some}
 use Rattle.gl_base.specs.Texts.{Text}
 use Rattle.gl_value.specs.Value.{Values}
 use Rattle.gl_meaning.specs.Path.{Path}

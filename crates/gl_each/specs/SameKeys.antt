@@ -1,6 +1,6 @@
 -- Two keys are the same just where they are equal, and equal keys give the same to a hash function.
-use Rattle.std.proofs.Common.{◌≡◌, ℕ, Bool, true, IsTrue, refl, ap, ap₂}
-use Rattle.std.specs.Prelude.{◌&&◌, nat_eq}
+use Rattle.std.proofs.Common.{◌≡◌, ℕ, IsTrue, ap, ap₂}
+use Rattle.std.specs.Prelude.{nat_eq}
 use Rattle.std.specs.Bool.{Decides}
 use Rattle.std.specs.Cmp.{IsEquivalence, IsPartialEquivalence, partial_equiv_from_equiv, decided}
 use Rattle.std.proofs.lemmas.Bool.Decides.{Decides-eqb}

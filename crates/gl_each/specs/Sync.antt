@@ -1,5 +1,5 @@
 -- The plan by which a list of keys becomes another one.
-use Rattle.std.specs.Prelude.{◌≡◌, ◌≢◌, ℕ, zero, suc, List, [], ◌∷◌, ◌++◌, filter, length, Bool, true, false, not, nat_eq, nat_lt, Option, Some, slice_get}
+use Rattle.std.specs.Prelude.{◌≡◌, ◌≢◌, ℕ, List, [], ◌∷◌, ◌++◌, filter, length, Bool, true, false, not, nat_eq, nat_lt, Some, slice_get}
 use Rattle.std.specs.List.{list_any, range_with_len}
 
 -- What is done for one new item: the old item at a place is kept where it stands, or it is moved, or a new item is put in.

@@ -1,4 +1,4 @@
-use Rattle.std.proofs.Common.{◌∙◌, ◌<◌, ◌≤◌, arith, ap}
+use Rattle.std.proofs.Common.{◌∙◌, arith, ap}
 use Rattle.gl_each.proofs.Feeding.{shallow-item, shallow-pair, feeds_item, feeds_pair}
 use Rattle.gl_each.proofs.finding.+feed.Goals as goal
 

@@ -1,13 +1,11 @@
-use Rattle.std.proofs.Common.{◌∙◌, ◌≡◌, ℕ, [], ap, sym, subst}
+use Rattle.std.proofs.Common.{◌∙◌, ℕ, [], ap, sym, subst}
 use Rattle.std.specs.Str.{chars}
 use Rattle.gl_value.specs.Value.{values_of}
 use Rattle.gl_value.specs.Owners.{values_with}
 use Rattle.gl_value.specs.View.{seen_items}
 use Rattle.gl_meaning.specs.Path.{Path}
 use Rattle.gl_meaning.specs.Laws.{NoRepeat}
-use Rattle.gl_meaning.specs.Render.{entries}
 use Rattle.gl_each.specs.Counted.{counts, KeysAreProper}
-use Rattle.gl_each.specs.Key.{entry_keys}
 use Rattle.gl_each.proofs.Keyings.{keyed, keys_apart, keyed-proper}
 use Rattle.gl_each.proofs.keying.keys.Goals as goal
 

@@ -1,5 +1,4 @@
-use Rattle.std.proofs.Common.{◌∙◌, ◌≡◌, [], ◌∷◌, ap, get_or, arith}
-use Rattle.gl_each.specs.Sync.{kept_by}
+use Rattle.std.proofs.Common.{◌∙◌, ◌≡◌, ap, get_or, arith}
 use Rattle.gl_each.specs.View.{step_view}
 use Rattle.gl_each.specs.declared.step.PlanStep.{PlanStep}
 use Rattle.gl_each.specs.declared.step.PlanStep.TheVariants.{Retain}
