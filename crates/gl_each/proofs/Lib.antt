@@ -1,0 +1,5 @@
+pub mod Carrying
+pub mod Feeding
+pub mod Keyings
+pub mod Moving
+pub mod Plans

@@ -1,0 +1,31 @@
+-- The keys of a list, step by step: the key of each item, and how many equal keys stand before each.
+use Rattle.std.specs.Prelude.{ℕ, suc, List, [], ◌∷◌, ◌++◌, count_by, nat_eq}
+use Rattle.gl_base.specs.Texts.{Text}
+use Rattle.gl_value.specs.Value.{Value, same, key_of}
+use Rattle.gl_value.specs.Proper.{IsProper}
+use Rattle.gl_each.specs.Key.{Key}
+
+-- the keys of the items, where the first has the index i
+abbrev pub item_keys : Text → ℕ → List (Value ℕ) → List (Value ℕ)
+item_keys k i [] = []
+item_keys k i (v ∷ vs) = key_of k i v ∷ item_keys k (suc i) vs
+
+-- how often a value stands in a list
+abbrev pub times : Value ℕ → List (Value ℕ) → ℕ
+times k ks = count_by (same nat_eq k) ks
+
+-- how often each stands before its place, where `before` stands before the list
+abbrev pub counts_after : List (Value ℕ) → List (Value ℕ) → List ℕ
+counts_after before [] = []
+counts_after before (k ∷ ks) = times k before ∷ counts_after (before ++ k ∷ []) ks
+
+abbrev pub counts : List (Value ℕ) → List ℕ
+counts ks = counts_after [] ks
+
+abbrev pub AreProper : List (Value ℕ) → Type 0
+AreProper [] = Unit {0}
+AreProper (v ∷ vs) = IsProper v × AreProper vs
+
+abbrev pub KeysAreProper : List Key → Type 0
+KeysAreProper [] = Unit {0}
+KeysAreProper (k ∷ ks) = IsProper k.0 × KeysAreProper ks

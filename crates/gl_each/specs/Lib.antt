@@ -1,0 +1,10 @@
+pub mod Carried
+pub mod Counted
+pub mod Hashed
+pub mod Key
+pub mod Laws
+pub mod Moved
+pub mod Planned
+pub mod SameKeys
+pub mod Sync
+pub mod View

@@ -1,0 +1,117 @@
+// The plan by which a list of keys becomes another one.
+ghost use Rattle.std.specs.Prelude.{◌≡◌, ◌<◌, [], length, map, IfOk};
+ghost use Rattle.std.specs.List.{range_with_len};
+ghost use Rattle.gl_meaning.specs.Laws.{NoRepeat};
+ghost use Rattle.gl_each.specs.Sync.{AreSteps, IsSync, kept, has_place, unkept};
+ghost use Rattle.gl_each.specs.Planned.{step_for, greater};
+ghost use Rattle.gl_each.specs.View.{seen_keys, step_view, seen_steps};
+
+use crate::finding::KeyRef;
+use crate::step::Plan;
+use crate::{Key, Keys, Places, PlanStep, PlanSteps};
+use indexmap::IndexSet;
+use std::alloc::{AllocError, Global};
+
+// The old keys, each at its place.
+fn table(alloc: Global, old: &[Key]) -> Result<IndexSet<KeyRef<'_>>, AllocError>
+    requires { NoRepeat (seen_keys old.now) }
+    ensures { IfOk result (λ t. t.keys ≡ seen_keys old.now) }
+{
+    let mut places = IndexSet::with_capacity(alloc, old.len())?;
+    for key in old {
+        places.insert(KeyRef {
+            value: &key.value,
+            occurrence: key.occurrence,
+        })?;
+    }
+    Ok(places)
+}
+
+// The step of a new key that stands at a place of the old list or nowhere, where `greatest` is the greatest
+// place that was kept so far.
+fn step_for(place: Option<usize>, greatest: Option<usize>) -> PlanStep
+    ensures { step_view result ≡ step_for place greatest }
+{
+    let Some(place) = place else {
+        return PlanStep::Insert;
+    };
+    let old = place as u64;
+    match greatest {
+        Some(other) if place < other => PlanStep::Move { old },
+        _ => PlanStep::Retain { old },
+    }
+}
+
+fn greater(place: Option<usize>, greatest: Option<usize>) -> Option<usize>
+    ensures { result ≡ greater place greatest }
+{
+    match (place, greatest) {
+        (None, _) => greatest,
+        (_, None) => place,
+        (Some(one), Some(other)) => Some(one.max(other)),
+    }
+}
+
+// One step for each new key.
+fn steps_to(
+    alloc: Global,
+    places: &IndexSet<KeyRef<'_>>,
+    new: &[Key],
+) -> Result<PlanSteps, AllocError>
+    ensures { IfOk result (λ ss. AreSteps places.now.keys [] (seen_keys new.now) ss) }
+{
+    let mut list = PlanSteps::new(alloc);
+    let mut greatest = None;
+    for key in new {
+        let at = KeyRef {
+            value: &key.value,
+            occurrence: key.occurrence,
+        };
+        let place = (&*places).get_index_of(&at);
+        list.push(step_for(place, greatest))?;
+        greatest = greater(place, greatest);
+    }
+    Ok(list)
+}
+
+// Marks the places that steps keep.
+fn marks(alloc: Global, count: usize, steps: &[PlanStep]) -> Result<Vec<bool>, AllocError>
+    ensures { IfOk result (λ ms. ms.items ≡ map (has_place (kept (seen_steps steps.now))) (range_with_len 0 count)) }
+{
+    let mut list = vec![in alloc; false; count]?;
+    for step in steps {
+        if let Some(old) = step.kept() {
+            let place = old as usize;
+            if place < list.len() {
+                list[place] = true;
+            }
+        }
+    }
+    Ok(list)
+}
+
+// The places that steps do not keep.
+fn removed(alloc: Global, count: usize, steps: &[PlanStep]) -> Result<Places, AllocError>
+    ensures { IfOk result (λ ps. ps ≡ unkept count (seen_steps steps.now)) }
+{
+    let marks = marks(alloc, count, steps)?;
+    let mut list = Vec::new(alloc);
+    for (place, stays) in marks.iter().enumerate() {
+        if !*stays {
+            list.push(place as u64)?;
+        }
+    }
+    Ok(Places::from_vec(list))
+}
+
+/// The plan by which the old list of keys becomes the new one, in time linear in both.
+pub fn plan(old: &Keys, new: &Keys) -> Result<Plan, AllocError>
+    requires { NoRepeat old.now }
+    ensures { IfOk result (λ p. IsSync old.now new.now p.steps p.removed) }
+{
+    let alloc = old.allocator();
+    let places = table(alloc, old.as_slice())?;
+    let steps = steps_to(alloc, &places, new.as_slice())?;
+    let removed = removed(alloc, old.len(), steps.as_slice())?;
+    Ok(Plan { steps, removed })
+}
