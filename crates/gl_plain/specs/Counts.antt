@@ -1,5 +1,5 @@
 -- The nodes and the positions of a tree, in the order in which they stand.
-use Rattle.std.specs.Prelude.{◌≡◌, ℕ, suc, List, [], ◌∷◌, ◌++◌, Option, Some, None}
+use Rattle.std.specs.Prelude.{◌≡◌, ◌⊎◌, ℕ, suc, List, [], ◌∷◌, ◌++◌, Bool, false, Option, Some, None}
 use Rattle.gl_plain.specs.Live.{AttrSpot, ModSpot, Live, still, put_live, element_live, branch_live, listed, unlisted, let_live, component_live, yield_live, deep_live, Items, no_items, item_live, Lives, no_lives, live_and}
 
 abbrev pub comment_node : Option ℕ → List ℕ
@@ -62,3 +62,10 @@ abbrev mutual
 abbrev pub Runs : ℕ → List ℕ → ℕ → Type 0
 Runs n [] m = m ≡ n
 Runs n (k ∷ ks) m = (k ≡ n) × Runs (suc n) ks m
+
+-- Some numbers of a list, in order: among them each that must be.
+abbrev pub Taken : (ℕ → Bool) → List ℕ → List ℕ → Type 0
+Taken must [] [] = Unit {0}
+Taken must [] (r ∷ rs) = ⊥
+Taken must (q ∷ qs) [] = (must q ≡ false) × Taken must qs []
+Taken must (q ∷ qs) (r ∷ rs) = ((q ≡ r) × Taken must qs rs) ⊎ ((must q ≡ false) × Taken must qs (r ∷ rs))
