@@ -17,6 +17,7 @@ use Rattle.gl_plain.specs.Renew.{renew_app}
 use Rattle.gl_plain.specs.Stands.{top}
 use Rattle.gl_plain.specs.Drawn.{drawn_app}
 use Rattle.gl_plain.specs.Turns.{blank, begin}
+use Rattle.gl_plain.specs.Counts.{nodes_of, positions_of}
 
 -- what a turn did: the positions it evaluated, the nodes it made, the modifiers it installed and updated
 pub record Done : Type 0 where
@@ -42,6 +43,14 @@ module _ (app : App) (r : ℕ) (f : List ℕ) (v : V) where
 
   abbrev pub turns : List Done
   turns = done first ∷ done second ∷ []
+
+  -- the nodes after each turn, in order
+  abbrev pub numbers : List (List ℕ)
+  numbers = nodes_of first.0 ∷ nodes_of second.0 ∷ []
+
+  -- the positions after each turn, in order, and those that it evaluated
+  abbrev pub positions : List (List ℕ × List ℕ)
+  positions = (positions_of first.0, first.1.evaluated) ∷ (positions_of second.0, second.1.evaluated) ∷ []
 
   -- what the meaning counts for both turns
   abbrev pub works : List Work
@@ -69,6 +78,14 @@ branch : turns branch_app 1 (codes "on") (boolean false)
 unfolding branch_app hit top
 branch = refl
 
+branch_numbers : numbers branch_app 1 (codes "on") (boolean false) ≡ (0 ∷ 1 ∷ []) ∷ (2 ∷ []) ∷ []
+unfolding branch_app hit top
+branch_numbers = refl
+
+branch_positions : positions branch_app 1 (codes "on") (boolean false) ≡ (2 ∷ 3 ∷ [], 2 ∷ 3 ∷ []) ∷ (2 ∷ [], 2 ∷ []) ∷ []
+unfolding branch_app hit top
+branch_positions = refl
+
 branch_work : works branch_app 1 (codes "on") (boolean false) ≡ record { evaluated = 2; made = 2; moved = 0 } ∷ record { evaluated = 1; made = 1; moved = 0 } ∷ []
 unfolding branch_app
 branch_work = refl
@@ -86,6 +103,10 @@ moves : turns list_app 0 (codes "xs") list_now
     ∷ []
 unfolding list_app hit top
 moves = refl
+
+moves_numbers : numbers list_app 0 (codes "xs") list_now ≡ (0 ∷ 1 ∷ 2 ∷ 3 ∷ []) ∷ (2 ∷ 3 ∷ 0 ∷ 1 ∷ 4 ∷ 5 ∷ []) ∷ []
+unfolding list_app hit top
+moves_numbers = refl
 
 moves_work : works list_app 0 (codes "xs") list_now ≡ record { evaluated = 3; made = 4; moved = 0 } ∷ record { evaluated = 2; made = 2; moved = 1 } ∷ []
 unfolding list_app
