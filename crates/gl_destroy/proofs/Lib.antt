@@ -1,0 +1,4 @@
+pub mod Forests
+pub mod Links
+pub mod Looks
+pub mod Calls

@@ -1,0 +1,4 @@
+pub mod What
+pub mod Forest
+pub mod Links
+pub mod View
