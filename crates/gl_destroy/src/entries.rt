@@ -8,7 +8,7 @@ use crate::What;
 use gl_arena::{Arena, DestroyId, DestroyMark};
 use std::alloc::{AllocError, Global};
 
-// What an id stands for, with its children in order. Children that were destroyed are in the list until it is cleaned.
+// What an id stands for, with its children in order. Those that were destroyed stay in the list: the arena tells which live.
 #[derive(Drop)]
 pub(crate) struct Entry {
     pub(crate) what: What,
