@@ -1,9 +1,12 @@
 -- The nodes and the positions of a tree that stands are its own, and what an update counts.
-use Rattle.std.proofs.Common.{◌≡◌, ◌<◌, ◌≤◌, ℕ, ◌+◌, List, [], ◌∷◌, ◌++◌, Bool, true, false, Option, Some, None, refl, arith, inl, inr, ◌⊎◌}
-use Rattle.std.specs.Prelude.{nat_le}
+use Rattle.std.proofs.Common.{◌≡◌, ◌<◌, ◌≤◌, ℕ, ◌+◌, List, [], ◌∷◌, ◌++◌, Bool, true, false, Option, Some, None, cond, refl, sym, ap, ap₂, ◌∙◌, arith, inl, inr, ◌⊎◌}
+use Rattle.std.specs.Prelude.{nat_le, filter}
 use Rattle.std.proofs.lemmas.Bool.Decides.{leb_tells}
 use Rattle.gl_meaning.specs.App.{App}
-use Rattle.gl_meaning.specs.Eval.{Store}
+use Rattle.gl_meaning.specs.Eval.{Store, cell_value}
+use Rattle.gl_meaning.specs.Laws.{NoPath, HoldsNoAction}
+use Rattle.gl_meaning.proofs.Above.{owners_more}
+use Rattle.gl_meaning.proofs.Plain.{cell_plain}
 use Rattle.gl_plain.specs.Ids.{a_node, Id, ref, node, occurs}
 use Rattle.gl_plain.specs.State.{State}
 use Rattle.gl_plain.specs.Live
@@ -11,11 +14,11 @@ use Rattle.gl_plain.specs.Live.{item_made, Live, Lives, Items, times, times_in, 
 use Rattle.gl_plain.specs.Stands.{Owned}
 use Rattle.gl_plain.specs.Machine.{StandsFor}
 use Rattle.gl_plain.specs.Renew.{renew_app}
-use Rattle.gl_plain.specs.Counts.{comment_node, nodes_of, nodes_items, nodes_in, positions_of}
-use Rattle.gl_plain.specs.Laws.{UpdatedMakes, UpdatedEvaluates}
+use Rattle.gl_plain.specs.Counts.{comment_node, nodes_of, nodes_items, nodes_in, positions_of, Taken, AllPass, is_due}
+use Rattle.gl_plain.specs.Laws.{UpdatedMakes, UpdatedEvaluates, UpdatedEvaluatesDue}
 use Rattle.gl_plain.proofs.Moves.{hit_self, is_old}
 use Rattle.gl_plain.proofs.Stay.{left_above, right_above}
-use Rattle.gl_plain.proofs.CountRenews.{Fails, Turn, root_turn}
+use Rattle.gl_plain.proofs.CountRenews.{Fails, AnyStep, Turn, root_turn}
 
 -- The test fails for each number of the part's own ids.
 module _ (test : ℕ → Bool) where
@@ -68,13 +71,31 @@ nodes_old : (st : State) (l : Live) → Owned st (λ q. times q l) → Fails (λ
 nodes_old st l o = nodes_own (λ n. nat_le (st.next a_node) n) l (λ n w. not_new (st.next a_node) n (is_old st (λ q. times q l) o (node n) w))
 
 app_turn : (app : App) (σ τ : Store) (st : State) (l : Live) → StandsFor app σ τ st l
-    → let r = renew_app app τ l st in Turn st r.1.touched st r.1 (λ q. times q l) (nodes_of r.0) (positions_of r.0)
+    → let r = renew_app app τ l st in Turn st r.1.touched (HoldsNoAction σ) [] AnyStep st r.1 (λ q. times q l) (nodes_of r.0) (positions_of r.0)
 app_turn app σ τ st l h =
-    root_turn st (renew_app app τ l st).1.touched app σ τ app.limit l st h.stands (nodes_old st l h.owned) (record { nodes = omega arith; refs = omega arith; warm = λ x e. e })
+    root_turn st (renew_app app τ l st).1.touched (HoldsNoAction σ) app σ τ (λ g P i x. owners_more NoPath P (λ j n. absurd n) (cell_value app σ i x) (cell_plain NoPath app σ g i x)) app.limit l st h.stands (nodes_old st l h.owned)
+    (record { nodes = omega arith; refs = omega arith; warm = λ x e. e })
     (record { once = λ r. h.owned.once (ref r); low = λ r w. is_old st (λ q. times q l) h.owned (ref r) w; rows = λ r w. refl })
+
+-- what was taken and passes is all that passes
+all_taken : (test : ℕ → Bool) (qs rs : List ℕ) → Taken test qs rs → AllPass test rs → rs ≡ filter test qs
+all_taken test [] [] h g = refl
+all_taken test [] (r ∷ rs) h g = absurd h
+all_taken test (q ∷ qs) [] h g = all_taken test qs [] h.1 tt ∙ sym (ap (λ b. cond b (q ∷ filter test qs) (filter test qs)) h.0)
+all_taken test (q ∷ qs) (r ∷ rs) h g = by h (all_taken test qs rs) (all_taken test qs (r ∷ rs)) where
+  by : ((q ≡ r) × Taken test qs rs) ⊎ ((test q ≡ false) × Taken test qs (r ∷ rs)) → (Taken test qs rs → AllPass test rs → rs ≡ filter test qs) → (Taken test qs (r ∷ rs) → AllPass test (r ∷ rs) → r ∷ rs ≡ filter test qs)
+      → r ∷ rs ≡ cond (test q) (q ∷ filter test qs) (filter test qs)
+  by (inl k) f g' = ap₂ (λ x xs. x ∷ xs) (sym k.0) (f k.1 g.1) ∙ sym (ap (λ b. cond b (q ∷ filter test qs) (filter test qs)) (ap test k.0 ∙ g.0))
+  by (inr k) f g' = g' k.1 g ∙ sym (ap (λ b. cond b (q ∷ filter test qs) (filter test qs)) k.0)
 
 pub updated_makes : UpdatedMakes
 updated_makes app σ τ st l h = (app_turn app σ τ st l h).nodes
 
 pub updated_evaluates : UpdatedEvaluates
 updated_evaluates app σ τ st l h = let g = app_turn app σ τ st l h in (g.read, g.positions, g.taken, g.allowed (λ x e. e))
+
+pub updated_evaluates_due : UpdatedEvaluatesDue
+updated_evaluates_due app σ τ st l h n =
+    let g = app_turn app σ τ st l h in
+    let r = renew_app app τ l st in
+    g.positions ∙ ap (λ xs. st.evaluated ++ xs) (all_taken (is_due st r.1.touched) (positions_of r.0) g.read (g.exact n (λ x w. refl)) (g.allowed (λ x e. e)))
