@@ -6,17 +6,15 @@ use Rattle.std.proofs.lemmas.Bool.Decides.{leb_tells, Decides-eqb}
 use Rattle.std.proofs.lemmas.List.{append-nil, append_assoc}
 use Rattle.std.proofs.lemmas.List.Elements.{filter-append}
 use Rattle.gl_base.specs.Texts.{Text}
-use Rattle.gl_value.specs.Value.{Values, no_values, value, undefined, text_of, count_value, same}
-use Rattle.gl_value.specs.Value
+use Rattle.gl_value.specs.Value.{Values, no_values, value, text_of, count_value, same}
 use Rattle.gl_ast.specs.Template as t
-use Rattle.gl_ast.specs.Template.{Plain}
 use Rattle.gl_meaning.specs.App.{App}
 use Rattle.gl_meaning.specs.Path.{PathStep, at, main, otherwise, items, item, into, slot, Path, V, path_eq, no_owners}
 use Rattle.gl_meaning.specs.Scope.{Source, cell, item_value, item_index, Pair, sources_of, Scope, scope, nothing_passed, passed, passed_of, with_locals, bind}
 use Rattle.gl_meaning.specs.Laws.{Within, AtOrAbove, Owners, OwnersAll, PairsIn, source_path}
 use Rattle.gl_meaning.proofs.Above.{owners_more}
-use Rattle.gl_meaning.proofs.Once.{Later as LaterKey, Distinct, distinct}
-use Rattle.gl_meaning.proofs.Under.{within_itself, within_outer, steps_apart, not_below}
+use Rattle.gl_meaning.proofs.Once.{Distinct, distinct}
+use Rattle.gl_meaning.proofs.Under.{within_itself}
 use Rattle.gl_meaning.specs.Eval.{Store, class_at, cell_value, eval_all, eval_given, takes_first, values_in}
 use Rattle.gl_meaning.specs.Parts.{WrittenValue, WrittenModifier, attribute_value, taken_pairs}
 use Rattle.gl_meaning.specs.Render.{Entry, entries, entry_pairs, values_listed, Block, block_named}
@@ -32,9 +30,9 @@ use Rattle.gl_plain.specs.Stands.{top, SpottedIn, AttrsStand, ModsStand, WhereVa
 use Rattle.gl_plain.specs.Machine.{no_place, RootStands}
 use Rattle.gl_plain.specs.Counts.{comment_node, nodes_of, nodes_items, nodes_in, attr_positions, mod_positions, positions_of, positions_items, positions_in, Runs, Taken, AllPass, is_due}
 use Rattle.gl_plain.proofs.Moves.{IdCase, id_case, unhit}
-use Rattle.gl_plain.proofs.Syncs.{path-Decides}
+use Rattle.gl_plain.proofs.Apart.{Into, Near, AnyStep, NoStep, Only, FromStep, StepsOf, into_more, near_more, far, child_into, child_near, later_apart, from_apart, root_above, source_means}
 use Rattle.gl_plain.proofs.Renews.{handles_count}
-use Rattle.gl_plain.proofs.Places.{ScopeIn, ModifiersIn, scope_more, bind_in, with_in, pairs_same, all_in, given_in, attribute_pairs_in, modifiers_given, modifier_pairs_in}
+use Rattle.gl_plain.proofs.Places.{EntriesIn, first_owned, listed_owned, entries_in, ScopeIn, ModifiersIn, scope_more, bind_in, with_in, pairs_same, all_in, given_in, attribute_pairs_in, modifiers_given, modifier_pairs_in}
 use Rattle.gl_plain.proofs.Counts.{Steps, AllFrom, runs_join}
 use Rattle.gl_plain.proofs.CountGrows.{CountedIn, CountedArm, arm_steps, entries_steps, item_steps, body_steps, yields_steps, components_steps}
 
@@ -105,117 +103,11 @@ any_rises (x ∷ xs) f g h e = by (f x) refl (any_rises xs f g h) e where
 abbrev pub Rising : Option Thing → Type 0
 Rising t = (f g : Source → Bool) → ((x : Source) → f x ≡ true → g x ≡ true) → last_of t f ≡ true → last_of t g ≡ true
 
--- Places
-
--- the place stands at a step below p that is one of these, or below it
-abbrev pub Into : Path → (PathStep → Type 0) → Path → Type 0
-Into p S j = (l : PathStep) × S l × Within (l ∷ p) j
-
--- the place stands so, or at or above p
-abbrev pub Near : Path → (PathStep → Type 0) → Path → Type 0
-Near p S j = Within j p ⊎ Into p S j
-
-abbrev pub AnyStep : PathStep → Type 0
-AnyStep l = Unit {0}
-
-abbrev NoStep : PathStep → Type 0
-NoStep l = ⊥
-
-abbrev Only : PathStep → PathStep → Type 0
-Only k l = l ≡ k
-
-abbrev pub FromStep : ℕ → PathStep → Type 0
-FromStep n l = (k : ℕ) × (n ≤ k) × (l ≡ at k)
-
-abbrev StepsOf : List Entry → PathStep → Type 0
-StepsOf [] l = ⊥
-StepsOf (x ∷ xs) l = (l ≡ item x.key x.occurrence) ⊎ StepsOf xs l
-
-within_through : (i j k : Path) → Within i j → Within j k → Within i k
-within_through i j [] a b = subst (λ z. Within i z) b a
-within_through i j (l ∷ k) a (inl q) = subst (λ z. Within i z) q a
-within_through i j (l ∷ k) a (inr b) = inr (within_through i j k a b)
-
-into_more : (p : Path) (S S' : PathStep → Type 0) → ((l : PathStep) → S l → S' l) → (j : Path) → Into p S j → Into p S' j
-into_more p S S' i j w = (w.0, i w.0 w.1, w.2)
-
-near_more : (p : Path) (S S' : PathStep → Type 0) → ((l : PathStep) → S l → S' l) → (j : Path) → Near p S j → Near p S' j
-near_more p S S' i j (inl w) = inl w
-near_more p S S' i j (inr w) = inr (w.0, i w.0 w.1, w.2)
-
--- a place is not near by some steps and below others
-far : (p : Path) (S S' : PathStep → Type 0) → ((l : PathStep) → S l → S' l → ⊥) → (j : Path) → Near p S j → Into p S' j → ⊥
-far p S S' apart j (inl w) v = not_below v.0 p (within_through (v.0 ∷ p) j p v.2 w)
-far p S S' apart j (inr w) v = apart w.0 w.1 (subst S' (steps_apart v.0 w.0 p j v.2 w.2) v.1)
-
-child_into : (l : PathStep) (p : Path) (S : PathStep → Type 0) (j : Path) → Into (l ∷ p) S j → Into p (Only l) j
-child_into l p S j w = (l, refl, within_outer w.0 (l ∷ p) j w.2)
-
-child_near : (l : PathStep) (p : Path) (S : PathStep → Type 0) (j : Path) → Near (l ∷ p) S j → Near p (Only l) j
-child_near l p S j (inl (inl e)) = inr (l, refl, subst (λ z. Within (l ∷ p) z) (sym e) (within_itself (l ∷ p)))
-child_near l p S j (inl (inr w)) = inl w
-child_near l p S j (inr w) = inr (child_into l p S j w)
-
-abbrev at_number : PathStep → ℕ
-at_number (at n) = n
-at_number _ = 0
-
-abbrev item_key : PathStep → Plain
-item_key (item k n) = k
-item_key _ = undefined
-
-abbrev item_number : PathStep → ℕ
-item_number (item k n) = n
-item_number _ = 0
-
-later_apart : (k : Plain) (n : ℕ) (xs : List Entry) → LaterKey k (suc n) xs → (l : PathStep) → l ≡ item k n → StepsOf xs l → ⊥
-later_apart k n [] h l e w = w
-later_apart k n (y ∷ ys) h l e (inl f) =
-    let a : k ≡ y.key = ap item_key (sym e ∙ f) in
-    let b : n ≡ y.occurrence = ap item_number (sym e ∙ f) in
-    let c = h.0 (sym a) in absurd (omega (arith, b, c))
-later_apart k n (y ∷ ys) h l e (inr w) = later_apart k n ys h.1 l e w
-
-from_apart : (i : ℕ) (l : PathStep) → l ≡ at i → FromStep (suc i) l → ⊥
-from_apart i l e w = let a : i ≡ w.0 = ap at_number (sym e ∙ w.2) in let b = w.1 in omega (arith, a, b)
-
--- the root is above each place
-root_above : (p : Path) → Within [] p
-root_above [] = refl
-root_above (l ∷ p) = inr (root_above p)
-
--- equal sources stand at one place
-source_means : (y x : Source) → source_eq y x ≡ true → source_path y ≡ source_path x
-source_means (cell p a) (cell q b) e = (path-Decides p q).0 (both_left _ _ e)
-source_means (item_value p) (item_value q) e = (path-Decides p q).0 e
-source_means (item_index p) (item_index q) e = (path-Decides p q).0 e
-source_means _ _ e = absurd (true≢false (sym e))
+-- Sources
 
 -- what a reference read last is at or above the place
 abbrev pub Reads : Path → Option Thing → Type 0
 Reads p t = (f g : Source → Bool) → ((x : Source) → Within (source_path x) p → f x ≡ g x) → last_of t f ≡ last_of t g
-
-first_owned : (P : Path → Type 0) (ps : List Pair) → PairsIn P ps → Owners P (first_value ps)
-first_owned P [] a = tt
-first_owned P (x ∷ ps) a = a.0.1
-
-listed_owned : (P : Path → Type 0) (x : V) → Owners P x → OwnersAll P (values_listed x)
-listed_owned P (Value.list vs) a = a
-listed_owned P Value.undefined a = tt
-listed_owned P Value.null a = tt
-listed_owned P (Value.boolean b) a = tt
-listed_owned P (Value.integer z) a = tt
-listed_owned P (Value.text x) a = tt
-listed_owned P (Value.pairs ms) a = tt
-listed_owned P (Value.action i n vs) a = tt
-
-abbrev EntriesIn : (Path → Type 0) → List Entry → Type 0
-EntriesIn P [] = Unit {0}
-EntriesIn P (x ∷ xs) = Owners P x.value × EntriesIn P xs
-
-entries_in : (P : Path → Type 0) (key : Text) (n : ℕ) (before : List Plain) (vs : Values Path) → OwnersAll P vs → EntriesIn P (entries key n before vs)
-entries_in P key n before no_values a = tt
-entries_in P key n before (value x vs) a = (a.0, entries_in P key (suc n) _ vs a.1)
 
 none_taken : (must may : ℕ → Bool) (rs : List ℕ) → Taken must [] rs → Taken may [] rs
 none_taken must may [] h = tt

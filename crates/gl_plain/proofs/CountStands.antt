@@ -18,7 +18,8 @@ use Rattle.gl_plain.specs.Counts.{comment_node, nodes_of, nodes_items, nodes_in,
 use Rattle.gl_plain.specs.Laws.{UpdatedMakes, UpdatedEvaluates, UpdatedEvaluatesDue}
 use Rattle.gl_plain.proofs.Moves.{hit_self, is_old}
 use Rattle.gl_plain.proofs.Stay.{left_above, right_above}
-use Rattle.gl_plain.proofs.CountRenews.{Fails, AnyStep, Turn, root_turn}
+use Rattle.gl_plain.proofs.Apart.{AnyStep}
+use Rattle.gl_plain.proofs.CountRenews.{Fails, Turn, root_turn}
 
 -- The test fails for each number of the part's own ids.
 module _ (test : ℕ → Bool) where

@@ -1,16 +1,21 @@
 -- What is read at a place stands at or above it, where no cell holds an action.
-use Rattle.std.proofs.Common.{◌≡◌, ℕ, List, [], ◌∷◌, ◌++◌, map, Bool, true, false, Option, Some, None, cond, refl, ap₂}
+use Rattle.std.proofs.Common.{◌≡◌, ℕ, suc, List, [], ◌∷◌, ◌++◌, map, Bool, true, false, Option, Some, None, cond, refl, ap₂}
 use Rattle.std.specs.Prelude.{if◌then◌else◌, filter, codes, ◌||◌}
 use Rattle.std.specs.Str.{bytes_eq}
 use Rattle.std.specs.List.{cons_option}
 use Rattle.gl_base.specs.Texts.{Text}
 use Rattle.gl_ast.specs.Template as t
 use Rattle.gl_meaning.specs.App.{App}
-use Rattle.gl_meaning.specs.Path.{Path}
+use Rattle.gl_value.specs.Value
+use Rattle.gl_value.specs.Value.{Values, no_values, value}
+use Rattle.gl_ast.specs.Template.{Plain}
+use Rattle.gl_meaning.specs.Path.{Path, V}
+use Rattle.gl_meaning.specs.Render.{Entry, entries, values_listed}
+use Rattle.gl_plain.specs.Binding.{first_value}
 use Rattle.gl_meaning.specs.Scope.{Source, Pair, sources_of, NamedPairs, Scope, scope, Passed, nothing_passed, passed, this_of, arguments_of, locals_of, passed_of, with_locals, bind}
 use Rattle.gl_meaning.specs.Eval.{Store, cell_value, eval_all, eval_named, eval_value, eval_given}
 use Rattle.gl_meaning.specs.Parts.{Written, WrittenValue, WrittenModifier, spread_in, passed_parts, written_parts, attribute_in, attributes_in, last_only, taken_values, taken_pairs, modifier_in, modifiers_in}
-use Rattle.gl_meaning.specs.Laws.{Owners, Sources, PairIn, PairsIn, NamesIn, source_path}
+use Rattle.gl_meaning.specs.Laws.{Owners, OwnersAll, Sources, PairIn, PairsIn, NamesIn, source_path}
 use Rattle.gl_meaning.proofs.Above.{owners_more}
 use Rattle.gl_meaning.proofs.Reach
 use Rattle.gl_plain.specs.State.{any_of}
@@ -185,3 +190,27 @@ module _ (P : Path → Type 0) where
     modifier_pairs_in w g =
         pairs_append (eval_all app σ w.by w.args) (map (λ n. n.1) (eval_named app σ w.by w.names)) (all_in w.by g w.args)
         (names_pairs (eval_named app σ w.by w.names) (Reach.eval_named_reach P app σ cells w.by (scope_this w.by g) (scope_arguments w.by g) (scope_locals w.by g) w.names))
+
+-- The owners in the items of a list
+
+pub first_owned : (P : Path → Type 0) (ps : List Pair) → PairsIn P ps → Owners P (first_value ps)
+first_owned P [] a = tt
+first_owned P (x ∷ ps) a = a.0.1
+
+pub listed_owned : (P : Path → Type 0) (x : V) → Owners P x → OwnersAll P (values_listed x)
+listed_owned P (Value.list vs) a = a
+listed_owned P Value.undefined a = tt
+listed_owned P Value.null a = tt
+listed_owned P (Value.boolean b) a = tt
+listed_owned P (Value.integer z) a = tt
+listed_owned P (Value.text x) a = tt
+listed_owned P (Value.pairs ms) a = tt
+listed_owned P (Value.action i n vs) a = tt
+
+abbrev pub EntriesIn : (Path → Type 0) → List Entry → Type 0
+EntriesIn P [] = Unit {0}
+EntriesIn P (x ∷ xs) = Owners P x.value × EntriesIn P xs
+
+pub entries_in : (P : Path → Type 0) (key : Text) (n : ℕ) (before : List Plain) (vs : Values Path) → OwnersAll P vs → EntriesIn P (entries key n before vs)
+entries_in P key n before no_values a = tt
+entries_in P key n before (value x vs) a = (a.0, entries_in P key (suc n) _ vs a.1)
