@@ -11,7 +11,7 @@ use Rattle.gl_meaning.specs.Scope.{item_value, item_index}
 use Rattle.gl_meaning.specs.Eval.{Store, class_at, takes_first}
 use Rattle.gl_meaning.specs.Render.{Entry, entries, values_listed, Block, block_named}
 use Rattle.gl_plain.specs.Ids.{a_ref, a_node, an_instance, a_block, Id, block_id}
-use Rattle.gl_plain.specs.State.{source_form, Names, Inst, MScope, mscope, MPassed, mnothing, mpassed, with_names, Content, comment_content, text_content, element_content, instance_row, block_row, State, make}
+use Rattle.gl_plain.specs.State.{source_form, Names, Inst, MScope, mscope, MPassed, mnothing, mpassed, with_names, Content, comment_content, text_content, element_content, content, instance_row, block_row, State, make}
 use Rattle.gl_plain.specs.Binding.{Spot, made_row, bind_exprs, bind_args, bind_params, place, first_value}
 use Rattle.gl_plain.specs.Tags.{bind_written, flush_parts, install_parts}
 use Rattle.gl_plain.specs.Parts.{mwritten_parts}
@@ -20,7 +20,7 @@ use Rattle.gl_plain.specs.Grow.{made_node, Arm, or_comment, ItemGrown, item_spot
 use Rattle.gl_plain.specs.Stands.{one_expr}
 use Rattle.gl_plain.specs.Laws.{AppendedMakes, AppendedEvaluates}
 use Rattle.gl_plain.specs.Counts.{comment_node, nodes_of, nodes_items, nodes_in, attr_positions, mod_positions, positions_of, positions_items, positions_in}
-use Rattle.gl_plain.proofs.Counts.{Steps, no_steps, then_steps, then_nodes, then_positions, one_row, exprs_steps, args_steps, written_steps, cells_steps, params_steps, place_steps, flush_steps, install_steps}
+use Rattle.gl_plain.proofs.Counts.{Steps, leaves_make, no_steps, then_steps, then_nodes, then_positions, one_row, exprs_steps, args_steps, written_steps, cells_steps, params_steps, place_steps, flush_steps, install_steps}
 
 abbrev pub Counted : State → Live × State → Type 0
 Counted st r = Steps st r.1 (nodes_of r.0) (positions_of r.0)
@@ -35,7 +35,7 @@ abbrev pub CountedArm : State → Arm → Type 0
 CountedArm st a = Steps st a.state (nodes_in a.lives ++ comment_node a.comment) (positions_in a.lives)
 
 pub node_steps : (c : Content) (st : State) → Steps st (made_node c st) (st.next a_node ∷ []) []
-node_steps c st = record { nodes = (refl, refl); positions = sym (append-nil st.evaluated) }
+node_steps c st = let h = no_steps st in record { nodes = (refl, refl); positions = h.positions; leaves = leaves_make a_node (content c) st st h.leaves; late = tt }
 
 pub arm_steps : (st : State) (r : Lives × State) → CountedIn st r → CountedArm st (or_comment r)
 arm_steps st r h = by (have_node r.0) where
@@ -120,7 +120,7 @@ module _ (app : App) (d : GrowComponents) (y : GrowYields) (hd : ComponentsCount
         let st1 = make a_block block_row z.state in
         let r = d (into c ∷ p) (block_id k ∷ (a.made ++ z.made)) a.names (Some k) (mpassed k ps bs ms) st1 in
         let h = then_steps st a.state z.state [] [] [] [] (args_steps app ms given st) (written_steps app (mwritten_parts ms ps) a.state) in
-        then_steps st st1 r.1 [] (nodes_of r.0) [] (positions_of r.0) (record { nodes = h.nodes; positions = h.positions })
+        then_steps st st1 r.1 [] (nodes_of r.0) [] (positions_of r.0) (record { nodes = h.nodes; positions = h.positions; leaves = leaves_make a_block block_row st z.state h.leaves; late = tt })
         (hd (into c ∷ p) (block_id k ∷ (a.made ++ z.made)) a.names (Some k) (mpassed k ps bs ms) st1)
     stmt_steps (t.if_stmt e unless b c) ms p st =
         let x0 = bind_exprs app ms (one_expr e) st in
@@ -184,7 +184,7 @@ components_steps (suc m) app τ q made args k w st =
     let d = grow_components m app τ in
     let r = grow_body app d (grow_yields app d w) (mscope i args [] w) q 0 (class_at app q).template st1 in
     let h = cells_steps app τ q fields st in
-    then_steps st st1 r.1 [] (nodes_in r.0) [] (positions_in r.0) (record { nodes = h.nodes; positions = h.positions })
+    then_steps st st1 r.1 [] (nodes_in r.0) [] (positions_in r.0) (record { nodes = h.nodes; positions = h.positions; leaves = leaves_make an_instance (instance_row i) st c.state h.leaves; late = tt })
     (body_steps app d (grow_yields app d w) (components_steps m app τ) (yields_steps app d (components_steps m app τ) w) (class_at app q).template (mscope i args [] w) q 0 st1)
 
 app_steps : (app : App) (τ : Store) (st : State) → Counted st (grow_app app τ st)

@@ -1,6 +1,6 @@
 -- What binding counts: it makes no node, and evaluates nothing but the positions that it places.
-use Rattle.std.proofs.Common.{◌≡◌, ℕ, zero, suc, List, [], ◌∷◌, ◌++◌, Bool, true, false, Option, Some, None, refl, sym, ◌∙◌, ap, subst}
-use Rattle.std.specs.Prelude.{map, if◌then◌else◌}
+use Rattle.std.proofs.Common.{◌≡◌, ◌<◌, ◌≤◌, ℕ, zero, suc, List, [], ◌∷◌, ◌++◌, Bool, true, false, Option, Some, None, refl, sym, ◌∙◌, ap, subst, arith}
+use Rattle.std.specs.Prelude.{map, length, if◌then◌else◌}
 use Rattle.std.proofs.lemmas.List.{append-nil, append_assoc}
 use Rattle.gl_base.specs.Texts.{Text}
 use Rattle.gl_base.specs.Names.{last_named}
@@ -9,34 +9,77 @@ use Rattle.gl_ast.specs.Template.{Expr, Exprs, NamedExprs, AttrValue, Part, Plai
 use Rattle.gl_ast.specs.Template as t
 use Rattle.gl_meaning.specs.App.{App}
 use Rattle.gl_meaning.specs.Path.{Path}
-use Rattle.gl_meaning.specs.Scope.{cell}
-use Rattle.gl_meaning.specs.Eval.{Store, class_at, cell_value, Member, field_member, getter_member, action_member, member_of}
+use Rattle.gl_meaning.specs.Scope.{Pair, Source, cell, sources_of}
+use Rattle.gl_meaning.specs.Eval.{Store, values_in, class_at, cell_value, Member, field_member, getter_member, action_member, member_of}
 use Rattle.gl_meaning.specs.Parts.{Written}
-use Rattle.gl_plain.specs.Ids.{a_node}
-use Rattle.gl_plain.specs.State.{Form, constant_form, source_form, property_form, call_form, joined_form, MScope, inst_of, args_of, locals_in, own, State}
+use Rattle.gl_plain.specs.Ids.{a_ref, a_node, a_modifier, Kind, Id, ref}
+use Rattle.gl_plain.specs.State.{Form, constant_form, source_form, property_form, call_form, joined_form, all_form, MScope, inst_of, args_of, locals_in, own, any_of, row, modifier_row, Installed, Thing, State, make}
 use Rattle.gl_plain.specs.Binding.{Bound, BoundAll, made_row, old_ref, after_made, bind_along, bind_found, bind_bare, bind_member, bind_in, bind_all_in, bind_named_in, bind_deep, getters_in, bind_expr, bind_exprs, bind_pairs, bind_value, bind_args, bind_params, place}
-use Rattle.gl_plain.specs.Tags.{bind_part, bind_written, Given, fixed_given, live_given, taken_waiting, some_waiting_live, given_ref, given_refs, given_pairs, AttrsGiven, give_attrs, flush_parts, attributes_waiting, names_waiting, Waiting, WaitingModifier, modifiers_waiting, install, install_all, install_parts}
+use Rattle.gl_plain.specs.Tags.{first_values, named_with, values_from, bind_part, bind_written, Given, fixed_given, live_given, taken_waiting, some_waiting_live, given_ref, given_refs, given_pairs, AttrsGiven, give_attrs, flush_parts, attributes_waiting, names_waiting, Waiting, WaitingModifier, modifiers_waiting, install, install_all, install_parts}
 use Rattle.gl_meaning.specs.Parts.{attribute_value}
 use Rattle.gl_plain.specs.Grow.{grow_cells}
 use Rattle.gl_plain.specs.Counts.{Runs, attr_positions, mod_positions}
+use Rattle.gl_plain.proofs.Moves.{make_more, unhit, hit_num}
 
--- a step that made these nodes in order, and evaluated these positions in order
+-- What a step that makes new things leaves as it was: the references that were there, and which sources are touched.
+pub record Leaves (st st' : State) : Type 0 where
+  pub more : st.next a_ref ≤ st'.next a_ref
+  pub rows : (r : ℕ) → r < st.next a_ref → st'.look (ref r) ≡ st.look (ref r)
+  pub touches : (x : Source) → st'.touched x ≡ st.touched x
+
+leaves_all : (st : State) → Leaves st st
+leaves_all st = record { more = omega arith; rows = λ r lt. refl; touches = λ x. refl }
+
+leaves_then : (st st1 st2 : State) → Leaves st st1 → Leaves st1 st2 → Leaves st st2
+leaves_then st st1 st2 h g = record {
+  more = let i = h.more in let k = g.more in omega (arith, i, k);
+  rows = λ r lt. g.rows r (let i = h.more in omega (arith, i, lt)) ∙ h.rows r lt;
+  touches = λ x. g.touches x ∙ h.touches x;
+}
+
+-- another thing is made
+pub leaves_make : (k : Kind) (x : Thing) (st st' : State) → Leaves st st' → Leaves st (make k x st')
+leaves_make k x st st' h =
+    leaves_then st st' (make k x st') h
+    (record {
+      more = make_more k x st' (ref 0);
+      rows = λ r lt.
+          let new : Id = record { kind = k; num = st'.next k } in
+          ap (λ b. if b then Some x else st'.look (ref r)) (unhit (ref r) new (hit_num (ref r) new (λ e f. let i : st'.next a_ref ≡ st'.next k = ap st'.next e in omega (arith, lt, i, f))));
+      touches = λ y. refl;
+    })
+
+-- each number is n or greater
+abbrev pub AllFrom : ℕ → List ℕ → Type 0
+AllFrom n [] = Unit {0}
+AllFrom n (r ∷ rs) = (n ≤ r) × AllFrom n rs
+
+from_join : (n m : ℕ) (xs ys : List ℕ) → n ≤ m → AllFrom n xs → AllFrom m ys → AllFrom n (xs ++ ys)
+from_join n m [] [] le h g = tt
+from_join n m [] (y ∷ ys) le h g = (let i = g.0 in omega (arith, i, le), from_join n m [] ys le h g.1)
+from_join n m (x ∷ xs) ys le h g = (h.0, from_join n m xs ys le h.1 g)
+
+-- a step that made these nodes in order, and evaluated these positions in order, which are new
 pub record Steps (st st' : State) (ns rs : List ℕ) : Type 0 where
   pub nodes : Runs (st.next a_node) ns (st'.next a_node)
   pub positions : st'.evaluated ≡ st.evaluated ++ rs
+  pub leaves : Leaves st st'
+  pub late : AllFrom (st.next a_ref) rs
 
 pub runs_join : (n m k : ℕ) (xs ys : List ℕ) → Runs n xs m → Runs m ys k → Runs n (xs ++ ys) k
 runs_join n m k [] ys h g = subst (λ j. Runs j ys k) h g
 runs_join n m k (x ∷ xs) ys h g = (h.0, runs_join (suc n) m k xs ys h.1 g)
 
 pub no_steps : (st : State) → Steps st st [] []
-no_steps st = record { nodes = refl; positions = sym (append-nil st.evaluated) }
+no_steps st = record { nodes = refl; positions = sym (append-nil st.evaluated); leaves = leaves_all st; late = tt }
 
 -- one step after another
 pub then_steps : (st st1 st2 : State) (ns ns' rs rs' : List ℕ) → Steps st st1 ns rs → Steps st1 st2 ns' rs' → Steps st st2 (ns ++ ns') (rs ++ rs')
 then_steps st st1 st2 ns ns' rs rs' h g = record {
   nodes = runs_join (st.next a_node) (st1.next a_node) (st2.next a_node) ns ns' h.nodes g.nodes;
   positions = g.positions ∙ (ap (λ xs. xs ++ rs') h.positions ∙ append_assoc st.evaluated rs rs');
+  leaves = leaves_then st st1 st2 h.leaves g.leaves;
+  late = from_join (st.next a_ref) (st1.next a_ref) rs rs' h.leaves.more h.late g.late;
 }
 
 -- the second evaluates nothing
@@ -49,7 +92,7 @@ then_positions st st1 st2 ns rs rs' h g = subst (λ xs. Steps st st2 xs (rs ++ r
 
 -- another reference is made
 pub row_steps : (x : Form) (st st' : State) → Steps st st' [] [] → Steps st (made_row x st') [] []
-row_steps x st st' h = record { nodes = h.nodes; positions = h.positions }
+row_steps x st st' h = record { nodes = h.nodes; positions = h.positions; leaves = leaves_make a_ref (row (record { form = x; last = any_of [] })) st st' h.leaves; late = tt }
 
 pub one_row : (x : Form) (st : State) → Steps st (made_row x st) [] []
 one_row x st = row_steps x st st (no_steps st)
@@ -152,7 +195,14 @@ params_steps (n ∷ ns) (r ∷ rs) st = params_steps ns rs st
 
 -- a position over what was bound
 pub place_steps : (st : State) (b : BoundAll) → Steps st b.state [] [] → Steps st (place b).state [] ((place b).spot.ref ∷ [])
-place_steps st b h = record { nodes = h.nodes; positions = ap (λ xs. xs ++ (place b).spot.ref ∷ []) (h.positions ∙ append-nil st.evaluated) }
+place_steps st b h =
+    let m = leaves_make a_ref (row (record { form = all_form b.ids; last = any_of (sources_of (place b).pairs) })) st b.state h.leaves in
+    record {
+      nodes = h.nodes;
+      positions = ap (λ xs. xs ++ (place b).spot.ref ∷ []) (h.positions ∙ append-nil st.evaluated);
+      leaves = record { more = m.more; rows = m.rows; touches = m.touches };
+      late = (h.leaves.more, tt);
+    }
 
 given_steps : (g : Given) (st : State) → Steps st (given_ref g st).state [] []
 given_steps (fixed_given z) st = one_row (constant_form (text z)) st
@@ -182,6 +232,12 @@ attrs_steps ws (n ∷ ns) st = by (some_waiting_live (taken_waiting n ws)) (attr
 pub flush_steps : (ps : List Waiting) (st : State) → let r = flush_parts ps st in Steps st r.state [] (attr_positions r.spots)
 flush_steps ps st = attrs_steps (attributes_waiting ps) (names_waiting (attributes_waiting ps)) st
 
+-- the row of a modifier that is installed
+abbrev waiting_row : ℕ → ℕ → WaitingModifier → List Pair → Installed
+waiting_row n i w ps =
+    let vs = values_in ps in
+    record { on_node = n; place = i; name = w.name; args = first_values (length w.ids) vs; names = named_with (map (λ y. y.0) w.names) (values_from (length w.ids) vs) }
+
 mods_steps : (n i : ℕ) (ws : List WaitingModifier) (st : State) → let r = install_all n i ws st in Steps st r.state [] (mod_positions r.spots)
 mods_steps n i [] st = no_steps st
 mods_steps n i (w ∷ ws) st =
@@ -189,7 +245,9 @@ mods_steps n i (w ∷ ws) st =
     let x = install n i w (place b) in
     let r = install_all n (suc i) ws x.1 in
     let h = place_steps st b (no_steps st) in
-    then_steps st x.1 r.state [] [] (x.0.spot.ref ∷ []) (mod_positions r.spots) (record { nodes = h.nodes; positions = h.positions }) (mods_steps n (suc i) ws x.1)
+    let m = leaves_make a_modifier (modifier_row (waiting_row n i w (place b).pairs)) st (place b).state h.leaves in
+    then_steps st x.1 r.state [] [] (x.0.spot.ref ∷ []) (mod_positions r.spots)
+    (record { nodes = h.nodes; positions = h.positions; leaves = record { more = m.more; rows = m.rows; touches = m.touches }; late = h.late }) (mods_steps n (suc i) ws x.1)
 
 pub install_steps : (n i : ℕ) (ps : List Waiting) (st : State) → let r = install_parts n i ps st in Steps st r.state [] (mod_positions r.spots)
 install_steps n i ps st = mods_steps n i (modifiers_waiting ps) st

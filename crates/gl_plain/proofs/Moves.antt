@@ -217,7 +217,7 @@ hit_num q r ne = hit_other q r (by (id_case q r)) where
 pub new_id : Kind → State → Id
 new_id k st = record { kind = k; num = st.next k }
 
-make_more : (k : Kind) (x : Thing) (st : State) (q : Id) → st.next q.kind ≤ (make k x st).next q.kind
+pub make_more : (k : Kind) (x : Thing) (st : State) (q : Id) → st.next q.kind ≤ (make k x st).next q.kind
 make_more k x st q = by (kind_eq q.kind k) refl where
   by : (b : Bool) → kind_eq q.kind k ≡ b → st.next q.kind ≤ cond {A = ℕ} b (suc (st.next k)) (st.next q.kind)
   by true e = let h : st.next q.kind ≡ st.next k = ap st.next (kind_means q.kind k e) in omega (arith, h)

@@ -185,7 +185,7 @@ module _ (app : App) (σ τ : Store) where
 
   -- Old items
 
-  handles_count : (m : ℕ) (c : t.Body) (is : Items) (q : Id) → times_handles q (handles app τ m c is) ≡ times_items q is
+  pub handles_count : (m : ℕ) (c : t.Body) (is : Items) (q : Id) → times_handles q (handles app τ m c is) ≡ times_items q is
   handles_count m c Live.no_items q = refl
   handles_count m c (Live.item_live z o ls is) q = ap (λ n. (occurs q (item_made z) + (times_in q ls + times_comment q o)) + n) (handles_count m c is q)
 

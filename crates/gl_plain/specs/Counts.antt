@@ -1,5 +1,9 @@
 -- The nodes and the positions of a tree, in the order in which they stand.
-use Rattle.std.specs.Prelude.{◌≡◌, ◌⊎◌, ℕ, suc, List, [], ◌∷◌, ◌++◌, Bool, false, Option, Some, None}
+use Rattle.std.specs.Prelude.{◌≡◌, ◌⊎◌, ℕ, suc, List, [], ◌∷◌, ◌++◌, Bool, true, false, ◌||◌, nat_le, Option, Some, None}
+use Rattle.gl_meaning.specs.Scope.{Source}
+use Rattle.gl_plain.specs.Ids.{a_ref, ref}
+use Rattle.gl_plain.specs.State.{State}
+use Rattle.gl_plain.specs.Renew.{last_of}
 use Rattle.gl_plain.specs.Live.{AttrSpot, ModSpot, Live, still, put_live, element_live, branch_live, listed, unlisted, let_live, component_live, yield_live, deep_live, Items, no_items, item_live, Lives, no_lives, live_and}
 
 abbrev pub comment_node : Option ℕ → List ℕ
@@ -69,3 +73,13 @@ Taken must [] [] = Unit {0}
 Taken must [] (r ∷ rs) = ⊥
 Taken must (q ∷ qs) [] = (must q ≡ false) × Taken must qs []
 Taken must (q ∷ qs) (r ∷ rs) = ((q ≡ r) × Taken must qs rs) ⊎ ((must q ≡ false) × Taken must qs (r ∷ rs))
+
+-- each number of the list passes the test
+abbrev pub AllPass : (ℕ → Bool) → List ℕ → Type 0
+AllPass test [] = Unit {0}
+AllPass test (r ∷ rs) = (test r ≡ true) × AllPass test rs
+
+-- Whether a position is due, where these sources are touched: it wasn't there in this state, or one of the sources that it had read last
+-- in it is touched.
+abbrev pub is_due : State → (Source → Bool) → ℕ → Bool
+is_due st touched q = nat_le (st.next a_ref) q || last_of (st.look (ref q)) touched
