@@ -1,5 +1,5 @@
 -- Places that stand below one place at different steps are apart.
-use Rattle.std.proofs.Common.{◌≡◌, ◌≤◌, ℕ, suc, List, [], ◌∷◌, Bool, true, false, true≢false, refl, sym, ◌∙◌, ap, subst, arith, inl, inr, ◌⊎◌}
+use Rattle.std.proofs.Common.{◌≡◌, ◌≤◌, ℕ, suc, List, [], ◌∷◌, true, true≢false, refl, sym, ◌∙◌, ap, subst, arith, inl, inr, ◌⊎◌}
 use Rattle.gl_value.specs.Value.{undefined}
 use Rattle.gl_ast.specs.Template.{Plain}
 use Rattle.gl_meaning.specs.Path.{PathStep, at, item, Path}

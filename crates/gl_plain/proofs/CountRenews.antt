@@ -10,7 +10,7 @@ use Rattle.gl_value.specs.Value.{Values, no_values, value, text_of, count_value,
 use Rattle.gl_ast.specs.Template as t
 use Rattle.gl_meaning.specs.App.{App}
 use Rattle.gl_meaning.specs.Path.{PathStep, at, main, otherwise, items, item, into, slot, Path, V, path_eq, no_owners}
-use Rattle.gl_meaning.specs.Scope.{Source, cell, item_value, item_index, Pair, sources_of, Scope, scope, nothing_passed, passed, passed_of, with_locals, bind}
+use Rattle.gl_meaning.specs.Scope.{Source, item_value, item_index, Pair, sources_of, Scope, scope, nothing_passed, passed, passed_of, with_locals, bind}
 use Rattle.gl_meaning.specs.Laws.{Within, AtOrAbove, Owners, OwnersAll, PairsIn, source_path}
 use Rattle.gl_meaning.proofs.Above.{owners_more}
 use Rattle.gl_meaning.proofs.Once.{Distinct, distinct}
