@@ -1,0 +1,1 @@
+// Modifiers, step by step.
