@@ -16,8 +16,8 @@ AreGiven made (i ∷ is) = (i.1 < made) × AreGiven made is
 pub record IsKept (a : Arena Installed) (nodes : List (Id × List Id)) (installs updates : List Id) : Type 0 where
   pub stamps : IsStamped a
   pub on : (n i : Id) → times i (ids_at n nodes) ≡ count_at n (named a i)
-  pub installs : AreGiven a.made installs
-  pub updates : AreGiven a.made updates
+  pub installs_given : AreGiven a.made installs
+  pub updates_given : AreGiven a.made updates
 
 -- the list, maybe with one more
 abbrev pub IsMaybeMore : Id → List Id → List Id → Type 0

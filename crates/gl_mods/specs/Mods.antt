@@ -1,5 +1,5 @@
 -- Installed modifiers.
-use Rattle.std.specs.Prelude.{◌≡◌, ℕ, ◌+◌, ◌<◌, ◌==◌, ◌&&◌, List, [], ◌∷◌, ◌++◌, filter, filter_map, is_some, Option, Some, None, option_map, if◌then◌else◌, IsSome, refl}
+use Rattle.std.specs.Prelude.{◌≡◌, ℕ, ◌+◌, ◌<◌, ◌==◌, ◌&&◌, List, [], ◌∷◌, ◌++◌, filter, filter_map, is_some, false, Option, Some, None, option_map, if◌then◌else◌, IsSome, refl}
 use Rattle.std.specs.Str.{bytes_eq}
 use Rattle.std.specs.Coded.{Coded, code_by, coded×, coded_ℕ, coded_list}
 use Rattle.gl_base.specs.Texts.{Text}

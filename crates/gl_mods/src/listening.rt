@@ -27,7 +27,7 @@ impl Installed {
         }
         match self.args.get(0) {
             Some(first) => Ok(first.text_of(alloc)?.is(event)),
-            None => Ok(event.is_empty()),
+            None => Ok(Value::Undefined.text_of(alloc)?.is(event)),
         }
     }
 

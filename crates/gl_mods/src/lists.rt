@@ -12,7 +12,12 @@ use std::collections::BTreeMap;
 pub(crate) type Lists = BTreeMap<Id<NodeMark>, Vec<ModId>>;
 
 // Puts an id at the end of those of a node.
-fn push_at(lists: &mut Lists, alloc: Global, node: Id<NodeMark>, id: ModId) -> Result<(), AllocError>
+fn push_at(
+    lists: &mut Lists,
+    alloc: Global,
+    node: Id<NodeMark>,
+    id: ModId,
+) -> Result<(), AllocError>
     ensures ok { OnOk result ((n : SeenId) → ids_at n (lists_in lists.new) ≡ with_id node id (λ m. ids_at m (lists_in lists.old)) n) }
     ensures err { OnErr result ((n : SeenId) → ids_at n (lists_in lists.new) ≡ ids_at n (lists_in lists.old)) }
 {
