@@ -5,6 +5,7 @@ ghost use Rattle.gl_destroy.specs.Forest.{times, IsParent, Adds, IsSound, tree_a
 ghost use Rattle.gl_destroy.specs.View.{seen_what};
 
 use crate::entries::{Entries, hang, insert_entry};
+use crate::siblings::{Siblings, thin_children, thin_trees};
 use crate::walk::{end_all, parents_first};
 use crate::{Log, What};
 use gl_arena::{Arena, DestroyId};
@@ -17,7 +18,7 @@ use std::marker::Model;
 pub struct Destroyables {
     alloc: Global,
     entries: Entries,
-    trees: Vec<DestroyId>,
+    trees: Siblings,
 }
 
 impl Model for Destroyables {
@@ -29,9 +30,9 @@ impl Model for Destroyables {
 
     ghost coded = { destroyables_code };
 
-    ghost view = { λ d. record { forest = forest_in (look_in d.entries) d.entries.made d.trees.items; made = d.entries.made } };
+    ghost view = { λ d. record { forest = forest_in (look_in d.entries) d.entries.made d.trees.list.items; made = d.entries.made } };
 
-    ghost invariant = { λ d. IsForest (look_in d.entries) d.entries.made d.trees.items (forest_in (look_in d.entries) d.entries.made d.trees.items) };
+    ghost invariant = { λ d. IsForest (look_in d.entries) d.entries.made d.trees.list.items (forest_in (look_in d.entries) d.entries.made d.trees.list.items) };
 }
 
 impl Destroyables {
@@ -43,13 +44,34 @@ impl Destroyables {
         Ok(Destroyables {
             alloc,
             entries: Arena::new(alloc)?,
-            trees: Vec::new(alloc),
+            trees: Siblings::new(alloc),
         })
     }
 
     /// Adds one as the last child of a parent, or as the last tree, under an id that was never given before. Where there
     /// is no memory the forest stays as it was, and an id may have been given in vain.
     pub fn add(&mut self, parent: Option<DestroyId>, what: What) -> Result<DestroyId, AllocError>
+        requires { IsParent self.old.forest parent }
+        ensures ok { IfOk result (λ id. Adds self.old self.new parent id (seen_what what)) }
+        ensures err { OnErr result (self.new.forest ≡ self.old.forest) }
+    {
+        self.thin(parent)?;
+        self.put_last(parent, what)
+    }
+
+    // Drops those from the list of a parent, or of the trees, that live no more, where it is time.
+    fn thin(&mut self, parent: Option<DestroyId>) -> Result<(), AllocError>
+        requires { IsParent self.old.forest parent }
+        ensures { self.new ≡ self.old }
+    {
+        match parent {
+            None => thin_trees(&self.entries, self.alloc, &mut self.trees),
+            Some(parent) => thin_children(&mut self.entries, self.alloc, parent),
+        }
+    }
+
+    // Puts one at the end of the children of a parent, or of the trees.
+    fn put_last(&mut self, parent: Option<DestroyId>, what: What) -> Result<DestroyId, AllocError>
         requires { IsParent self.old.forest parent }
         ensures ok { IfOk result (λ id. Adds self.old self.new parent id (seen_what what)) }
         ensures err { OnErr result (self.new.forest ≡ self.old.forest) }

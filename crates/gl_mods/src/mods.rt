@@ -1,5 +1,5 @@
 // The modifiers, and their calls.
-ghost use Rattle.std.specs.Prelude.{◌≡◌, [], IfOk, OnOk, OnErr, IsSome, Some};
+ghost use Rattle.std.specs.Prelude.{◌≡◌, [], IfOk, OnOk, OnErr, IsSome, Some, is_some};
 ghost use Rattle.std.specs.Str.{chars};
 ghost use Rattle.gl_arena.specs.Arena.{named as named_in};
 ghost use Rattle.gl_mods.specs.Mods as m;
@@ -99,6 +99,13 @@ impl Mods {
                 Err(error)
             }
         }
+    }
+
+    /// Whether the id names a modifier.
+    pub fn live(&self, id: ModId) -> bool
+        ensures { result ≡ is_some (named_in self.now.table id) }
+    {
+        self.table.live(id)
     }
 
     /// The modifier of an id.
