@@ -21,6 +21,13 @@ live_look a i h = by_case (named a i) h
     by_case None h = h
     by_case (Some e) h = refl
 
+pub look_live : (a : Arena Entry) (i : Id) → IsSome (named a i) → IsSome (look_in a i)
+look_live a i h = by_case (named a i) h
+  where
+    by_case : (o : Option Entry) → IsSome o → IsSome (option_map seen_entry o)
+    by_case None h = h
+    by_case (Some e) h = refl
+
 pub put_look : (a b : Arena Entry) (i : Id) (w : w.What) → AddsEntry a b i w → look_in b i ≡ Some (w, [])
 put_look a b i w h =
     ap (option_map seen_entry) h.gives.given

@@ -6,8 +6,8 @@ use Rattle.gl_arena.specs.Arena.{Arena, named, with_value}
 use Rattle.gl_arena.proofs.Ids.{id_cases}
 use Rattle.gl_arena.proofs.Values.{with_value-writes}
 use Rattle.gl_destroy.specs.What.{What}
-use Rattle.gl_destroy.specs.Forest.{Forest, end, tree}
-use Rattle.gl_destroy.specs.Links.{Look, living, tops, AreGiven, Shows, Linked, read, read_at, forest_in, IsForest, Lost, IsThinned}
+use Rattle.gl_destroy.specs.Forest.{Forest, end, tree, times}
+use Rattle.gl_destroy.specs.Links.{Look, living, tops, AreGiven, Shows, Linked, read, read_at, forest_in, IsForest, IsWhole, Lost, IsThinned}
 use Rattle.gl_destroy.specs.View.{seen_what, seen_entry, look_in}
 use Rattle.gl_destroy.specs.declared.entries.Entry.{Entry}
 
@@ -65,8 +65,7 @@ module _ (l n : Look) (thin : IsThinned l n) where
     | inr lost ↦
         let same : Some (lost.what, lost.ids) ≡ Some (w, h.0) = sym lost.was ∙ h.1 in
         let what : lost.what ≡ w = ap (λ o. (entry_of (w, []) o).0) same in
-        let ids : lost.ids ≡ h.0 = ap (λ o. (entry_of (w, []) o).1) same in
-        (
+        let ids : lost.ids ≡ h.0 = ap (λ o. (entry_of (w, []) o).1) same in (
           living l lost.ids,
           lost.is ∙ ap (λ v. Some (v, living l lost.ids)) what,
           living-thin (living l lost.ids) ∙ (living-twice l lost.ids ∙ (ap (living l) ids ∙ h.2)),
@@ -92,9 +91,21 @@ module _ (l n : Look) (thin : IsThinned l n) where
     ];
   }
 
+  pub whole_thinned : (made : ℕ) (ids : List Id) → IsWhole l made ids (forest_in l made ids) → IsWhole n made ids (forest_in n made ids)
+  whole_thinned made ids is = subst (IsWhole n made ids) (sym (forest-thin made ids)) (record {
+    forest = thinned made ids (forest_in l made ids) is.forest;
+    stands = λ i live. is.stands i (sym (same_live i) ∙ live);
+  })
+
 -- the list of trees has lost some
 pub trees_thinned : (l : Look) (made : ℕ) (ids jds : List Id) (f : Forest) → living l jds ≡ living l ids → AreGiven made jds → IsForest l made ids f → IsForest l made jds f
 trees_thinned l made ids jds f same given is = record { heads = same ∙ is.heads; linked = is.linked; once = is.once; fits = is.fits; given = given; lists = is.lists }
+
+pub whole_trees : (l : Look) (made : ℕ) (ids jds : List Id) → living l jds ≡ living l ids → AreGiven made jds → IsWhole l made ids (forest_in l made ids) → IsWhole l made jds (forest_in l made jds)
+whole_trees l made ids jds same given is = subst (IsWhole l made jds) (sym (ap (read l made) same)) (record {
+  forest = trees_thinned l made ids jds (forest_in l made ids) same given is.forest;
+  stands = is.stands;
+})
 
 -- the children of one
 pub thin_refl : (l : Look) → IsThinned l l

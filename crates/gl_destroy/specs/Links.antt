@@ -1,5 +1,5 @@
 -- The lists of children, and when they are a forest. Words of private clauses.
-use Rattle.std.specs.Prelude.{◌≡◌, ℕ, zero, suc, ◌+◌, ◌<◌, ◌≤◌, ◌==◌, List, [], ◌∷◌, ◌++◌, filter, reverse, is_some, Option, Some, None, option_map, if◌then◌else◌, ◌⊎◌}
+use Rattle.std.specs.Prelude.{◌≡◌, ℕ, zero, suc, ◌+◌, ◌<◌, ◌≤◌, ◌==◌, List, [], ◌∷◌, ◌++◌, filter, reverse, is_some, IsSome, Option, Some, None, option_map, if◌then◌else◌, ◌⊎◌}
 use Rattle.gl_arena.specs.Id.{Id, same_id}
 use Rattle.gl_destroy.specs.What.{What}
 use Rattle.gl_destroy.specs.Forest.{Forest, end, tree, hit, times, children_first}
@@ -59,6 +59,11 @@ pub record IsForest (l : Look) (made : ℕ) (ids : List Id) (f : Forest) : Type 
   pub fits : size f ≤ made
   pub given : AreGiven made ids
   pub lists : (i : Id) (w : What) (cs : List Id) → l i ≡ Some (w, cs) → AreGiven made cs
+
+-- and what lives stands in the forest
+pub record IsWhole (l : Look) (made : ℕ) (ids : List Id) (f : Forest) : Type 0 where
+  pub forest : IsForest l made ids f
+  pub stands : (i : Id) → IsSome (l i) → 0 < times i f
 
 -- one more in the list of children of a parent
 abbrev pub one_if : Id → Id → Id → List Id
