@@ -1,8 +1,8 @@
 -- Worked samples: the whole texts of those of one, two and three rows, and the places that the 16 events of 10,000 rows have.
 use Rattle.std.specs.Fmt.{digits}
-use Rattle.std.specs.Prelude.{⊤, ◌≡◌, ℕ, List, [], ◌∷◌, ◌++◌, ◌%◌, codes, map, refl}
+use Rattle.std.specs.Prelude.{⊤, ◌≡◌, [], ◌∷◌, ◌%◌, codes, map, refl}
 use Rattle.std.specs.List.{range_with_len}
-use Rattle.gl_base.specs.Texts.{Text, joined}
+use Rattle.gl_base.specs.Texts.{joined}
 use Rattle.gl_gen.specs.Rows.{rows}
 use Rattle.gl_gen.specs.Application.{manifest}
 use Rattle.gl_gen.specs.Script.{random, event, script}

@@ -1,5 +1,5 @@
 -- The script of the sample: 16 events, in turn a click on a row and a new order of the rows, at pseudo-random places.
-use Rattle.std.specs.Prelude.{ℕ, zero, suc, List, ◌∷◌, ◌++◌, ◌+◌, ◌*◌, ◌%◌, ◌==◌, codes, map, if◌then◌else◌}
+use Rattle.std.specs.Prelude.{ℕ, zero, suc, List, ◌++◌, ◌+◌, ◌*◌, ◌%◌, ◌==◌, codes, map, if◌then◌else◌}
 use Rattle.std.specs.List.{range_with_len}
 use Rattle.std.specs.Fmt.{decimal}
 use Rattle.gl_base.specs.Texts.{Text}

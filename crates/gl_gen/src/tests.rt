@@ -1,6 +1,6 @@
-// The samples of one, two and three rows, whole, and the counts of the largest.
+// The samples of one, two and three rows, whole.
 use super::*;
-use gl_outside::File;
+use gl_outside::{File, Files};
 use std::process::Abort;
 use std::test::Fail;
 
@@ -81,20 +81,29 @@ const FILES: [(&str, &str); 2] = [
     ),
 ];
 
-fn is_sample(rt: &impl Abort, whole: &Sample, row: &Row) {
-    assert_eq!(rt; whole.manifest.as_str(), row.1, "manifest {}", row.0);
-    assert_eq!(rt; whole.script.as_str(), row.2, "script {}", row.0);
-    assert_eq!(rt; whole.templates.len(), 2);
+fn are_templates(rt: &impl Abort, templates: &Files) {
+    assert_eq!(rt; templates.len(), 2);
     for (place, (name, text)) in FILES.iter().enumerate() {
-        assert_eq!(rt; whole.templates.get(place).map(File::name), Some(*name));
-        assert_eq!(rt; whole.templates.find(name), Some(text.as_bytes()));
+        assert_eq!(rt; templates.get(place).map(File::name), Some(*name));
+        assert_eq!(rt; templates.find(name), Some(text.as_bytes()));
     }
+}
+
+fn is_sample(rt: &impl Abort, whole: Sample, row: &Row) {
+    let Sample {
+        manifest,
+        templates,
+        script,
+    } = whole;
+    assert_eq!(rt; manifest.as_str(), row.1, "manifest {}", row.0);
+    are_templates(rt, &templates);
+    assert_eq!(rt; script.as_str(), row.2, "script {}", row.0);
 }
 
 #[test]
 fn samples(rt: HostRuntime) -> Result<(), Fail> {
     for row in &SAMPLES {
-        is_sample(&rt, &sample(rt.alloc(), row.0)?, row);
+        is_sample(&rt, sample(rt.alloc(), row.0)?, row);
     }
     Ok(())
 }

@@ -1,7 +1,6 @@
 use Rattle.std.proofs.Common.{◌≡◌, length, ap, ◌∙◌, arith}
 use Rattle.std.proofs.lemmas.Grind.{common_steps}
 use Rattle.gl_gen.specs.Application.{manifest}
-use Rattle.gl_gen.specs.Rows.{rows}
 use Rattle.gl_gen.proofs.Arrays.{length-rows, moved-zero}
 use Rattle.gl_gen.proofs.application.manifest_of.Goals as goal
 

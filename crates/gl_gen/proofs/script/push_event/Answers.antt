@@ -1,5 +1,4 @@
 use Rattle.std.proofs.Common.{sym, ap, ◌∙◌, ◌++◌}
-use Rattle.std.proofs.lemmas.Bool.{ne_eqb}
 use Rattle.gl_gen.proofs.Arrays.{three_pieces}
 use Rattle.gl_gen.proofs.Written.{event_at-odd}
 use Rattle.gl_gen.proofs.script.push_event.Goals as goal

@@ -1,8 +1,7 @@
-use Rattle.std.proofs.Common.{◌≡◌, ◌+◌, ◌-◌, length, ap, sym, subst, ◌∙◌, arith}
+use Rattle.std.proofs.Common.{◌≡◌, ◌-◌, length, ap, ◌∙◌, arith}
 use Rattle.std.proofs.lemmas.Grind.{common_steps}
 use Rattle.gl_gen.proofs.Arrays.{length-rows}
-use Rattle.gl_gen.proofs.Written.{Written, written_first, written_more, written_all}
-use Rattle.gl_gen.specs.Script.{following}
+use Rattle.gl_gen.proofs.Written.{written_first, written_more, written_all}
 use Rattle.gl_gen.proofs.script.script_of.Goals as goal
 
 pub push_event-requires : goal.push_event-requires
