@@ -1,0 +1,10 @@
+pub mod Following
+pub mod Runs
+pub mod Stacks
+pub mod Symbols
+pub mod Rows
+pub mod Helpers
+pub mod Members
+pub mod Words
+pub mod Levels
+pub mod Getters
