@@ -8,3 +8,6 @@ pub mod Members
 pub mod Words
 pub mod Levels
 pub mod Getters
+pub mod Tags
+pub mod Spreads
+pub mod Bodies
