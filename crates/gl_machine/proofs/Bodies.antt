@@ -39,7 +39,8 @@ use Rattle.gl_machine.proofs.Following.{either, or_first, or_second, or_none}
 use Rattle.gl_machine.proofs.Runs.{adds, closed_codes, on, at_op, Goes, stops, ends, first, onto, starts}
 use Rattle.gl_machine.proofs.Stacks.{popped-last, unnamed, lower_is, upper_is, positional_all}
 use Rattle.gl_machine.proofs.Words.{pushed, counted}
-use Rattle.gl_machine.proofs.Getters.{Sound, room, expr_comes, exprs_come}
+use Rattle.gl_machine.proofs.Sound.{Sound}
+use Rattle.gl_machine.proofs.Getters.{room, expr_comes, exprs_come}
 use Rattle.gl_machine.proofs.Tags.{with_parts, with_args, with_slots, unused, names_more, known_both, bound_are, Keeps, params_come, SpreadGoes, parts_come, arguments_come, NoParts, slots_come, bare_comes}
 
 abbrev pub resting : Sight → List ℕ → Here → Making → ℕ → List Frame → Rest

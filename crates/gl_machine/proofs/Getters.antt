@@ -24,16 +24,11 @@ use Rattle.gl_machine.specs.Env.{Env, class_no, getter_no, program_no, symbols_a
 use Rattle.gl_machine.specs.Placed.{IsOf}
 use Rattle.gl_machine.specs.Mach.{Pushed, Here, Back, Making, Kind, in_getter, Frame, Rest, mach, go}
 use Rattle.gl_machine.specs.Step.{do_getter, Comes}
-use Rattle.gl_machine.proofs.Rows.{some_is}
+use Rattle.gl_machine.proofs.Sound.{Sound}
 use Rattle.gl_machine.proofs.Runs.{on, at_op}
 use Rattle.gl_machine.proofs.Stacks.{popped-last, unnamed, with_name}
 use Rattle.gl_machine.proofs.Levels.{Settles, settles}
 use Rattle.gl_machine.proofs.Words.{within, pushed, IsGood, literal_pushes, expr_pushes, exprs_push, named_push}
-
--- Each getter has its program, and no getter reaches itself.
-pub record Sound (env : Env) : Type 0 where
-  pub getters : (c q : ℕ) (y : Text × Expr) → slice_get (class_no env c).getters q ≡ Some y → LowersExpr (getter_no env c q) y.1 [] env.manifest (class_no env c)
-  pub calm : (p : Path) → Acyclic (class_at env.app p)
 
 pub known_none : (symbols : List Text) → Known symbols []
 known_none symbols n h = absurd (both_ways _ refl h)

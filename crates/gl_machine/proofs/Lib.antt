@@ -7,7 +7,10 @@ pub mod Helpers
 pub mod Members
 pub mod Words
 pub mod Levels
+pub mod Sound
 pub mod Getters
 pub mod Tags
 pub mod Spreads
 pub mod Bodies
+pub mod Layers
+pub mod Right

@@ -17,7 +17,8 @@ use Rattle.gl_machine.specs.Mach.{Pushed, Here, Back, Making, Kind, in_parts, Fr
 use Rattle.gl_machine.specs.Step.{spread_to, Comes, here}
 use Rattle.gl_machine.proofs.Runs.{on, at_op}
 use Rattle.gl_machine.proofs.Stacks.{popped-last}
-use Rattle.gl_machine.proofs.Getters.{Sound, room}
+use Rattle.gl_machine.proofs.Sound.{Sound}
+use Rattle.gl_machine.proofs.Getters.{room}
 use Rattle.gl_machine.proofs.Tags.{with_parts, SpreadGoes, parts_come}
 
 module _ (env : Env) (store : Store) (sound : Sound env) where

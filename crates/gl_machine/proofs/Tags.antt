@@ -32,7 +32,8 @@ use Rattle.gl_machine.proofs.Rows.{number_at}
 use Rattle.gl_machine.proofs.Runs.{on, at_op, at_onto}
 use Rattle.gl_machine.proofs.Stacks.{popped-last, drop-front, unnamed, with_name, positional_are, named_are, lower_is, upper_is}
 use Rattle.gl_machine.proofs.Words.{pushed, counted_both}
-use Rattle.gl_machine.proofs.Getters.{Sound, room, expr_comes, exprs_come, named_come, literal_comes}
+use Rattle.gl_machine.proofs.Sound.{Sound}
+use Rattle.gl_machine.proofs.Getters.{room, expr_comes, exprs_come, named_come, literal_comes}
 
 abbrev pub with_parts : List Waiting → Making → Making
 with_parts ps k = record k { parts = k.parts ++ ps }
