@@ -15,7 +15,7 @@ abbrev count_from : ℕ → Rows → Bool
 count_from k [] = true
 count_from k (r ∷ rs) = nat_eq r.1 k && count_from (suc k) rs
 
-both_true : (a b : Bool) → (a && b) ≡ true → (a ≡ true) × (b ≡ true)
+pub both_true : (a b : Bool) → (a && b) ≡ true → (a ≡ true) × (b ≡ true)
 both_true true b e = (refl, e)
 both_true false b e = absurd (both_ways _ refl e)
 

@@ -14,3 +14,7 @@ pub mod Spreads
 pub mod Bodies
 pub mod Layers
 pub mod Right
+pub mod Fitting
+pub mod Lowered
+pub mod Root
+pub mod Pages

@@ -1,4 +1,12 @@
 //! The laws of the machine over words. Each function does nothing: its contract is the law.
+ghost use Rattle.gl_machine.specs.Laws.{WordsAppend, PageAppends};
 
-/// A place for the laws.
-pub fn none() {}
+/// What is run from a recorded address appends what the tree says, and what it records is well placed.
+pub fn words()
+    ensures { WordsAppend }
+{}
+
+/// The whole page is appended as the machine over trees does.
+pub fn pages()
+    ensures { PageAppends }
+{}
