@@ -9,7 +9,7 @@ use Rattle.gl_base.specs.Names.{named}
 use Rattle.gl_names.specs.Helpers.{helper_rows}
 use Rattle.gl_names.specs.Table.{Rows, name_of}
 use Rattle.gl_opc.specs.Numbers.{helper_number}
-use Rattle.gl_machine.proofs.Rows.{some_is, none_some}
+use Rattle.gl_machine.proofs.Numbered.{some_is, none_some}
 
 abbrev count_from : ℕ → Rows → Bool
 count_from k [] = true

@@ -11,7 +11,7 @@ use Rattle.gl_ast.specs.Template.{Expr}
 use Rattle.gl_meaning.specs.App.{Class}
 use Rattle.gl_meaning.specs.Known.{mentions, Among, Leads, mention, onward, Acyclic}
 use Rattle.gl_opc.specs.Numbers.{keys}
-use Rattle.gl_machine.proofs.Rows.{none_some}
+use Rattle.gl_machine.proofs.Numbered.{none_some}
 
 -- the getters that an expression mentions, with those that these mention and so on, nest at most so deep
 abbrev pub Settles : List (Text × Expr) → ℕ → Expr → Type 0

@@ -2,7 +2,7 @@ pub mod Following
 pub mod Runs
 pub mod Stacks
 pub mod Symbols
-pub mod Rows
+pub mod Numbered
 pub mod Helpers
 pub mod Members
 pub mod Words

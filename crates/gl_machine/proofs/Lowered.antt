@@ -23,7 +23,7 @@ use Rattle.gl_opc.specs.IsApp.{IsAppWith}
 use Rattle.gl_machine.specs.Params.{HasParamsIn}
 use Rattle.gl_machine.specs.Env.{Env, class_or, class_no, programs_or, program_or, program_no, getter_no}
 use Rattle.gl_machine.specs.Laws.{AllLowered}
-use Rattle.gl_machine.proofs.Rows.{some_is, none_some, Numbered, at_front, further, numbered}
+use Rattle.gl_machine.proofs.Numbered.{some_is, none_some, Numbered, at_front, further, numbered}
 use Rattle.gl_machine.proofs.Fitting.{template_fits}
 use Rattle.gl_machine.proofs.Sound.{LoweredAs, Sound}
 

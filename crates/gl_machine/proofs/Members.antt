@@ -13,7 +13,7 @@ use Rattle.gl_opc.specs.Numbers.{number_in, keys, member_op}
 use Rattle.gl_plain.specs.State.{Names, Inst, cell_ref}
 use Rattle.gl_machine.specs.Env.{Env, class_no}
 use Rattle.gl_machine.specs.Placed.{IsOf}
-use Rattle.gl_machine.proofs.Rows.{some_is, none_some, row_at, row_none}
+use Rattle.gl_machine.proofs.Numbered.{some_is, none_some, row_at, row_none}
 
 pub data MemberIs (e : ClassEntry) (c : Class) (x : Text) (head : Op) : Type 0 where
   is_field : (f : ℕ) → number_in (keys e.fields) x ≡ Some f → head ≡ op.Field f → member_of c x ≡ field_member → MemberIs e c x head

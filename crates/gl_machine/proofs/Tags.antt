@@ -28,7 +28,7 @@ use Rattle.gl_machine.specs.Env.{Env, class_no, program_no, symbols_at, by_symbo
 use Rattle.gl_machine.specs.Placed.{IsOf, SlotsThere}
 use Rattle.gl_machine.specs.Mach.{Pushed, Here, Making, Kind, Frame, Rest, Mach, Run, mach, go}
 use Rattle.gl_machine.specs.Step.{popped, unless_parts, do_op, with_made, do_bind, spread_to, Comes, here}
-use Rattle.gl_machine.proofs.Rows.{number_at}
+use Rattle.gl_machine.proofs.Numbered.{number_at}
 use Rattle.gl_machine.proofs.Runs.{on, at_op, at_onto}
 use Rattle.gl_machine.proofs.Stacks.{popped-last, drop-front, unnamed, with_name, positional_are, named_are, lower_is, upper_is}
 use Rattle.gl_machine.proofs.Words.{pushed, counted_both}
