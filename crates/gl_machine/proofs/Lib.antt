@@ -1,0 +1,5 @@
+pub mod Following
+pub mod SyncsCode
+pub mod ItemsCode
+pub mod RenewsCode
+pub mod PageRenews
