@@ -1,10 +1,10 @@
 -- Which id stands at which place: of what was rendered, all nodes, positions, instances, items and modifiers by their paths.
-use Rattle.std.specs.Prelude.{ℕ, suc, List, [], ◌∷◌, ◌++◌, map, if◌then◌else◌, Option, Some, None}
+use Rattle.std.specs.Prelude.{ℕ, suc, List, [], ◌∷◌, ◌++◌, map, true, false, Option, Some, None}
 use Rattle.gl_meaning.specs.Path.{at, main, otherwise, items, item, slot, empty, attribute_at, modifier_at, Path}
 use Rattle.gl_meaning.specs.Parts.{Modifier}
 use Rattle.gl_meaning.specs.Render.{Piece, element_node, text_node, comment_node, component, branch, item_region, position, too_deep, Forest, no_pieces, piece}
 use Rattle.gl_plain.specs.Ids.{Id, ref, node, instance_id, modifier_id}
-use Rattle.gl_plain.specs.State.{Names}
+use Rattle.gl_plain.specs.State.{Names, Inst}
 use Rattle.gl_plain.specs.Live.{AttrSpot, ModSpot, Live, still, put_live, element_live, branch_live, listed, unlisted, let_live, component_live, yield_live, deep_live, Items, no_items, item_live, Lives, no_lives, live_and}
 
 -- what may stand at a path
@@ -43,17 +43,25 @@ abbrev pub mod_rows : Path → ℕ → List ModSpot → List Row
 mod_rows p i [] = []
 mod_rows p i (z ∷ zs) = row_of a_modifier (modifier_at i ∷ p) (modifier_id z.id) ∷ mod_rows p (suc i) zs
 
+-- of an element's tag, and the element's node last
+abbrev pub tag_rows : Path → ℕ → List AttrSpot → List ModSpot → List Row
+tag_rows p n xs zs = attr_rows p xs ++ (mod_spot_rows p 0 zs ++ (mod_rows p 0 zs ++ row_of a_node p (node n) ∷ []))
+
+abbrev pub instance_rows : Inst → List Row
+instance_rows i = record { role = an_instance; path = i.path; id = instance_id i.id; cells = i.cells } ∷ []
+
 -- The path of a part is that of its statement. An element's positions and modifiers come before its node.
 abbrev mutual
   pub rows : Path → Live → List Row
   rows p (still n) = row_of a_node p (node n) ∷ []
   rows p (put_live n z) = row_of a_position p (ref z.ref) ∷ row_of a_node p (node n) ∷ []
-  rows p (element_live n made xs zs ls) = attr_rows p xs ++ (mod_spot_rows p 0 zs ++ (mod_rows p 0 zs ++ (row_of a_node p (node n) ∷ rows_in p 0 ls)))
-  rows p (branch_live z u k ls) = let q = (if u then main else otherwise) ∷ p in row_of a_position p (ref z.ref) ∷ (rows_in q 0 ls ++ comment_rows q k)
+  rows p (element_live n made xs zs ls) = tag_rows p n xs zs ++ rows_in p 0 ls
+  rows p (branch_live z true k ls) = row_of a_position p (ref z.ref) ∷ (rows_in (main ∷ p) 0 ls ++ comment_rows (main ∷ p) k)
+  rows p (branch_live z false k ls) = row_of a_position p (ref z.ref) ∷ (rows_in (otherwise ∷ p) 0 ls ++ comment_rows (otherwise ∷ p) k)
   rows p (listed z is) = row_of a_position p (ref z.ref) ∷ rows_items (items ∷ p) is
   rows p (unlisted z k ls) = row_of a_position p (ref z.ref) ∷ (rows_in (otherwise ∷ p) 0 ls ++ comment_rows (otherwise ∷ p) k)
   rows p (let_live made rs ls) = rows_in (main ∷ p) 0 ls
-  rows p (component_live i made gm args k ls) = record { role = an_instance; path = i.path; id = instance_id i.id; cells = i.cells } ∷ rows_in i.path 0 ls
+  rows p (component_live i made gm args k ls) = instance_rows i ++ rows_in i.path 0 ls
   rows p (yield_live n made rs ls) = rows_in (slot n ∷ p) 0 ls
   rows p (deep_live q) = []
 
@@ -61,7 +69,7 @@ abbrev mutual
   rows_items p no_items = []
   rows_items p (item_live z k ls is) =
       let q = item z.key z.occurrence ∷ p in
-      row_of a_value q (ref z.value) ∷ (row_of an_index q (ref z.index) ∷ ((rows_in q 0 ls ++ comment_rows q k) ++ rows_items p is))
+      (row_of a_value q (ref z.value) ∷ (row_of an_index q (ref z.index) ∷ (rows_in q 0 ls ++ comment_rows q k))) ++ rows_items p is
 
   pub rows_in : Path → ℕ → Lives → List Row
   rows_in p i no_lives = []
