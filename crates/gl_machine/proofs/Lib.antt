@@ -6,3 +6,4 @@ pub mod PageRenews
 pub mod Nests
 pub mod Sits
 pub mod RowsOf
+pub mod ByPath

@@ -217,6 +217,17 @@ module _ (q : Id) where
     rows_in_ids p i (Live.live_and l ls) s =
         let e = ids_append (rows (at i ∷ p) l) (rows_in p (suc i) ls) in let a = rows_ids (at i ∷ p) l s.0 in let b = rows_in_ids p (suc i) ls s.1 in omega (arith, e, a, b)
 
+-- the ids of an arm, of items and of one item
+pub ids_arm : (q : Id) (p : Path) (k : Option ℕ) (ls : Lives) → SitsIn p 0 ls → occurs q (row_ids (arm_rows p k ls)) ≤ times_in q ls + times_comment q k
+ids_arm q p k ls s = arm_ids q p k ls (rows_in_ids q p 0 ls s)
+
+pub ids_items : (q : Id) (p : Path) (is : Items) → SitsItems p is → occurs q (row_ids (rows_items p is)) ≤ times_items q is
+ids_items q p is s = rows_items_ids q p is s
+
+pub ids_item : (q : Id) (p : Path) (z : ItemSpot) (k : Option ℕ) (ls : Lives) → SitsIn (item_step z ∷ p) 0 ls
+    → occurs q (row_ids (item_rows p z k ls)) ≤ occurs q (item_made z) + (times_in q ls + times_comment q k)
+ids_item q p z k ls s = let j = ids_arm q (item_step z ∷ p) k ls s in omega (arith, j)
+
 -- a row's id is counted
 pub among_ids : (x : Row) (xs : List Row) → Among x xs → 0 < occurs x.id (row_ids xs)
 among_ids x [] m = absurd m

@@ -30,11 +30,11 @@ abbrev pub ModsOwn : List ModSpot → Type 0
 ModsOwn [] = Unit {0}
 ModsOwn (z ∷ zs) = Own z.spot × ModsOwn zs
 
-abbrev item_key : PathStep → t.Plain
+abbrev pub item_key : PathStep → t.Plain
 item_key (item k n) = k
 item_key _ = undefined
 
-abbrev item_number : PathStep → ℕ
+abbrev pub item_number : PathStep → ℕ
 item_number (item k n) = n
 item_number _ = 0
 
