@@ -7,3 +7,4 @@ pub mod Nests
 pub mod Sits
 pub mod RowsOf
 pub mod ByPath
+pub mod NestShown
