@@ -16,5 +16,14 @@ pub mod Layers
 pub mod Right
 pub mod Fitting
 pub mod Lowered
+pub mod SyncsCode
+pub mod ItemsCode
+pub mod RenewsCode
+pub mod PageRenews
 pub mod Root
 pub mod Pages
+pub mod Nests
+pub mod Sits
+pub mod RowsOf
+pub mod ByPath
+pub mod NestShown

@@ -9,4 +9,7 @@ pub mod Mach
 pub mod Step
 pub mod Root
 pub mod Shape
+pub mod Rows
+pub mod Gone
+pub mod UpdateLaws
 pub mod Laws
