@@ -1,11 +1,10 @@
 -- In a template that some bytes spell each parameter has a symbol, and an `each` has two at most.
-use Rattle.std.proofs.Common.{◌≡◌, ◌≤◌, ℕ, zero, suc, List, [], ◌∷◌, ◌++◌, length, Bool, true, false, ◌&&◌, refl, sym, ◌∙◌, ap, subst, arith}
+use Rattle.std.proofs.Common.{◌≡◌, ℕ, zero, suc, List, [], ◌∷◌, ◌++◌, length, Bool, true, ◌&&◌, refl, ◌∙◌, ap, arith}
 use Rattle.std.specs.Prelude.{nat_le}
 use Rattle.std.proofs.Math.Bool.{Bool-set}
 use Rattle.std.proofs.Math.Logic.{∥∥₁_elim}
 use Rattle.std.proofs.lemmas.Bool.{le-leb, leb-true}
 use Rattle.gl_base.specs.Texts.{Text}
-use Rattle.gl_base.specs.Names.{has_text}
 use Rattle.gl_ast.specs.Grammar.{deepest_nesting, IsTemplate}
 use Rattle.gl_ast.specs.Template.{Stmt, text_stmt, comment_stmt, put, element, component_stmt, if_stmt, each, let_stmt, yield, Body, end, stmt, Slots, no_slots, block}
 use Rattle.gl_show.specs.Spellable.{CanStmt, CanBody, CanSlots}
@@ -89,9 +88,11 @@ module _ (symbols : List Text) where
         let (f0, f12) = both_true (nat_le (length ns) 2) (few_in b && few_in c) f in
         let (f1, f2) = both_true (few_in b) (few_in c) f12 in
         let with_names = back_among symbols (expr_mentions [] e) (ns ++ (body_mentions b ++ body_mentions c)) a in
-        let rest = back_among symbols ns (body_mentions b ++ body_mentions c) with_names in
-        (two ns f0 (front_among symbols ns (body_mentions b ++ body_mentions c) with_names),
-         fits_in b f1 (front_among symbols (body_mentions b) (body_mentions c) rest), fits_in c f2 (back_among symbols (body_mentions b) (body_mentions c) rest))
+        let rest = back_among symbols ns (body_mentions b ++ body_mentions c) with_names in (
+          two ns f0 (front_among symbols ns (body_mentions b ++ body_mentions c) with_names),
+          fits_in b f1 (front_among symbols (body_mentions b) (body_mentions c) rest),
+          fits_in c f2 (back_among symbols (body_mentions b) (body_mentions c) rest),
+        )
     fits (let_stmt es ns b) f a =
         let with_names = back_among symbols (exprs_mentions [] es) (ns ++ body_mentions b) a in
         (front_among symbols ns (body_mentions b) with_names, fits_in b f (back_among symbols ns (body_mentions b) with_names))
@@ -107,9 +108,11 @@ module _ (symbols : List Text) where
     fits_of no_slots f a = record {}
     fits_of (block n ns b ss) f a =
         let (f1, f2) = both_true (few_in b) (few_of ss) f in
-        let rest = back_among symbols ns (body_mentions b ++ slots_mentions ss) a in
-        (front_among symbols ns (body_mentions b ++ slots_mentions ss) a, fits_in b f1 (front_among symbols (body_mentions b) (slots_mentions ss) rest),
-         fits_of ss f2 (back_among symbols (body_mentions b) (slots_mentions ss) rest))
+        let rest = back_among symbols ns (body_mentions b ++ slots_mentions ss) a in (
+          front_among symbols ns (body_mentions b ++ slots_mentions ss) a,
+          fits_in b f1 (front_among symbols (body_mentions b) (slots_mentions ss) rest),
+          fits_of ss f2 (back_among symbols (body_mentions b) (slots_mentions ss) rest),
+        )
 
 pub template_fits : (b : Body) → IsTemplate b → HasParamsIn (symbols_of b) b
 template_fits b h = fits_in (symbols_of b) b (template_few b h) (once_among (body_mentions b))

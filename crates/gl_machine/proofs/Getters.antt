@@ -1,28 +1,25 @@
 -- The words of an expression of a template push the reference that stands for it. A getter's program is run in a frame of its own.
-use Rattle.std.proofs.Common.{◌≡◌, ℕ, zero, suc, List, [], ◌∷◌, ◌++◌, map, length, Bool, true, false, Option, Some, None, refl, sym, ◌∙◌, ap, subst}
+use Rattle.std.proofs.Common.{◌≡◌, ℕ, zero, suc, List, [], ◌∷◌, ◌++◌, map, length, Bool, false, Option, Some, None, refl}
 use Rattle.std.specs.Prelude.{slice_get}
 use Rattle.std.proofs.lemmas.Bool.{both_ways}
 use Rattle.gl_base.specs.Texts.{Text}
-use Rattle.gl_base.specs.Names.{named, has_text}
 use Rattle.gl_value.specs.Value as va
 use Rattle.gl_ast.specs.Template as t
 use Rattle.gl_ast.specs.Template.{Plain, Expr, Exprs, NamedExprs}
 use Rattle.gl_ops.specs.declared.op.Op.TheVariants as op
-use Rattle.gl_meaning.specs.App.{Class}
-use Rattle.gl_meaning.specs.Path.{Path}
 use Rattle.gl_meaning.specs.Eval.{Store, class_at}
-use Rattle.gl_meaning.specs.Known.{mentions, Among, Acyclic}
+use Rattle.gl_meaning.specs.Known.{mentions, Among}
 use Rattle.gl_wire.specs.Symbols.{expr_symbols_of}
 use Rattle.gl_opc.specs.Lowers.{LowersExpr}
 use Rattle.gl_opc.specs.Spans.{LiteralAt, ExprAt, ExprsAt, NamedAt}
 use Rattle.gl_plain.specs.Ids.{Id}
 use Rattle.gl_plain.specs.State.{constant_form, Names, Inst, MScope, mscope, MPassed, mnothing, own, State}
 use Rattle.gl_plain.specs.Binding.{Bound, new_ref, bind_deep, getters_in, bind_expr, bind_exprs, bind_pairs}
-use Rattle.gl_machine.specs.Sight.{sight, Passing, not_passed}
+use Rattle.gl_machine.specs.Sight.{Passing, not_passed}
 use Rattle.gl_machine.specs.Params.{Known}
 use Rattle.gl_machine.specs.Env.{Env, class_no, getter_no, program_no, symbols_at, texts_of, seen}
 use Rattle.gl_machine.specs.Placed.{IsOf}
-use Rattle.gl_machine.specs.Mach.{Pushed, Here, Back, Making, Kind, in_getter, Frame, Rest, mach, go}
+use Rattle.gl_machine.specs.Mach.{Pushed, Here, Back, Making, in_getter, Frame, Rest, mach, go}
 use Rattle.gl_machine.specs.Step.{do_getter, Comes}
 use Rattle.gl_machine.proofs.Sound.{Sound}
 use Rattle.gl_machine.proofs.Runs.{on, at_op}
@@ -64,10 +61,10 @@ module _ (env : Env) (store : Store) (sound : Sound env) (c : ℕ) (i : Inst) (a
       let fs' = fs ++ frame ∷ [] in
       on env store
       (expr_pushes env store (bind_deep n env.app mine) (Some q) inner c i a [] mnothing not_passed (known_none inner) is pending h k left fs' st stk made false 0 e last
-        (λ x m. good x m (Some q) inner [] mnothing not_passed (known_none inner) pending h k left fs') at)
+      (λ x m. good x m (Some q) inner [] mnothing not_passed (known_none inner) pending h k left fs') at)
       (at_op env store b.state (pushed stk b.id) (made ++ b.made) last (within (Some q) inner c i a [] not_passed pending h k left fs') op.Done (length (getter_no env c q).words) at_done
-        (λ m. go b.state (pushed stk b.id) (made ++ b.made) (suc pc) rest)
-        (rw (popped-last fs frame) refl))
+      (λ m. go b.state (pushed stk b.id) (made ++ b.made) (suc pc) rest)
+      (rw (popped-last fs frame) refl))
 
   lowered : (q : ℕ) (y : Text × Expr) → slice_get (class_no env c).getters q ≡ Some y → LowersExpr (getter_no env c q) y.1 [] env.manifest (class_no env c)
   lowered q y there = sound.getters c q y there
@@ -78,7 +75,7 @@ module _ (env : Env) (store : Store) (sound : Sound env) (c : ℕ) (i : Inst) (a
   getter_goes (suc n) e q settled low =
       in_frame (suc n) e q low
       (λ x m g symbols l v w known pending h k left fs q' y there found st stk made pc.
-        getter_goes n y.1 q' (settled x y.1 m found) (lowered q' y there) g symbols l w pending h k left fs st stk made pc)
+      getter_goes n y.1 q' (settled x y.1 m found) (lowered q' y there) g symbols l w pending h k left fs st stk made pc)
 
   all_good : (n : ℕ) (e : Expr) → Settles gs n e → (x : Text) → Among x (mentions e) → Good n x
   all_good zero e settled x m g symbols l v w known pending h k left fs q y there found = absurd (settled x y.1 m found)
@@ -94,8 +91,8 @@ room env c i a l v w pending h k left fs =
     record { getter = None; sight = seen env c (mscope i a l v) w; pending = pending; here = h; making = k; left = left; frames = fs }
 
 module _ (env : Env) (store : Store) (sound : Sound env)
-  (c : ℕ) (i : Inst) (a l : Names) (v : MPassed) (w : Passing) (known : Known (symbols_at env c) (texts_of l)) (is : IsOf env c i)
-  (pending : List ℕ) (h : Here) (k : Making) (left : ℕ) (fs : List Frame) where
+    (c : ℕ) (i : Inst) (a l : Names) (v : MPassed) (w : Passing) (known : Known (symbols_at env c) (texts_of l)) (is : IsOf env c i)
+    (pending : List ℕ) (h : Here) (k : Making) (left : ℕ) (fs : List Frame) where
   abbrev rest : Rest
   rest = room env c i a l v w pending h k left fs
 

@@ -3,12 +3,10 @@ use Rattle.std.proofs.Common.{◌≡◌, ℕ, zero, suc, List, [], ◌∷◌, ma
 use Rattle.std.specs.Prelude.{◌⊎◌, slice_get}
 use Rattle.std.specs.Str.{bytes_eq}
 use Rattle.gl_base.specs.Texts.{Text}
-use Rattle.gl_base.specs.Names.{named}
 use Rattle.gl_ast.specs.Grammar.{IsTemplate}
 use Rattle.gl_ast.specs.Template.{Expr, Body}
 use Rattle.gl_meaning.specs.App.{Class, App}
 use Rattle.gl_meaning.specs.Path.{Path, into}
-use Rattle.gl_meaning.specs.Path as pt
 use Rattle.gl_meaning.specs.Eval.{no_class, class_named, class_at}
 use Rattle.gl_meaning.specs.Known.{Among, Leads, mention, onward, Acyclic, HasNoCycle}
 use Rattle.gl_meaning.specs.Manifest.{Manifest, ClassEntry, class_of, classes_of, app_of}
@@ -23,7 +21,7 @@ use Rattle.gl_opc.specs.IsApp.{IsAppWith}
 use Rattle.gl_machine.specs.Params.{HasParamsIn}
 use Rattle.gl_machine.specs.Env.{Env, class_or, class_no, programs_or, program_or, program_no, getter_no}
 use Rattle.gl_machine.specs.Laws.{AllLowered}
-use Rattle.gl_machine.proofs.Numbered.{some_is, none_some, Numbered, at_front, further, numbered}
+use Rattle.gl_machine.proofs.Numbered.{some_is, none_some, at_front, further, numbered}
 use Rattle.gl_machine.proofs.Fitting.{template_fits}
 use Rattle.gl_machine.proofs.Sound.{LoweredAs, Sound}
 
@@ -56,15 +54,25 @@ named_at : (m : Manifest) (cs : List ClassEntry) (bs : List Body) (ps : List Cla
 named_at m [] [] [] low n q number = absurd (none_some q number)
 named_at m (c ∷ cs) (b ∷ bs) (p ∷ ps) low n q number =
     elim (numbered c.name (map (λ c. c.name) cs) n q number) [
-      | at_front same t is ↦
-        (record { entry = c; template = b; program = p; of_class = ap (slice_get (c ∷ cs)) is; of_template = ap (slice_get (b ∷ bs)) is; of_program = ap (slice_get (p ∷ ps)) is; lowers = low.0 },
-          sym same, ap (λ t. cond t (class_of c b) (class_named n (classes_of cs bs))) t)
+      | at_front same t is ↦ (
+        record { entry = c; template = b; program = p; of_class = ap (slice_get (c ∷ cs)) is; of_template = ap (slice_get (b ∷ bs)) is; of_program = ap (slice_get (p ∷ ps)) is; lowers = low.0 },
+        sym same,
+        ap (λ t. cond t (class_of c b) (class_named n (classes_of cs bs))) t,
+      )
       | further g t there is ↦
-        let (x, called, found) = named_at m cs bs ps low.1 n g there in
-        (record {
-            entry = x.entry; template = x.template; program = x.program;
-            of_class = ap (slice_get (c ∷ cs)) is ∙ x.of_class; of_template = ap (slice_get (b ∷ bs)) is ∙ x.of_template; of_program = ap (slice_get (p ∷ ps)) is ∙ x.of_program; lowers = x.lowers;
-          }, called, ap (λ t. cond t (class_of c b) (class_named n (classes_of cs bs))) t ∙ found)
+          let (x, called, found) = named_at m cs bs ps low.1 n g there in (
+            record {
+              entry = x.entry;
+              template = x.template;
+              program = x.program;
+              of_class = ap (slice_get (c ∷ cs)) is ∙ x.of_class;
+              of_template = ap (slice_get (b ∷ bs)) is ∙ x.of_template;
+              of_program = ap (slice_get (p ∷ ps)) is ∙ x.of_program;
+              lowers = x.lowers;
+            },
+            called,
+            ap (λ t. cond t (class_of c b) (class_named n (classes_of cs bs))) t ∙ found,
+          )
     ]
 named_at m [] [] (p ∷ ps) low n q number = absurd low
 named_at m [] (b ∷ bs) ps low n q number = absurd low
@@ -106,7 +114,7 @@ named_among n (c ∷ cs) = by_test (bytes_eq n c.name) (named_among n cs)
     by_test false (inr m) = inr (inr m)
 
 calm_named : (app : App) → HasNoCycle app → (n : Text) → Acyclic (class_named n app.classes)
-calm_named app none n = elim (named_among n app.classes) [ | inl e ↦ subst Acyclic (sym e) (λ g l. leads_nowhere g g l) | inr m ↦ none (class_named n app.classes) m ]
+calm_named app none n = elim (named_among n app.classes) [ inl e ↦ subst Acyclic (sym e) (λ g l. leads_nowhere g g l) | inr m ↦ none (class_named n app.classes) m ]
 
 calm_at : (app : App) → HasNoCycle app → (p : Path) → Acyclic (class_at app p)
 calm_at app none [] = calm_named app none app.root
@@ -125,8 +133,8 @@ module _ (env : Env) (templates : List Body) (is : env.app ≡ app_of env.manife
         name = ap (λ e. e.name) entry ∙ called;
         class = class ∙ (ap (λ e. class_of e x.template) (sym entry) ∙ ap (class_of (class_no env q)) (sym template));
         lowered =
-          subst (λ p. Lowers p (class_named n env.app.classes).template env.manifest (class_no env q)) (sym program)
-          (subst (λ t. Lowers x.program.template t env.manifest (class_no env q)) (sym template)
+            subst (λ p. Lowers p (class_named n env.app.classes).template env.manifest (class_no env q)) (sym program)
+            (subst (λ t. Lowers x.program.template t env.manifest (class_no env q)) (sym template)
             (subst (λ e. Lowers x.program.template x.template env.manifest e) (sym entry) x.lowers.0));
         params = subst (λ t. HasParamsIn (symbols_of t) t) (sym template) (template_fits x.template (each_at templates app.0 q x.template x.of_template));
       }

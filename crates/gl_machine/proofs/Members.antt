@@ -1,5 +1,5 @@
 -- What a member of `this` is, by the opcode that it has.
-use Rattle.std.proofs.Common.{◌≡◌, ℕ, List, Option, Some, None, refl, sym, ◌∙◌, ap, subst}
+use Rattle.std.proofs.Common.{◌≡◌, ℕ, Option, Some, None, refl, sym, ◌∙◌, ap, subst}
 use Rattle.std.specs.Prelude.{slice_get, option_map, unwrap_or}
 use Rattle.gl_base.specs.Texts.{Text}
 use Rattle.gl_base.specs.Names.{named, or_else}
@@ -10,7 +10,7 @@ use Rattle.gl_meaning.specs.App.{Action, Class}
 use Rattle.gl_meaning.specs.Eval.{class_at, field_member, getter_member, action_member, field_or, getter_or_action, member_of}
 use Rattle.gl_meaning.specs.Manifest.{ClassEntry, class_of}
 use Rattle.gl_opc.specs.Numbers.{number_in, keys, member_op}
-use Rattle.gl_plain.specs.State.{Names, Inst, cell_ref}
+use Rattle.gl_plain.specs.State.{Inst, cell_ref}
 use Rattle.gl_machine.specs.Env.{Env, class_no}
 use Rattle.gl_machine.specs.Placed.{IsOf}
 use Rattle.gl_machine.proofs.Numbered.{some_is, none_some, row_at, row_none}

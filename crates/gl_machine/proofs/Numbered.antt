@@ -1,5 +1,5 @@
 -- Rows by the numbers of their names.
-use Rattle.std.proofs.Common.{◌≡◌, ℕ, zero, suc, ◌+◌, List, [], ◌∷◌, map, length, Bool, true, false, not, cond, Option, Some, None, refl, sym, ◌∙◌, ap, subst, arith}
+use Rattle.std.proofs.Common.{◌≡◌, ℕ, suc, ◌+◌, List, [], ◌∷◌, length, Bool, true, false, not, cond, Option, Some, None, refl, sym, ◌∙◌, ap, arith}
 use Rattle.std.specs.Prelude.{slice_get, option_map, nat_lt}
 use Rattle.std.specs.List.{prefix_len}
 use Rattle.std.specs.Str.{bytes_eq}
@@ -85,7 +85,7 @@ row_at (x ∷ xs) n f e =
     elim (numbered x.0 (keys xs) n f e) [
       | at_front same t is ↦ (x, ap (slice_get (x ∷ xs)) is, sym same, ap (λ b. cond b (Some x.1) (named n xs)) t)
       | further g t there is ↦
-        let (y, got, same, found) = row_at xs n g there in (y, ap (slice_get (x ∷ xs)) is ∙ got, same, ap (λ b. cond b (Some x.1) (named n xs)) t ∙ found)
+          let (y, got, same, found) = row_at xs n g there in (y, ap (slice_get (x ∷ xs)) is ∙ got, same, ap (λ b. cond b (Some x.1) (named n xs)) t ∙ found)
     ]
 
 pub row_none : {A : Type 0} (xs : List (Text × A)) (n : Text) → number_in (keys xs) n ≡ None → named n xs ≡ None

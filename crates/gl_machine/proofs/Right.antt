@@ -1,24 +1,19 @@
 -- The machine, run from a recorded address for so many steps, appends what the tree says, where it ends.
-use Rattle.std.proofs.Common.{◌≡◌, ℕ, zero, suc, List, [], ◌∷◌, Bool, true, false, Option, Some, None, refl, sym, ◌∙◌, ap, subst}
-use Rattle.gl_base.specs.Texts.{Text}
-use Rattle.gl_ast.specs.Template.{Body}
+use Rattle.std.proofs.Common.{◌≡◌, ℕ, zero, suc, [], false, refl, sym, ap, subst}
 use Rattle.gl_program.specs.Program.{Stands}
 use Rattle.gl_ops.specs.declared.op.Op.{Op}
 use Rattle.gl_ops.specs.declared.op.Op.TheVariants as op
-use Rattle.gl_meaning.specs.Path.{Path}
 use Rattle.gl_meaning.specs.Eval.{Store}
-use Rattle.gl_plain.specs.State.{Names, Inst, MScope, mscope, MPassed, State}
+use Rattle.gl_plain.specs.State.{Names, Inst, mscope, MPassed, State}
 use Rattle.gl_plain.specs.Live.{Lives, are_deep}
 use Rattle.gl_plain.specs.Grow.{grow_body, grow_yields, grow_components}
-use Rattle.gl_plain.specs.Renew.{fresh_body}
 use Rattle.gl_machine.specs.Sight.{Passing}
 use Rattle.gl_machine.specs.Code.{Codes, lives_of}
-use Rattle.gl_machine.specs.Outcome.{Outcome, ok, deep, lost}
-use Rattle.gl_machine.specs.RenewCode.{start}
-use Rattle.gl_machine.specs.Env.{Env, program_no, texts_of, seen}
-use Rattle.gl_machine.specs.Placed.{Closes, BodyThere, Fits, PlacedIn, FollowsIn, RunsRight}
+use Rattle.gl_machine.specs.Outcome.{Outcome, ok, lost}
+use Rattle.gl_machine.specs.Env.{Env, program_no}
+use Rattle.gl_machine.specs.Placed.{Closes, PlacedIn, FollowsIn, RunsRight}
 use Rattle.gl_machine.specs.Mach.{Here, idle, Mach, Run, going, finished, too_deep, stuck, mach, go, fresh}
-use Rattle.gl_machine.specs.Step.{do_op, step_run, Comes, here, more, after, begun, outcome, run_for}
+use Rattle.gl_machine.specs.Step.{step_run, Comes, here, after, outcome, run_for}
 use Rattle.gl_machine.proofs.Runs.{adds, closed_codes, on, onward, at_op, one_end, Goes, stops, ends}
 use Rattle.gl_machine.proofs.Sound.{Sound}
 use Rattle.gl_machine.proofs.Getters.{room}
@@ -70,7 +65,9 @@ module _ (env : Env) (store : Store) (sound : Sound env) (n : ℕ) where
       (grow_body env.app components (grow_yields env.app components v) (mscope i a l v) p 0 b st)
       (λ r. go r.1 [] [] last (room env c i a l v w [] (adds r.0 (fresh p)) idle m [])) n
       (body_goes env store sound c i a v w fits.is fits.passes (spreads_go env store sound v w fits.passes) m components (grow_yields env.app components v) invokes yields
-        l fits.known [] st [] (fresh p) [] (λ m r. refl) from b last at_body fit)
-      (λ x. (mach x.1 [] [] last (room env c i a l v w [] (adds x.0 (fresh p)) idle m []),
+      l fits.known [] st [] (fresh p) [] (λ m r. refl) from b last at_body fit)
+      (λ x. (
+        mach x.1 [] [] last (room env c i a l v w [] (adds x.0 (fresh p)) idle m []),
         at_close env store c i a l v w (adds x.0 (fresh p)) m last next x.1 o at_end closes,
-        ap (λ k. ok (k, x.1)) (closed_codes x.0 (fresh p) refl)))
+        ap (λ k. ok (k, x.1)) (closed_codes x.0 (fresh p) refl),
+      ))

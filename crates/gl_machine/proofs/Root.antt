@@ -1,7 +1,7 @@
 -- The whole page is appended.
-use Rattle.std.proofs.Common.{◌≡◌, ℕ, zero, suc, List, [], ◌∷◌, ◌++◌, Option, Some, None, refl, sym, ◌∙◌, ap, subst}
+use Rattle.std.proofs.Common.{◌≡◌, ℕ, zero, suc, [], ◌∷◌, ◌++◌, Some, None, refl, sym, ◌∙◌, ap, subst}
 use Rattle.gl_ops.specs.declared.op.Op.TheVariants as op
-use Rattle.gl_meaning.specs.Eval.{Store, class_at, class_named}
+use Rattle.gl_meaning.specs.Eval.{Store, class_named}
 use Rattle.gl_wire.specs.Symbols.{symbols_of}
 use Rattle.gl_opc.specs.Numbers.{class_number, keys}
 use Rattle.gl_opc.specs.Spans.{BodyAt}
@@ -40,15 +40,21 @@ module _ (env : Env) (store : Store) (run : Runs) (runs : RunsRight env store ru
       let is : IsOf env q i = record { cells = cells_named env store [] fs st ∙ ap keys same_fields; class = low.class } in
       let fits : Fits env q ms not_passed = record { known = known_none (symbols_at env q); is = is; passes = refl } in
       let (last, at_body, at_done) = low.lowered in
-      let there : BodyThere env q [] 0 t =
-        (last, _, op.Done, subst (λ y. BodyAt (program_no env q) env.manifest (class_no env q) (symbols_of (class_named y env.app.classes).template) [] 0 t last) (sym low.name) at_body, at_done, record {},
-         subst (λ y. HasParamsIn (symbols_of (class_named y env.app.classes).template) t) (sym low.name) low.params) in
+      let there : BodyThere env q [] 0 t = (
+        last,
+        _,
+        op.Done,
+        subst (λ y. BodyAt (program_no env q) env.manifest (class_no env q) (symbols_of (class_named y env.app.classes).template) [] 0 t last) (sym low.name) at_body,
+        at_done,
+        record {},
+        subst (λ y. HasParamsIn (symbols_of (class_named y env.app.classes).template) t) (sym low.name) low.params,
+      ) in
       subst (λ fs'. Follows (PlacedRoot env) live_of is_deep
-        (let c' = grow_cells env.app store [] fs' st in
-          let i' : Inst = record { id = c'.state.next an_instance; path = []; cells = c'.names } in
-          on_ok (run (start (sight q i' [] [] not_passed) 0 [] m) (make an_instance (instance_row i') c'.state))
-          (λ r. ok (component_code i' (instance_id i'.id ∷ ([] ++ c'.made)) [] [] None r.0, r.1))) z) same_fields
+      (let c' = grow_cells env.app store [] fs' st in
+      let i' : Inst = record { id = c'.state.next an_instance; path = []; cells = c'.names } in
+      on_ok (run (start (sight q i' [] [] not_passed) 0 [] m) (make an_instance (instance_row i') c'.state))
+      (λ r. ok (component_code i' (instance_id i'.id ∷ ([] ++ c'.made)) [] [] None r.0, r.1))) z) same_fields
       (follow_on (PlacedIn env q ms not_passed [] 0 t) lives_of are_deep (PlacedRoot env) live_of is_deep
-        (run (start (sight q i [] [] not_passed) 0 [] m) st1) (fresh_body env.app store m ms [] t st1)
-        (λ r. ok (component_code i (instance_id i.id ∷ ([] ++ c.made)) [] [] None r.0, r.1)) (λ r. (component_live i (instance_id i.id ∷ ([] ++ c.made)) [] [] None r.0, r.1))
-        (runs q ms not_passed fits 0 t there [] m st1) (λ r d. d) (λ r fine placed. (refl, fine, (q, placed))))
+      (run (start (sight q i [] [] not_passed) 0 [] m) st1) (fresh_body env.app store m ms [] t st1)
+      (λ r. ok (component_code i (instance_id i.id ∷ ([] ++ c.made)) [] [] None r.0, r.1)) (λ r. (component_live i (instance_id i.id ∷ ([] ++ c.made)) [] [] None r.0, r.1))
+      (runs q ms not_passed fits 0 t there [] m st1) (λ r d. d) (λ r fine placed. (refl, fine, (q, placed))))

@@ -1,13 +1,13 @@
 -- Steps one after another, and runs of what may be too deep.
-use Rattle.std.proofs.Common.{◌≡◌, ℕ, zero, suc, List, [], ◌∷◌, ◌++◌, Bool, true, false, Option, Some, None, refl, sym, ◌∙◌, ap, subst}
-use Rattle.gl_program.specs.Program.{Program, op_at, Stands}
+use Rattle.std.proofs.Common.{◌≡◌, ℕ, suc, List, [], ◌∷◌, ◌++◌, Bool, true, false, refl, sym, ◌∙◌, ap, subst}
+use Rattle.gl_program.specs.Program.{Stands}
 use Rattle.gl_ops.specs.declared.op.Op.{Op}
 use Rattle.gl_meaning.specs.Eval.{Store}
 use Rattle.gl_plain.specs.Ids.{Id}
 use Rattle.gl_plain.specs.State.{State}
 use Rattle.gl_machine.specs.Code.{Code, Codes, no_codes, code_and}
 use Rattle.gl_machine.specs.Env.{Env}
-use Rattle.gl_machine.specs.Mach.{Pushed, Here, Rest, Mach, Run, going, finished, too_deep, stuck, go, mach, added, all_of}
+use Rattle.gl_machine.specs.Mach.{Pushed, Here, Rest, Run, too_deep, go, mach, added, all_of}
 use Rattle.gl_machine.specs.Step.{given, program_of, do_op, step_run, Comes, here, more}
 
 -- what a body rendered is added
@@ -55,7 +55,7 @@ module _ (env : Env) (store : Store) where
       → (f : ℕ → Run) → Comes env store (do_op env store (mach st stk made from rest) op) (f (suc from)) → Comes env store (go st stk made from rest) (f next)
   at_onto st stk made from rest op next at f p =
       more (subst (λ o. Comes env store (given o (do_op env store (mach st stk made from rest))) (f next)) (sym at.0)
-        (subst (λ n. Comes env store (do_op env store (mach st stk made from rest) op) (f n)) at.1 p))
+      (subst (λ n. Comes env store (do_op env store (mach st stk made from rest) op) (f n)) at.1 p))
 
   stays : {a c : Run} → Comes env store a c → step_run env store a ≡ a → c ≡ a
   stays here e = refl
@@ -93,4 +93,4 @@ module _ (env : Env) (store : Store) where
   starts P f d st stk made from rest op next at z e g =
       subst (λ n. Goes P f d (go st stk made from rest) z (e n)) at.1
       (first P f d (go st stk made from rest) (do_op env store (mach st stk made from rest) op) z (e (suc from))
-        (more (subst (λ o. Comes env store (given o (do_op env store (mach st stk made from rest))) (do_op env store (mach st stk made from rest) op)) (sym at.0) here)) g)
+      (more (subst (λ o. Comes env store (given o (do_op env store (mach st stk made from rest))) (do_op env store (mach st stk made from rest) op)) (sym at.0) here)) g)

@@ -1,5 +1,5 @@
 -- What is known of the programs of an application, class by class.
-use Rattle.std.proofs.Common.{◌≡◌, ℕ, [], Option, Some, None}
+use Rattle.std.proofs.Common.{◌≡◌, ℕ, [], Some}
 use Rattle.std.specs.Prelude.{slice_get}
 use Rattle.gl_base.specs.Texts.{Text}
 use Rattle.gl_ast.specs.Template.{Expr}

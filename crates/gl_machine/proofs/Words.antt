@@ -1,6 +1,6 @@
 -- The words of an expression push the reference that stands for it, where those of the getters that it mentions do.
-use Rattle.std.proofs.Common.{◌≡◌, ℕ, zero, suc, ◌+◌, List, [], ◌∷◌, ◌++◌, map, length, Bool, true, false, Option, Some, None, refl, sym, ◌∙◌, ap, subst, inl, inr, append_assoc}
-use Rattle.std.specs.Prelude.{◌⊎◌, slice_get}
+use Rattle.std.proofs.Common.{◌≡◌, ℕ, suc, List, [], ◌∷◌, ◌++◌, map, length, Bool, true, false, Option, Some, None, refl, sym, ◌∙◌, ap, subst, inl, inr, append_assoc}
+use Rattle.std.specs.Prelude.{slice_get}
 use Rattle.std.proofs.lemmas.List.{length-append, length-map, append-nil}
 use Rattle.gl_base.specs.Texts.{Text}
 use Rattle.gl_base.specs.Names.{last_named, named, has_text}
@@ -14,16 +14,15 @@ use Rattle.gl_meaning.specs.Eval.{Store, class_at, member_of}
 use Rattle.gl_meaning.specs.Known.{mentions, all_mentions, named_mentions, Among}
 use Rattle.gl_meaning.specs.Manifest.{ClassEntry}
 use Rattle.gl_wire.specs.Symbols.{place_of}
-use Rattle.gl_opc.specs.Numbers.{member_op}
 use Rattle.gl_opc.specs.Spans.{LiteralAt, SegmentsAt, PathAt, HelperAt, NameAt, ExprAt, ExprsAt, NamedAt, count_exprs, count_named, count_both}
 use Rattle.gl_plain.specs.Ids.{a_ref, Id, ref}
-use Rattle.gl_plain.specs.State.{Form, constant_form, property_form, call_form, joined_form, Names, Inst, MScope, mscope, MPassed, cell_ref, State}
+use Rattle.gl_plain.specs.State.{Form, constant_form, property_form, call_form, joined_form, Names, Inst, MScope, mscope, MPassed, State}
 use Rattle.gl_plain.specs.Binding.{Bound, made_row, old_ref, new_ref, after_made, bind_along, bind_found, bind_bare, bind_member, bind_in, bind_all_in, bind_named_in}
 use Rattle.gl_machine.specs.Sight.{sight, Passing}
 use Rattle.gl_machine.specs.Params.{Known}
 use Rattle.gl_machine.specs.Env.{Env, class_no, by_symbol, texts_of}
 use Rattle.gl_machine.specs.Placed.{IsOf}
-use Rattle.gl_machine.specs.Mach.{Pushed, Here, Making, Frame, Rest, Mach, Run, mach, go}
+use Rattle.gl_machine.specs.Mach.{Pushed, Here, Making, Frame, Rest, mach, go}
 use Rattle.gl_machine.specs.Step.{program_of, push_new, push_old, push_found, do_op, do_getter, Comes, here}
 use Rattle.gl_machine.proofs.Runs.{on, at_op, at_onto}
 use Rattle.gl_machine.proofs.Stacks.{popped-last, unnamed, with_name, positional_are, named_are, lower_is, upper_is}
@@ -65,8 +64,8 @@ module _ (env : Env) (getter : Expr → State → Bound) (ms : MScope) where
       rw (length-append (map unnamed x.ids) (map with_name y.names), length-map x.ids unnamed, length-map y.names with_name, counted es st, counted_named ns x.state) refl
 
 module _ (env : Env) (store : Store) (getter : Expr → State → Bound) (g : Option ℕ) (symbols : List Text)
-  (c : ℕ) (i : Inst) (a l : Names) (v : MPassed) (w : Passing) (known : Known symbols (texts_of l)) (is : IsOf env c i)
-  (pending : List ℕ) (h : Here) (k : Making) (left : ℕ) (fs : List Frame) where
+    (c : ℕ) (i : Inst) (a l : Names) (v : MPassed) (w : Passing) (known : Known symbols (texts_of l)) (is : IsOf env c i)
+    (pending : List ℕ) (h : Here) (k : Making) (left : ℕ) (fs : List Frame) where
   abbrev rest : Rest
   rest = within g symbols c i a l w pending h k left fs
 
@@ -118,17 +117,17 @@ module _ (env : Env) (store : Store) (getter : Expr → State → Bound) (g : Op
   -- the names that follow: what is made for them comes after what was made before
   segments_push : (b : Bound) (stk : List Pushed) (made : List Id) (from : ℕ) (ns : List Text) (to : ℕ) → SegmentsAt program env.manifest class symbols from ns to
       → Comes env store (go b.state (pushed stk b.id) (made ++ b.made) from rest)
-        (go (bind_along ns b).state (pushed stk (bind_along ns b).id) (made ++ (bind_along ns b).made) to rest)
+      (go (bind_along ns b).state (pushed stk (bind_along ns b).id) (made ++ (bind_along ns b).made) to rest)
   segments_push b stk made from [] to at =
       subst (λ n. Comes env store (go b.state (pushed stk b.id) (made ++ b.made) from rest) (go b.state (pushed stk b.id) (made ++ b.made) n rest)) at here
   segments_push b stk made from (n ∷ ns) to (j, next, has, at, after) =
       let d = after_made b.made (property_form b.id n) b.state in
       on env store
       (subst (λ ids. Comes env store (go b.state (pushed stk b.id) (made ++ b.made) from rest) (go d.state (pushed stk d.id) ids next rest))
-        (append_assoc made b.made (ref (b.state.next a_ref) ∷ []))
-        (at_op env store b.state (pushed stk b.id) (made ++ b.made) from rest (op.Prop j) next at
-          (λ m. go d.state (pushed stk d.id) ((made ++ b.made) ++ ref (b.state.next a_ref) ∷ []) m rest)
-          (rw (has, popped-last stk (None, b.id)) refl)))
+      (append_assoc made b.made (ref (b.state.next a_ref) ∷ []))
+      (at_op env store b.state (pushed stk b.id) (made ++ b.made) from rest (op.Prop j) next at
+      (λ m. go d.state (pushed stk d.id) ((made ++ b.made) ++ ref (b.state.next a_ref) ∷ []) m rest)
+      (rw (has, popped-last stk (None, b.id)) refl)))
       (segments_push d stk made next ns to after)
 
   path_pushes : (st : State) (stk : List Pushed) (made : List Id) (from : ℕ) (op : Op) (ns : List Text) (to : ℕ) (b : Bound) → PathAt program env.manifest class symbols from op ns to
@@ -138,7 +137,7 @@ module _ (env : Env) (store : Store) (getter : Expr → State → Bound) (g : Op
   helper_pushes : (st : State) (stk : List Pushed) (made : List Id) (rs : List ℕ) (ns : Names) (from : ℕ) (n : Text) (count to : ℕ)
       → HelperAt program env.manifest class symbols from n count to → length (map unnamed rs ++ map with_name ns) ≡ count
       → Comes env store (go st (stk ++ (map unnamed rs ++ map with_name ns)) made from rest)
-        (go (made_row (call_form n rs ns) st) (pushed stk (st.next a_ref)) (made ++ ref (st.next a_ref) ∷ []) to rest)
+      (go (made_row (call_form n rs ns) st) (pushed stk (st.next a_ref)) (made ++ ref (st.next a_ref) ∷ []) to rest)
   helper_pushes st stk made rs ns from n count to (j, number, at) e =
       let es = map unnamed rs ++ map with_name ns in
       at_op env store st (stk ++ es) made from rest (op.Call j count) to at (λ m. go (made_row (call_form n rs ns) st) (pushed stk (st.next a_ref)) (made ++ ref (st.next a_ref) ∷ []) m rest)
@@ -151,11 +150,11 @@ module _ (env : Env) (store : Store) (getter : Expr → State → Bound) (g : Op
       let f = named_there n l e in
       rw f.1
       (path_pushes st stk made from (op.Local (place_of symbols n)) ns to (old_ref f.0 st) at
-        (λ next at'. finds st stk made from (op.Local (place_of symbols n)) next f.0 at' (rw (symbol_is symbols n l (known n e), f.1) refl)))
+      (λ next at'. finds st stk made from (op.Local (place_of symbols n)) next f.0 at' (rw (symbol_is symbols n l (known n e), f.1) refl)))
   name_pushes st stk made false true from n [] to e at =
       rw (none_there n l e)
       (subst (λ es. Comes env store (go st es made from rest) (go (made_row (call_form n [] []) st) (pushed stk (st.next a_ref)) (made ++ ref (st.next a_ref) ∷ []) to rest)) (append-nil stk)
-        (helper_pushes st stk made [] [] from n 0 to at refl))
+      (helper_pushes st stk made [] [] from n 0 to at refl))
   name_pushes st stk made false true from n (m ∷ ns) to e at = absurd at
   name_pushes st stk made false false from n ns to e at = absurd at
 
@@ -171,16 +170,16 @@ module _ (env : Env) (store : Store) (getter : Expr → State → Bound) (g : Op
       let (y, there, cell) = cell_there env c i is n f number in
       rw member
       (subst (λ r. Pushes st stk made from to (old_ref r st)) cell
-        (finds st stk made from (op.Field f) to y.1 (subst (λ o. Stands program from o to) same at) (rw there refl)))
+      (finds st stk made from (op.Field f) to y.1 (subst (λ o. Stands program from o to) same at) (rw there refl)))
   member_pushes st stk made from to n head at good (is_getter q y there found same member) =
       let b = getter y.1 st in
       rw member
       (at_onto env store st stk made from rest (op.Getter q) to (subst (λ o. Stands program from o to) same at)
-        (λ m. go b.state (pushed stk b.id) (made ++ b.made) m rest) (good q y there found st stk made from))
+      (λ m. go b.state (pushed stk b.id) (made ++ b.made) m rest) (good q y there found st stk made from))
   member_pushes st stk made from to n head at good (is_action q y there named_so same member) =
       rw member
       (makes st stk made from (op.Action q) to (constant_form (va.action i.path n va.no_values)) (subst (λ o. Stands program from o to) same at)
-        (rw (there, named_so) refl))
+      (rw (there, named_so) refl))
 
   mutual
     pub expr_pushes : (st : State) (stk : List Pushed) (made : List Id) (whole : Bool) (from : ℕ) (e : Expr) (to : ℕ) → ((x : Text) → Among x (mentions e) → IsGood x)
@@ -199,25 +198,25 @@ module _ (env : Env) (store : Store) (getter : Expr → State → Bound) (g : Op
         let q = ref (y.state.next a_ref) in
         on env store (exprs_push st stk made false from es named (λ z m. good z (among_left z (all_mentions es) (named_mentions ns) m)) first)
         (on env store (named_push x.state (stk ++ map unnamed x.ids) (made ++ x.made) named ns last (λ z m. good z (among_right z (all_mentions es) (named_mentions ns) m)) then)
-          (subst (λ ids. Comes env store (go y.state ((stk ++ map unnamed x.ids) ++ map with_name y.names) ((made ++ x.made) ++ y.made) last rest)
-              (go (made_row (call_form n x.ids y.names) y.state) (pushed stk (y.state.next a_ref)) ids to rest))
-            (ap (λ ids. ids ++ q ∷ []) (append_assoc made x.made y.made) ∙ append_assoc made (x.made ++ y.made) (q ∷ []))
-            (subst (λ z. Comes env store (go y.state z ((made ++ x.made) ++ y.made) last rest)
-                (go (made_row (call_form n x.ids y.names) y.state) (pushed stk (y.state.next a_ref)) (((made ++ x.made) ++ y.made) ++ q ∷ []) to rest))
-              (sym (append_assoc stk (map unnamed x.ids) (map with_name y.names)))
-              (helper_pushes y.state stk ((made ++ x.made) ++ y.made) x.ids y.names last n (count_both es ns) to at (counted_both env getter ms st es ns)))))
+        (subst (λ ids. Comes env store (go y.state ((stk ++ map unnamed x.ids) ++ map with_name y.names) ((made ++ x.made) ++ y.made) last rest)
+        (go (made_row (call_form n x.ids y.names) y.state) (pushed stk (y.state.next a_ref)) ids to rest))
+        (ap (λ ids. ids ++ q ∷ []) (append_assoc made x.made y.made) ∙ append_assoc made (x.made ++ y.made) (q ∷ []))
+        (subst (λ z. Comes env store (go y.state z ((made ++ x.made) ++ y.made) last rest)
+        (go (made_row (call_form n x.ids y.names) y.state) (pushed stk (y.state.next a_ref)) (((made ++ x.made) ++ y.made) ++ q ∷ []) to rest))
+        (sym (append_assoc stk (map unnamed x.ids) (map with_name y.names)))
+        (helper_pushes y.state stk ((made ++ x.made) ++ y.made) x.ids y.names last n (count_both es ns) to at (counted_both env getter ms st es ns)))))
     expr_pushes st stk made whole from (t.cat es) to good (last, first, at) =
         let x = bind_all_in env.app getter ms es st in
         let q = ref (x.state.next a_ref) in
         let e : length (map unnamed x.ids ++ map with_name []) ≡ count_exprs es =
-          rw (append-nil (map unnamed x.ids), length-map x.ids unnamed) (counted env getter ms es st) in
+        rw (append-nil (map unnamed x.ids), length-map x.ids unnamed) (counted env getter ms es st) in
         on env store (exprs_push st stk made true from es last good first)
         (subst (λ ids. Comes env store (go x.state (stk ++ map unnamed x.ids) (made ++ x.made) last rest) (go (made_row (joined_form x.ids) x.state) (pushed stk (x.state.next a_ref)) ids to rest))
-          (append_assoc made x.made (q ∷ []))
-          (subst (λ z. Comes env store (go x.state (stk ++ z) (made ++ x.made) last rest) (go (made_row (joined_form x.ids) x.state) (pushed stk (x.state.next a_ref)) ((made ++ x.made) ++ q ∷ []) to rest)) (append-nil (map unnamed x.ids))
-            (at_op env store x.state (stk ++ (map unnamed x.ids ++ map with_name [])) (made ++ x.made) last rest (op.Cat (count_exprs es)) to at
-              (λ m. go (made_row (joined_form x.ids) x.state) (pushed stk (x.state.next a_ref)) ((made ++ x.made) ++ q ∷ []) m rest)
-              (rw (lower_is stk (map unnamed x.ids ++ map with_name []) (count_exprs es) e, upper_is stk (map unnamed x.ids ++ map with_name []) (count_exprs es) e, positional_are x.ids []) refl))))
+        (append_assoc made x.made (q ∷ []))
+        (subst (λ z. Comes env store (go x.state (stk ++ z) (made ++ x.made) last rest) (go (made_row (joined_form x.ids) x.state) (pushed stk (x.state.next a_ref)) ((made ++ x.made) ++ q ∷ []) to rest)) (append-nil (map unnamed x.ids))
+        (at_op env store x.state (stk ++ (map unnamed x.ids ++ map with_name [])) (made ++ x.made) last rest (op.Cat (count_exprs es)) to at
+        (λ m. go (made_row (joined_form x.ids) x.state) (pushed stk (x.state.next a_ref)) ((made ++ x.made) ++ q ∷ []) m rest)
+        (rw (lower_is stk (map unnamed x.ids ++ map with_name []) (count_exprs es) e, upper_is stk (map unnamed x.ids ++ map with_name []) (count_exprs es) e, positional_are x.ids []) refl))))
 
     pub exprs_push : (st : State) (stk : List Pushed) (made : List Id) (whole : Bool) (from : ℕ) (es : Exprs) (to : ℕ) → ((x : Text) → Among x (all_mentions es) → IsGood x)
         → ExprsAt program env.manifest class symbols whole (texts_of l) from es to
@@ -229,7 +228,7 @@ module _ (env : Env) (store : Store) (getter : Expr → State → Bound) (g : Op
         let y = bind_all_in env.app getter ms es x.state in
         on env store (expr_pushes st stk made whole from e next (λ z m. good z (among_left z (mentions e) (all_mentions es) m)) first)
         (rw (← append_assoc stk (unnamed x.id ∷ []) (map unnamed y.ids), ← append_assoc made x.made y.made)
-          (exprs_push x.state (pushed stk x.id) (made ++ x.made) whole next es to (λ z m. good z (among_right z (mentions e) (all_mentions es) m)) then))
+        (exprs_push x.state (pushed stk x.id) (made ++ x.made) whole next es to (λ z m. good z (among_right z (mentions e) (all_mentions es) m)) then))
 
     pub named_push : (st : State) (stk : List Pushed) (made : List Id) (from : ℕ) (ns : NamedExprs) (to : ℕ) → ((x : Text) → Among x (named_mentions ns) → IsGood x)
         → NamedAt program env.manifest class symbols (texts_of l) from ns to
@@ -241,6 +240,6 @@ module _ (env : Env) (store : Store) (getter : Expr → State → Bound) (g : Op
         let y = bind_named_in env.app getter ms ns x.state in
         on env store (expr_pushes st stk made false from e named (λ z m. good z (among_left z (mentions e) (named_mentions ns) m)) first)
         (on env store
-          (at_op env store x.state (pushed stk x.id) (made ++ x.made) named rest (op.Named j) next at (λ m. go x.state (stk ++ (Some n, x.id) ∷ []) (made ++ x.made) m rest) (rw (has, popped-last stk (None, x.id)) refl))
-          (rw (← append_assoc stk (with_name (n, x.id) ∷ []) (map with_name y.names), ← append_assoc made x.made y.made)
-            (named_push x.state (stk ++ with_name (n, x.id) ∷ []) (made ++ x.made) next ns to (λ z m. good z (among_right z (mentions e) (named_mentions ns) m)) then)))
+        (at_op env store x.state (pushed stk x.id) (made ++ x.made) named rest (op.Named j) next at (λ m. go x.state (stk ++ (Some n, x.id) ∷ []) (made ++ x.made) m rest) (rw (has, popped-last stk (None, x.id)) refl))
+        (rw (← append_assoc stk (with_name (n, x.id) ∷ []) (map with_name y.names), ← append_assoc made x.made y.made)
+        (named_push x.state (stk ++ with_name (n, x.id) ∷ []) (made ++ x.made) next ns to (λ z m. good z (among_right z (mentions e) (named_mentions ns) m)) then)))
