@@ -1,0 +1,36 @@
+-- The laws of the machine over words.
+use Rattle.std.specs.Prelude.{◌≡◌, ℕ, List, Some}
+use Rattle.gl_ast.specs.Template.{Body}
+use Rattle.gl_meaning.specs.Eval.{Store}
+use Rattle.gl_meaning.specs.Manifest.{app_of}
+use Rattle.gl_opc.specs.Numbers.{class_number}
+use Rattle.gl_opc.specs.IsApp.{IsAppWith}
+use Rattle.gl_plain.specs.State.{State}
+use Rattle.gl_plain.specs.Live.{is_deep}
+use Rattle.gl_plain.specs.Grow.{grow_app}
+use Rattle.gl_plain.specs.Renew.{renew_app}
+use Rattle.gl_machine.specs.Code.{Code, live_of}
+use Rattle.gl_machine.specs.Env.{Env}
+use Rattle.gl_machine.specs.Placed.{Follows, RunsRight}
+use Rattle.gl_machine.specs.Step.{run_for}
+use Rattle.gl_machine.specs.Root.{PlacedRoot, append_page, renew_root_code}
+
+-- The programs are those of the app, as a loaded application keeps them: they lower its templates and its getters, and no getter reaches
+-- itself.
+abbrev pub AllLowered : Env → Type 0
+AllLowered env = (templates : List Body) × (env.app ≡ app_of env.manifest templates) × IsAppWith env.manifest templates env.programs
+
+-- What is run from an address appends what the tree says.
+abbrev pub WordsAppend : Type 0
+WordsAppend = (env : Env) (store : Store) → AllLowered env → (n : ℕ) → RunsRight env store (run_for env store n)
+
+-- The whole page, appended and updated within n steps for each body that is appended.
+abbrev pub PageAppends : Type 0
+PageAppends =
+    (env : Env) (store : Store) → AllLowered env → (n q : ℕ) → class_number env.manifest env.app.root ≡ Some q → (st : State)
+    → Follows (PlacedRoot env) live_of is_deep (append_page env.app.limit env store (run_for env store n) q st) (grow_app env.app store st)
+
+abbrev pub PageRenews : Type 0
+PageRenews =
+    (env : Env) (store : Store) → AllLowered env → (n : ℕ) (k : Code) (st : State) → PlacedRoot env k
+    → Follows (PlacedRoot env) live_of is_deep (renew_root_code env.app.limit (run_for env store n) k st) (renew_app env.app store (live_of k) st)

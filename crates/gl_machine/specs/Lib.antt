@@ -1,0 +1,15 @@
+pub mod Sight
+pub mod Code
+pub mod Outcome
+pub mod RenewCode
+pub mod Params
+pub mod Env
+pub mod Placed
+pub mod Mach
+pub mod Step
+pub mod Root
+pub mod Shape
+pub mod Rows
+pub mod Gone
+pub mod UpdateLaws
+pub mod Laws
