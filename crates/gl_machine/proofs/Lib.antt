@@ -8,3 +8,5 @@ pub mod Sits
 pub mod RowsOf
 pub mod ByPath
 pub mod NestShown
+pub mod PlacesOnce
+pub mod GoneLines
