@@ -22,36 +22,36 @@ use Rattle.gl_machine.specs.UpdateLaws.{IdsByPath}
 use Rattle.gl_machine.proofs.Sits.{item_key, item_number, item_step, NotAt, Sits, SitsItems, SitsIn, RootSits, page_sits}
 use Rattle.gl_machine.proofs.RowsOf.{OnTag, on_tag, arm_rows, arm_either, item_rows, rows_within, rows_from, items_within, arm_within, arm_below, item_within, not_there, among_ids, ids_arm, ids_items, ids_item}
 
-abbrev step_number : PathStep → ℕ
+abbrev pub step_number : PathStep → ℕ
 step_number (at n) = n
 step_number _ = 0
 
 -- steps that differ
-at_empty : (n : ℕ) → at n ≡ empty → ⊥
+pub at_empty : (n : ℕ) → at n ≡ empty → ⊥
 at_empty n e = cc
 
-main_otherwise : main ≡ otherwise → ⊥
+pub main_otherwise : main ≡ otherwise → ⊥
 main_otherwise e = cc
 
-otherwise_main : otherwise ≡ main → ⊥
+pub otherwise_main : otherwise ≡ main → ⊥
 otherwise_main e = cc
 
-otherwise_items : otherwise ≡ items → ⊥
+pub otherwise_items : otherwise ≡ items → ⊥
 otherwise_items e = cc
 
-items_otherwise : items ≡ otherwise → ⊥
+pub items_otherwise : items ≡ otherwise → ⊥
 items_otherwise e = cc
 
 -- two places below one path at different steps
-apart : (l m : PathStep) (p : Path) (x y : Row) → (l ≡ m → ⊥) → Within (l ∷ p) x.path → Within (m ∷ p) y.path → y.path ≡ x.path → ⊥
+pub apart : (l m : PathStep) (p : Path) (x y : Row) → (l ≡ m → ⊥) → Within (l ∷ p) x.path → Within (m ∷ p) y.path → y.path ≡ x.path → ⊥
 apart l m p x y ne u v e = ne (steps_apart l m p x.path u (subst (λ z. Within (m ∷ p) z) e v))
 
 -- a place below a path isn't it
-above : (l : PathStep) (p : Path) (x y : Row) → Within (l ∷ p) x.path → y.path ≡ p → y.path ≡ x.path → ⊥
+pub above : (l : PathStep) (p : Path) (x y : Row) → Within (l ∷ p) x.path → y.path ≡ p → y.path ≡ x.path → ⊥
 above l p x y u f e = not_below l p (subst (λ z. Within (l ∷ p) z) (sym e ∙ f) u)
 
 -- nor one on a tag, where it stands in the body
-off_tag : (k : ℕ) (p : Path) (x y : Row) → Within (at k ∷ p) x.path → OnTag p y → y.path ≡ x.path → ⊥
+pub off_tag : (k : ℕ) (p : Path) (x y : Row) → Within (at k ∷ p) x.path → OnTag p y → y.path ≡ x.path → ⊥
 off_tag k p x y u (inl f) e = above (at k) p x y u f e
 off_tag k p x y u (inr (l, part, f)) e = off l part (steps_apart (at k) l p x.path u (subst (λ z. Within (l ∷ p) z) e (subst (λ z. Within (l ∷ p) z) (sym f) (within_itself (l ∷ p))))) where
   off : (l : PathStep) → IsPartStep l → at k ≡ l → ⊥
@@ -60,7 +60,7 @@ off_tag k p x y u (inr (l, part, f)) e = off l part (steps_apart (at k) l p x.pa
 abbrev ApartFrom : Row → List Row → Type 0
 ApartFrom x ys = (y : Row) → Among y ys → y.path ≡ x.path → ⊥
 
-same_key_itself : (y z : ItemSpot) → item_step y ≡ item_step z → same_key y z ≡ true
+pub same_key_itself : (y z : ItemSpot) → item_step y ≡ item_step z → same_key y z ≡ true
 same_key_itself y z e = both_true (same no_owners z.key y.key) (nat_eq z.occurrence y.occurrence)
     (subst (λ k. same no_owners k y.key ≡ true) (ap item_key e) (same_itself ⊥ no_owners no_owners-Decides y.key))
     (subst (λ k. nat_eq k y.occurrence ≡ true) (ap item_number e) ((Decides-eqb y.occurrence y.occurrence).1 refl))

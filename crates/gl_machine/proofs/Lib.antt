@@ -10,3 +10,4 @@ pub mod ByPath
 pub mod NestShown
 pub mod PlacesOnce
 pub mod GoneLines
+pub mod Freed
