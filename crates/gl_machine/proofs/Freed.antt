@@ -1,6 +1,6 @@
 -- What an update frees is what lives on no more.
-use Rattle.std.proofs.Common.{◌≡◌, ℕ, zero, suc, List, [], ◌∷◌, ◌++◌, map, Bool, true, false, true≢false, cond, Option, Some, None, refl, sym, ap, ap₂, ◌∙◌, subst, arith, inl, inr, ◌⊎◌}
-use Rattle.std.specs.Prelude.{◌||◌, ◌&&◌, nat_eq, if◌then◌else◌}
+use Rattle.std.proofs.Common.{◌≡◌, ℕ, suc, List, [], ◌∷◌, ◌++◌, Bool, true, false, true≢false, cond, Option, Some, None, refl, sym, ap, ap₂, ◌∙◌, subst, arith, inl, inr, ◌⊎◌}
+use Rattle.std.specs.Prelude.{◌||◌, nat_eq}
 use Rattle.std.proofs.lemmas.Bool.{eqb-true}
 use Rattle.std.proofs.lemmas.List.{append-nil}
 use Rattle.gl_value.specs.Value.{same}
@@ -10,16 +10,16 @@ use Rattle.gl_meaning.specs.Laws.{Within}
 use Rattle.gl_meaning.proofs.Equal.{both_left, both_right, same_means, no_owners-Decides}
 use Rattle.gl_meaning.proofs.Pieces.{among_left, among_right}
 use Rattle.gl_meaning.proofs.Under.{within_itself}
-use Rattle.gl_plain.specs.Ids.{Kind, Id, id_eq, ref, node, instance_id, modifier_id}
+use Rattle.gl_plain.specs.Ids.{Kind, Id, id_eq, ref, node, instance_id}
 use Rattle.gl_plain.specs.State.{Inst}
 use Rattle.gl_plain.specs.Live
 use Rattle.gl_plain.specs.Live.{Live, Lives, Items, AttrSpot, ModSpot, ItemSpot}
-use Rattle.gl_plain.specs.Keeps.{New, same_key, WhereTrue, item_count, EachItem, Keeps, KeepIn, KeptBy}
+use Rattle.gl_plain.specs.Keeps.{same_key, WhereTrue, EachItem, Keeps, KeepIn, KeptBy}
 use Rattle.gl_plain.proofs.Moves.{id_means, id_itself}
-use Rattle.gl_machine.specs.Rows.{Role, a_node, a_position, an_instance, a_modifier, a_value, an_index, Row, row_of, comment_rows, attr_rows, mod_spot_rows, mod_rows, tag_rows, instance_rows, rows, rows_items, rows_in, row_ids}
-use Rattle.gl_machine.specs.Gone.{Gone, gone_modifier, gone_instance, has_id, gone_mods, gone_inst, gone, gone_items, gone_in, none_lives, kept_item, freed_item, freed, freed_items, freed_in}
-use Rattle.gl_machine.proofs.Sits.{item_step, NotAt, Sits, SitsItems, SitsIn, RootSits}
-use Rattle.gl_machine.proofs.RowsOf.{OnTag, on_tag, arm_rows, item_rows, rows_within, rows_from, items_within, arm_within, item_within, not_there}
+use Rattle.gl_machine.specs.Rows.{a_node, an_instance, a_value, an_index, Row, row_of, comment_rows, attr_rows, mod_spot_rows, mod_rows, tag_rows, instance_rows, rows, rows_items, rows_in, row_ids}
+use Rattle.gl_machine.specs.Gone.{gone_modifier, gone_instance, has_id, gone_mods, gone_inst, gone, gone_items, gone_in, none_lives, kept_item, freed_item, freed, freed_items, freed_in}
+use Rattle.gl_machine.proofs.Sits.{item_step, NotAt, Sits, SitsItems, SitsIn}
+use Rattle.gl_machine.proofs.RowsOf.{on_tag, arm_rows, item_rows, rows_within, rows_from, items_within, arm_within, item_within, not_there}
 use Rattle.gl_machine.proofs.ByPath.{at_empty, above, main_otherwise, otherwise_main, otherwise_items, items_otherwise, apart, off_tag, same_key_itself, step_number}
 
 -- Ids of rows
@@ -241,15 +241,15 @@ module _ (lives_on : Id → Bool) (next : Kind → ℕ) where
         let sl = subst (λ (v : ItemSpot). SitsIn (item_step v ∷ p) 0 ls) w.0 s.1 in
         let ends : Lives_in lives_on (item_rows p y j ms ++ []) (item_rows p z k ls ++ rows_items p is) = subst (λ xs. Lives_in lives_on xs (item_rows p z k ls ++ rows_items p is)) (sym (append-nil (item_rows p y j ms))) g in
         let here = left_live lives_on (item_rows p y j ms) [] (item_rows p z k ls) (rows_items p is) ends
-          (λ x v m n a. not_there (item_step z) p is s.0 s.2 v n (subst (λ c. Within (item_step z ∷ p) c) (sym a) (subst (λ l. Within (l ∷ p) x.path) (sym (same_steps y z e)) (item_within p y j ms sy x m)))) in
+        (λ x v m n a. not_there (item_step z) p is s.0 s.2 v n (subst (λ c. Within (item_step z ∷ p) c) (sym a) (subst (λ l. Within (l ∷ p) x.path) (sym (same_steps y z e)) (item_within p y j ms sy x m)))) in
         let same = subst (λ (v : ItemSpot). Lives_in lives_on (item_rows p y j ms) (item_rows p v k ls)) w.0 here in
         ih ls sl w.2 (item_body p y j k ms ls sy same)
     by false e f =
         f (right_live lives_on [] (item_rows p y j ms) (item_rows p z k ls) (rows_items p is) g
-          (λ x v m n a. apart (item_step y) (item_step z) p x v (λ c. true≢false (sym (same_key_itself y z c) ∙ e)) (item_within p y j ms sy x m) (item_within p z k ls s.1 v n) a))
+        (λ x v m n a. apart (item_step y) (item_step z) p x v (λ c. true≢false (sym (same_key_itself y z c) ∙ e)) (item_within p y j ms sy x m) (item_within p z k ls s.1 v n) a))
 
   -- An instance goes on.
-  inst_freed : (i : Inst) (ls ls' : Lives) → SitsIn i.path 0 ls → SitsIn i.path 0 ls' → Lives_in lives_on (instance_rows i ++ rows_in i.path 0 ls) (instance_rows i ++ rows_in i.path 0 ls')
+  pub inst_freed : (i : Inst) (ls ls' : Lives) → SitsIn i.path 0 ls → SitsIn i.path 0 ls' → Lives_in lives_on (instance_rows i ++ rows_in i.path 0 ls) (instance_rows i ++ rows_in i.path 0 ls')
       → (Lives_in lives_on (rows_in i.path 0 ls) (rows_in i.path 0 ls') → freed_in ls ls' ≡ gone_in lives_on ls) → freed_in ls ls' ≡ gone_in lives_on ls ++ gone_inst lives_on i
   inst_freed i ls ls' s s' g f =
       let v : Row = record { role = an_instance; path = i.path; id = instance_id i.id; cells = i.cells } in
@@ -269,10 +269,10 @@ module _ (lives_on : Id → Bool) (next : Kind → ℕ) where
         ∙ ap₂ (λ a b. a ++ b)
         (body_freed p 0 ls ls' s.2 s'.2 h.4 (right_live lives_on (tag_rows p n xs zs) (rows_in p 0 ls) (tag_rows p n' xs' zs') (rows_in p 0 ls') g (λ x y m k e. let w = rows_from p 0 ls s.2 x m in off_tag w.0 p x y w.2 (on_tag p n' xs' zs' y k) e)))
         (sym (mods_kept lives_on p 0 zs
-          (λ x m.
-            let a = mod_in_tag p n xs zs x m in
-            let b : Among x (tag_rows p n' xs' zs') = subst (λ j. Among x (tag_rows p j xs' zs')) (sym h.0) (subst (λ v. Among x (tag_rows p n v zs')) (sym h.2) (subst (λ v. Among x (tag_rows p n xs v)) (sym h.3) a)) in
-            g.lives x (among_left x (tag_rows p n xs zs) (rows_in p 0 ls) a) ∙ has_row x (tag_rows p n' xs' zs' ++ rows_in p 0 ls') (among_left x (tag_rows p n' xs' zs') (rows_in p 0 ls') b))))
+        (λ x m.
+        let a = mod_in_tag p n xs zs x m in
+        let b : Among x (tag_rows p n' xs' zs') = subst (λ j. Among x (tag_rows p j xs' zs')) (sym h.0) (subst (λ v. Among x (tag_rows p n v zs')) (sym h.2) (subst (λ v. Among x (tag_rows p n xs v)) (sym h.3) a)) in
+        g.lives x (among_left x (tag_rows p n xs zs) (rows_in p 0 ls) a) ∙ has_row x (tag_rows p n' xs' zs' ++ rows_in p 0 ls') (among_left x (tag_rows p n' xs' zs') (rows_in p 0 ls') b))))
     is_freed p (Live.branch_live z true k ls) (Live.branch_live z' true k' ls') s s' h g =
         body_freed (main ∷ p) 0 ls ls' s.1 s'.1 h.2 (arm_lives lives_on (main ∷ p) k k' ls ls' s.1 (behind lives_on p main _ _ (arm_rows (main ∷ p) k ls) (arm_rows (main ∷ p) k' ls') refl (arm_within (main ∷ p) k ls s.1) g))
     is_freed p (Live.branch_live z false k ls) (Live.branch_live z' false k' ls') s s' h g =
@@ -304,9 +304,9 @@ module _ (lives_on : Id → Bool) (next : Kind → ℕ) where
     body_freed p i (Live.live_and l ls) (Live.live_and l' ls') s s' h g =
         ap₂ (λ a b. a ++ b)
         (is_freed (at i ∷ p) l l' s.0 s'.0 h.0 (left_live lives_on (rows (at i ∷ p) l) (rows_in p (suc i) ls) (rows (at i ∷ p) l') (rows_in p (suc i) ls') g
-          (λ x y m n e. let w = rows_from p (suc i) ls' s'.1 y n in apart (at i) (at w.0) p x y (λ f. let a : i ≡ w.0 = ap step_number f in let b = w.1 in omega (arith, a, b)) (rows_within (at i ∷ p) l s.0 x m) w.2 e)))
+        (λ x y m n e. let w = rows_from p (suc i) ls' s'.1 y n in apart (at i) (at w.0) p x y (λ f. let a : i ≡ w.0 = ap step_number f in let b = w.1 in omega (arith, a, b)) (rows_within (at i ∷ p) l s.0 x m) w.2 e)))
         (body_freed p (suc i) ls ls' s.1 s'.1 h.1 (right_live lives_on (rows (at i ∷ p) l) (rows_in p (suc i) ls) (rows (at i ∷ p) l') (rows_in p (suc i) ls') g
-          (λ x y m n e. let w = rows_from p (suc i) ls s.1 x m in apart (at w.0) (at i) p x y (λ f. let a : w.0 ≡ i = ap step_number f in let b = w.1 in omega (arith, a, b)) w.2 (rows_within (at i ∷ p) l' s'.0 y n) e)))
+        (λ x y m n e. let w = rows_from p (suc i) ls s.1 x m in apart (at w.0) (at i) p x y (λ f. let a : w.0 ≡ i = ap step_number f in let b = w.1 in omega (arith, a, b)) w.2 (rows_within (at i ∷ p) l' s'.0 y n) e)))
     body_freed p i _ _ s s' h g = absurd h
 
     items_freed : (p : Path) (is0 is is' : Items) → SitsItems p is0 → SitsItems p is' → SitsItems p is → ((y : ItemSpot) (j : Option ℕ) (ms : Lives) → OneOf y j ms is → OneOf y j ms is0) → EachItem (KeptBy next is0) is'

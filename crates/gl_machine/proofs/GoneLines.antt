@@ -1,5 +1,5 @@
 -- The lines of what goes are those of the log.
-use Rattle.std.proofs.Common.{◌≡◌, ◌<◌, ℕ, zero, suc, List, [], ◌∷◌, ◌++◌, map, Bool, true, false, cond, Option, Some, None, refl, sym, ap, ap₂, ◌∙◌, subst, inl, inr}
+use Rattle.std.proofs.Common.{◌≡◌, ℕ, zero, suc, List, [], ◌∷◌, ◌++◌, Bool, true, false, cond, Option, Some, None, refl, sym, ap, ap₂, ◌∙◌, subst, inl}
 use Rattle.std.specs.Prelude.{flat_map, filter, not, ◌&&◌, unwrap_or, codes, decimal}
 use Rattle.std.proofs.lemmas.List.{append-nil, append_assoc}
 use Rattle.gl_base.specs.Texts.{Text}
@@ -9,7 +9,7 @@ use Rattle.gl_meaning.specs.App.{App}
 use Rattle.gl_meaning.specs.Path.{at, main, otherwise, items, item, into, slot, empty, attribute_at, modifier_at, Path, has_path, at_path}
 use Rattle.gl_meaning.specs.Scope.{Scope}
 use Rattle.gl_meaning.specs.Eval.{Store, class_at}
-use Rattle.gl_meaning.specs.Parts.{Modifier, WrittenModifier, modifier_of}
+use Rattle.gl_meaning.specs.Parts.{Modifier, WrittenModifier}
 use Rattle.gl_meaning.specs.Render.{Piece, element_node, component, branch, item_region, position, Forest, no_pieces, piece, single, join, forest_of, Entry, Block, block_named}
 use Rattle.gl_meaning.specs.Changes.{Numbers, Sets, instances}
 use Rattle.gl_meaning.specs.Print.{line, last_in, children_first, number_text, modifier_paths, destroy_lines}
@@ -21,9 +21,9 @@ use Rattle.gl_plain.specs.Live
 use Rattle.gl_plain.specs.Live.{Live, Lives, Items, AttrSpot, ModSpot, ItemSpot, item_names}
 use Rattle.gl_plain.specs.Renew.{where_block}
 use Rattle.gl_plain.specs.Drawn.{leaf_piece, tag_of, attrs_of, modifier_name, pairs_at, drawn_comment, drawn_attrs, drawn_modifiers, drawn_places, drawn_scope, drawn, drawn_items, drawn_in, drawn_app}
-use Rattle.gl_plain.specs.Stands.{WhereValues, WhereBlock, ModsStand, CommentStands, Stands, StandIn, ItemsStand, BlockStands, ListStands, ElseStands, mods_by, tail_of}
+use Rattle.gl_plain.specs.Stands.{WhereValues, WhereBlock, ModsStand, Stands, StandIn, ItemsStand, BlockStands, ListStands, ElseStands, mods_by, tail_of}
 use Rattle.gl_plain.specs.Machine.{RootStands}
-use Rattle.gl_machine.specs.Rows.{Role, a_node, a_position, an_instance, a_modifier, Row, row_of, comment_rows, attr_rows, mod_spot_rows, mod_rows, tag_rows, instance_rows, rows, rows_items, rows_in}
+use Rattle.gl_machine.specs.Rows.{a_node, an_instance, a_modifier, Row, row_of, comment_rows, attr_rows, mod_spot_rows, mod_rows, tag_rows, instance_rows, rows, rows_items, rows_in}
 use Rattle.gl_machine.specs.Gone.{Gone, gone_modifier, gone_instance, gone_mods, gone_inst, gone, gone_items, gone_in, modifier_gone, gone_line}
 use Rattle.gl_machine.proofs.RowsOf.{arm_rows, item_rows}
 use Rattle.gl_machine.proofs.Sits.{item_step}
@@ -123,7 +123,7 @@ module _ (app : App) (old new : Forest) (sets : Sets) (before after : Numbers) (
   mod_line p n id x o o' e f g h =
       subst (λ y. line (codes "destroy " ++ (number_text p before ++ 32 ∷ modifier_name o)) ≡ modifier_gone num y) (sym f)
       (subst (λ y. line (codes "destroy " ++ (number_text p before ++ 32 ∷ modifier_name y)) ≡ modifier_gone num y) (sym e)
-        (ap (λ k. line (codes "destroy " ++ ((35 ∷ decimal k) ++ 32 ∷ x.name))) (sym h ∙ ap num (sym g))))
+      (ap (λ k. line (codes "destroy " ++ ((35 ∷ decimal k) ++ 32 ∷ x.name))) (sym h ∙ ap num (sym g))))
 
   one_logged : (b c : Bool) (m : Modifier) (ms : List Modifier) (p : Path) (id : ℕ) (gs : List Gone) → b ≡ c → told_modifier p m ≡ modifier_gone num (look (modifier_id id))
       → flat_map (told_modifier p) ms ≡ Told gs
@@ -175,10 +175,10 @@ module _ (app : App) (old new : Forest) (sets : Sets) (before after : Numbers) (
       let mods = mods_logged σ τ made p n s ms ws 0 ds zs h num_is (left_tells (mod_rows p 0 zs) (row_of a_node p (node n) ∷ []) c) in
       tag_logs p xs (drawn_places look0 p 0 zs) (single q) (gs ++ gone_mods lives_on zs)
       (places_logs p 0 zs (single q) (gs ++ gone_mods lives_on zs)
-        (logs_alone q (gs ++ gone_mods lives_on zs)
-          (flat_append Lines (children_first f) (q ∷ [])
-          ∙ (ap₂ (λ a b. a ++ b) g (append-nil (Lines q) ∙ (append-nil (flat_map (told_modifier p) (filter goes (drawn_modifiers look0 p 0 zs))) ∙ mods))
-          ∙ sym (flat_append (gone_line app look num) gs (gone_mods lives_on zs))))))
+      (logs_alone q (gs ++ gone_mods lives_on zs)
+      (flat_append Lines (children_first f) (q ∷ [])
+      ∙ (ap₂ (λ a b. a ++ b) g (append-nil (Lines q) ∙ (append-nil (flat_map (told_modifier p) (filter goes (drawn_modifiers look0 p 0 zs))) ∙ mods))
+      ∙ sym (flat_append (gone_line app look num) gs (gone_mods lives_on zs))))))
 
   list_logged : (us : Values Path) (P : Values Path → Type 0) (Q : Type 0) → ((us : Values Path) → P us → Q) → WhereValues us P ⊥ → Q
   list_logged no_values P Q f h = absurd h
@@ -205,35 +205,35 @@ module _ (app : App) (old new : Forest) (sets : Sets) (before after : Numbers) (
           let q = main ∷ p in
           logs_behind (position p (pairs_at look0 z)) (single (branch q (join (drawn_in app look0 ms q 0 c ls) (drawn_comment look0 q o)))) (gone_in lives_on ls) refl
           (logs_branch q (join (drawn_in app look0 ms q 0 c ls) (drawn_comment look0 q o)) (gone_in lives_on ls) (logs_arm q o (drawn_in app look0 ms q 0 c ls) (gone_in lives_on ls)
-            (body_logged m b s ms q 0 c ls h.3 (left_tells (rows_in q 0 ls) (comment_rows q o) (rest_tells _ (arm_rows q o ls) k)))))
+          (body_logged m b s ms q 0 c ls h.3 (left_tells (rows_in q 0 ls) (comment_rows q o) (rest_tells _ (arm_rows q o ls) k)))))
       stmt_logged m b s ms p (t.if_stmt e u c d) (Live.branch_live z false o ls) h k =
           let q = otherwise ∷ p in
           logs_behind (position p (pairs_at look0 z)) (single (branch q (join (drawn_in app look0 ms q 0 d ls) (drawn_comment look0 q o)))) (gone_in lives_on ls) refl
           (logs_branch q (join (drawn_in app look0 ms q 0 d ls) (drawn_comment look0 q o)) (gone_in lives_on ls) (logs_arm q o (drawn_in app look0 ms q 0 d ls) (gone_in lives_on ls)
-            (body_logged m b s ms q 0 d ls h.3 (left_tells (rows_in q 0 ls) (comment_rows q o) (rest_tells _ (arm_rows q o ls) k)))))
+          (body_logged m b s ms q 0 d ls h.3 (left_tells (rows_in q 0 ls) (comment_rows q o) (rest_tells _ (arm_rows q o ls) k)))))
       stmt_logged m b s ms p (t.each e key ns c d) (Live.listed z is) h k =
           let D = drawn_items app look0 ns ms c (items ∷ p) 0 is in
           logs_behind (position p (pairs_at look0 z)) (single (branch (items ∷ p) D)) (gone_items lives_on is) refl
           (logs_branch (items ∷ p) D (gone_items lives_on is)
-            (list_logged _ (ListStands app σ τ look0 m b s ms p key ns c is) (Logs D (gone_items lives_on is)) (λ us g. items_logged m b s ms (items ∷ p) ns c 0 _ is g (rest_tells _ (rows_items (items ∷ p) is) k)) h.1))
+          (list_logged _ (ListStands app σ τ look0 m b s ms p key ns c is) (Logs D (gone_items lives_on is)) (λ us g. items_logged m b s ms (items ∷ p) ns c 0 _ is g (rest_tells _ (rows_items (items ∷ p) is) k)) h.1))
       stmt_logged m b s ms p (t.each e key ns c d) (Live.unlisted z o ls) h k =
           let q = otherwise ∷ p in
           logs_behind (position p (pairs_at look0 z)) (single (branch q (join (drawn_in app look0 ms q 0 d ls) (drawn_comment look0 q o)))) (gone_in lives_on ls) refl
           (logs_branch q (join (drawn_in app look0 ms q 0 d ls) (drawn_comment look0 q o)) (gone_in lives_on ls) (logs_arm q o (drawn_in app look0 ms q 0 d ls) (gone_in lives_on ls)
-            (else_logged _ (ElseStands app σ τ look0 m b s ms p d o ls) (Logs (drawn_in app look0 ms q 0 d ls) (gone_in lives_on ls))
-              (λ g. body_logged m b s ms q 0 d ls g.1 (left_tells (rows_in q 0 ls) (comment_rows q o) (rest_tells _ (arm_rows q o ls) k))) h.1)))
+          (else_logged _ (ElseStands app σ τ look0 m b s ms p d o ls) (Logs (drawn_in app look0 ms q 0 d ls) (gone_in lives_on ls))
+          (λ g. body_logged m b s ms q 0 d ls g.1 (left_tells (rows_in q 0 ls) (comment_rows q o) (rest_tells _ (arm_rows q o ls) k))) h.1)))
       stmt_logged m b s ms p (t.let_stmt es ns c) (Live.let_live made rs ls) h k = body_logged m _ _ (with_names (named_as ns rs) ms) (main ∷ p) 0 c ls h.3 k
       stmt_logged (suc m) b s ms p (t.component_stmt c ps given bs) (Live.component_live i made gm args (Some o) ls) h k =
           let ms' = mscope i args [] (mpassed o ps bs ms) in
           inst_logged i (drawn_scope look0 i args (mpassed o ps bs ms)) (drawn_in app look0 ms' i.path 0 (class_at app i.path).template ls) (gone_in lives_on ls)
           (k.instances_on _ (inl refl) refl)
           (subst (λ q. Tells (rows_in q 0 ls) → Logs (drawn_in app look0 ms' q 0 (class_at app q).template ls) (gone_in lives_on ls)) (sym h.2)
-            (λ g. body_logged m _ _ ms' (into c ∷ p) 0 (class_at app (into c ∷ p)).template ls h.7 g) (right_tells (instance_rows i) (rows_in i.path 0 ls) k))
+          (λ g. body_logged m _ _ ms' (into c ∷ p) 0 (class_at app (into c ∷ p)).template ls h.7 g) (right_tells (instance_rows i) (rows_in i.path 0 ls) k))
       stmt_logged zero b s ms p (t.component_stmt c ps given bs) (Live.deep_live q) h k = refl
       stmt_logged m b s ms p (t.yield es n) (Live.yield_live o made rs ls) h k =
           block_logged (block_named n (mslots (passed_in ms))) (BlockStands app σ τ look0 m b s ms p es n made rs ls) (λ c. drawn_in app look0 (with_names (named_as c.params rs) (mwriter (passed_in ms))) (slot o ∷ p) 0 c.body ls) ls
           (λ c g. subst (λ j. Tells (rows_in (slot j ∷ p) 0 ls) → Logs (drawn_in app look0 (with_names (named_as c.params rs) (mwriter (passed_in ms))) (slot j ∷ p) 0 c.body ls) (gone_in lives_on ls)) (sym h.0)
-            (λ w. body_logged m _ _ (with_names (named_as c.params rs) (mwriter (passed_in ms))) (slot n ∷ p) 0 c.body ls g.3 w) k) h.1
+          (λ w. body_logged m _ _ (with_names (named_as c.params rs) (mwriter (passed_in ms))) (slot n ∷ p) 0 c.body ls g.3 w) k) h.1
       stmt_logged m b s ms p _ _ h k = absurd h
 
       body_logged : (m b : ℕ) (s : Scope) (ms : MScope) (p : Path) (i : ℕ) (c : t.Body) (ls : Lives) → StandIn app σ τ look0 m b s ms p i c ls → Tells (rows_in p i ls) → Logs (drawn_in app look0 ms p i c ls) (gone_in lives_on ls)
@@ -253,8 +253,8 @@ module _ (app : App) (old new : Forest) (sets : Sets) (before after : Numbers) (
           let w = left_tells (rows_in (item_step z ∷ p) 0 ls) (comment_rows (item_step z ∷ p) o) (rest_tells _ (arm_rows (item_step z ∷ p) o ls) (rest_tells _ _ a)) in
           item_logged (item_step z ∷ p) (held_value (look0 (ref z.value))) i (join (D (item_step z ∷ p)) (drawn_comment look0 (item_step z ∷ p) o)) (drawn_items app look0 ns ms c p (suc i) is) (gone_in lives_on ls) (gone_items lives_on is)
           (logs_arm (item_step z ∷ p) o (D (item_step z ∷ p)) (gone_in lives_on ls)
-            (subst (λ q. Tells (rows_in q 0 ls) → Logs (D q) (gone_in lives_on ls)) (sym (ap₂ (λ a n. item a n ∷ p) h.0.0 h.0.1))
-              (λ g. body_logged m _ _ (with_names (item_names ns z) ms) (item x.key x.occurrence ∷ p) 0 c ls h.4 g) w))
+          (subst (λ q. Tells (rows_in q 0 ls) → Logs (D q) (gone_in lives_on ls)) (sym (ap₂ (λ a n. item a n ∷ p) h.0.0 h.0.1))
+          (λ g. body_logged m _ _ (with_names (item_names ns z) ms) (item x.key x.occurrence ∷ p) 0 c ls h.4 g) w))
           (items_logged m b s ms p ns c (suc i) xs is h.5 (right_tells (item_rows p z o ls) (rows_items p is) k))
       items_logged m b s ms p ns c i _ _ h k = absurd h
 
@@ -264,6 +264,6 @@ module _ (app : App) (old new : Forest) (sets : Sets) (before after : Numbers) (
         inst_logged i (drawn_scope look0 i args mnothing) (drawn_in app look0 ms' i.path 0 (class_at app i.path).template ls) (gone_in lives_on ls)
         (k.instances_on _ (inl refl) refl)
         (subst (λ q. Tells (rows_in q 0 ls) → Logs (drawn_in app look0 ms' q 0 (class_at app q).template ls) (gone_in lives_on ls)) (sym h.1)
-          (λ g. body_logged m _ _ ms' [] 0 (class_at app []).template ls h.5 g) (right_tells (instance_rows i) (rows_in i.path 0 ls) k))
+        (λ g. body_logged m _ _ ms' [] 0 (class_at app []).template ls h.5 g) (right_tells (instance_rows i) (rows_in i.path 0 ls) k))
     root_logged zero (Live.deep_live q) h k = refl
     root_logged _ _ h k = absurd h

@@ -11,3 +11,4 @@ pub mod NestShown
 pub mod PlacesOnce
 pub mod GoneLines
 pub mod Freed
+pub mod PageGone

@@ -1,23 +1,20 @@
 -- The places of a rendering, by what stands there, are its lists of nodes, positions, instances, modifiers and items; so each stands once.
-use Rattle.std.proofs.Common.{◌≡◌, ℕ, List, [], ◌∷◌, ◌++◌, map, Option, Some, None, refl, sym, ap, ap₂, ◌∙◌, subst, inl, inr, ◌⊎◌}
+use Rattle.std.proofs.Common.{◌≡◌, List, [], ◌∷◌, ◌++◌, map, Option, Some, None, refl, sym, ap, ap₂, ◌∙◌, subst, inl, inr}
 use Rattle.std.specs.Prelude.{filter_map, flat_map}
 use Rattle.std.specs.List.{cons_option}
-use Rattle.std.proofs.lemmas.List.{append-nil, append_assoc, map-append}
+use Rattle.std.proofs.lemmas.List.{append_assoc, map-append}
 use Rattle.gl_meaning.specs.App.{App}
 use Rattle.gl_meaning.specs.Path.{Path}
 use Rattle.gl_meaning.specs.Eval.{Store}
 use Rattle.gl_meaning.specs.Parts.{Modifier}
 use Rattle.gl_meaning.specs.Render.{Piece, element_node, text_node, comment_node, component, branch, item_region, position, too_deep, Forest, no_pieces, piece, draw}
-use Rattle.gl_meaning.specs.Changes.{pieces_in, pieces, node_path, instance_path, position_in, item_in, modifiers_on, nodes, instances, positions, rendered_items, modifiers}
+use Rattle.gl_meaning.specs.Changes.{pieces_in, pieces, node_path, instance_path, position_in, item_in, modifiers_on, instances}
 use Rattle.gl_meaning.specs.Print.{modifier_paths}
 use Rattle.gl_meaning.specs.Known.{Among}
 use Rattle.gl_meaning.specs.Laws.{NoRepeat}
 use Rattle.gl_meaning.proofs.Pieces.{some_same, none_some}
 use Rattle.gl_meaning.proofs.Once.{nodes_once, positions_once, instances_once, items_once}
 use Rattle.gl_meaning.proofs.Modifiers.{modifiers_once}
-use Rattle.gl_plain.specs.State.{State}
-use Rattle.gl_plain.specs.Live.{Live}
-use Rattle.gl_plain.specs.Machine.{StandsFor}
 use Rattle.gl_machine.specs.Rows.{Role, a_node, a_position, an_instance, a_modifier, a_value, an_index, Row, rows, modifier_places, piece_places, places}
 use Rattle.gl_machine.specs.UpdateLaws.{place_of, PlacesStandOnce}
 use Rattle.gl_machine.proofs.NestShown.{rows_are_drawn}
@@ -65,7 +62,7 @@ pick a_value (a_value, p) = Some p
 pick an_index (an_index, p) = Some p
 pick _ _ = None
 
-abbrev of_role : Role → List (Role × Path) → List Path
+abbrev pub of_role : Role → List (Role × Path) → List Path
 of_role r xs = filter_map (pick r) xs
 
 abbrev paths_of : List Modifier → List Path
@@ -175,7 +172,7 @@ pick_itself a_modifier p = refl
 pick_itself a_value p = refl
 pick_itself an_index p = refl
 
-abbrev row_paths : Role → List Row → List Path
+abbrev pub row_paths : Role → List Row → List Path
 row_paths r xs = of_role r (map place_of xs)
 
 pick_of : (r : Role) (z x : Row) → x ≡ z → x.role ≡ r → pick r (place_of z) ≡ Some x.path

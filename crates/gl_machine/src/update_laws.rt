@@ -1,7 +1,7 @@
 //! The laws of an update. Each function does nothing: its contract is the law.
 
 ghost use Rattle.gl_machine.specs.Placed.{RenewsRight};
-ghost use Rattle.gl_machine.specs.UpdateLaws.{IdsByPath, IdsStandOnce, NestHasNodes, NestIsDrawn, NestIsOrdered, NestIsPlaced, PageFollows, PlacesStandOnce, RowsAreDrawn};
+ghost use Rattle.gl_machine.specs.UpdateLaws.{FreedIsGone, FreedIsLogged, IdsByPath, IdsStandOnce, NestHasNodes, NestIsDrawn, NestIsOrdered, NestIsPlaced, PageFollows, PlacesStandOnce, RowsAreDrawn};
 
 /// An update of the recorded program does what one of the tree does, and leaves it recorded well.
 pub fn recorded()
@@ -23,4 +23,10 @@ pub fn by_path()
     ensures ids { IdsStandOnce }
     ensures places { PlacesStandOnce }
     ensures kept { IdsByPath }
+{}
+
+/// What an update frees, children first over the old tree, and what the log of the turn tells of it.
+pub fn destroyed()
+    ensures gone { FreedIsGone }
+    ensures logged { FreedIsLogged }
 {}
