@@ -1,25 +1,36 @@
--- The machine, run from a recorded address for so many steps, appends what the tree says, where it ends.
-use Rattle.std.proofs.Common.{◌≡◌, ℕ, zero, suc, [], false, refl, sym, ap, subst}
+-- The machine, run from a recorded address for so many steps, appends what the tree says, where it ends; and with enough steps it ends.
+use Rattle.std.proofs.Common.{◌≡◌, ◌≤◌, ℕ, zero, suc, [], false, refl, sym, ◌∙◌, ap, subst, arith}
+use Rattle.gl_ast.specs.Template.{Body}
+use Rattle.gl_meaning.specs.Path.{Path}
 use Rattle.gl_program.specs.Program.{Stands}
 use Rattle.gl_ops.specs.declared.op.Op.{Op}
 use Rattle.gl_ops.specs.declared.op.Op.TheVariants as op
 use Rattle.gl_meaning.specs.Eval.{Store}
-use Rattle.gl_plain.specs.State.{Names, Inst, mscope, MPassed, State}
+use Rattle.gl_plain.specs.State as s
+use Rattle.gl_plain.specs.State.{Names, Inst, MScope, mscope, MPassed, State}
 use Rattle.gl_plain.specs.Live.{Lives, are_deep}
 use Rattle.gl_plain.specs.Grow.{grow_body, grow_yields, grow_components}
+use Rattle.gl_plain.specs.Renew.{fresh_body}
 use Rattle.gl_machine.specs.Sight.{Passing}
 use Rattle.gl_machine.specs.Code.{Codes, lives_of}
-use Rattle.gl_machine.specs.Outcome.{Outcome, ok, lost}
-use Rattle.gl_machine.specs.Env.{Env, program_no}
-use Rattle.gl_machine.specs.Placed.{Closes, PlacedIn, FollowsIn, RunsRight}
+use Rattle.gl_machine.specs.Outcome.{Outcome, ok, deep, lost, Ends}
+use Rattle.gl_machine.specs.RenewCode.{start}
+use Rattle.gl_machine.specs.Env.{Env, program_no, texts_of, seen}
+use Rattle.gl_machine.specs.Placed.{Closes, BodyThere, Fits, PlacedIn, FollowsIn, RunsRight, RunsEnd}
 use Rattle.gl_machine.specs.Mach.{Here, idle, Mach, Run, going, finished, too_deep, stuck, mach, go, fresh}
-use Rattle.gl_machine.specs.Step.{step_run, Comes, here, after, outcome, run_for}
+use Rattle.gl_machine.specs.Step.{step_run, Comes, here, more, after, begun, outcome, run_for}
 use Rattle.gl_machine.proofs.Runs.{adds, closed_codes, on, onward, at_op, one_end, Goes, stops, ends}
 use Rattle.gl_machine.proofs.Sound.{Sound}
 use Rattle.gl_machine.proofs.Getters.{room}
 use Rattle.gl_machine.proofs.Spreads.{spreads_go}
 use Rattle.gl_machine.proofs.Bodies.{body_goes}
 use Rattle.gl_machine.proofs.Layers.{yields_go, components_go}
+
+pub deep_told : {A : Type 0} → ◌≡◌ {A = Outcome A} deep lost → ⊥
+deep_told e = cc
+
+pub ok_told : {A : Type 0} (x : A) → ok x ≡ lost → ⊥
+ok_told x e = cc
 
 module _ (env : Env) (store : Store) where
   comes_after : (n : ℕ) (a r : Run) → Comes env store a r → Comes env store a (after env store n r)
@@ -45,29 +56,69 @@ module _ (env : Env) (store : Store) where
   at_close c i a l v w h left last next st op.Done at t = at_op env store st [] [] last (room env c i a l v w [] h idle left []) op.Done next at (λ n. finished (mach st [] [] last (room env c i a l v w [] h idle left []))) refl
   at_close c i a l v w h left last next st _ at t = absurd t
 
-  follows : (P : Codes → Type 0) (a : Run) (z : Lives × State) (e : Codes × State → Run) (n : ℕ) → Goes env store P lives_of are_deep a z e
-      → ((x : Codes × State) → (m : Mach) × Comes env store (e x) (finished m) × (outcome env store (finished m) ≡ ok x))
-      → FollowsIn P (outcome env store (after env store n a)) z
-  follows P a z e n (stops d p) close =
-      ended_as (λ o. FollowsIn P o z) (record {}) a (after env store n a) too_deep (comes_after n a a here) p refl d
-  follows P a z e n (ends x is fine placed p) close =
-      let (m, q, o) = close x in
-      ended_as (λ o. FollowsIn P o z) (record {}) a (after env store n a) (finished m) (comes_after n a a here) (on env store p q) refl
-      (subst (λ y. FollowsIn P y z) (sym o) (is, subst (λ y. are_deep y.0 ≡ false) is fine, placed))
+  -- a run that is over, with an answer that follows what the tree says
+  pub record Over (P : Codes → Type 0) (a : Run) (z : Lives × State) : Type 0 where
+    end : Run
+    comes : Comes env store a end
+    still : step_run env store end ≡ end
+    answers : FollowsIn P (outcome env store end) z
+    told : outcome env store end ≡ lost → ⊥
 
-module _ (env : Env) (store : Store) (sound : Sound env) (n : ℕ) where
-  pub runs_right : RunsRight env store (run_for env store n)
-  runs_right c (mscope i a l v) w fits from b (last, next, o, at_body, at_end, closes, fit) p m st =
+  is_over : (P : Codes → Type 0) (a : Run) (z : Lives × State) (e : Codes × State → Run) → Goes env store P lives_of are_deep a z e
+      → ((x : Codes × State) → (m : Mach) × Comes env store (e x) (finished m) × (outcome env store (finished m) ≡ ok x)) → Over P a z
+  is_over P a z e (stops d p) close = record { end = too_deep; comes = p; still = refl; answers = d; told = deep_told }
+  is_over P a z e (ends x is fine placed p) close =
+      let (m, q, o) = close x in
+      record {
+        end = finished m; comes = on env store p q; still = refl;
+        answers = subst (λ y. FollowsIn P y z) (sym o) (is, subst (λ y. are_deep y.0 ≡ false) is fine, placed);
+        told = λ l. ok_told x (sym o ∙ l);
+      }
+
+  -- within any number of steps
+  answers_within : (P : Codes → Type 0) (a : Run) (z : Lives × State) → Over P a z → (n : ℕ) → FollowsIn P (outcome env store (after env store n a)) z
+  answers_within P a z x n = ended_as (λ o. FollowsIn P o z) (record {}) a (after env store n a) x.end (comes_after n a a here) x.comes x.still x.answers
+
+  rests : (n : ℕ) (r : Run) → step_run env store r ≡ r → after env store n r ≡ r
+  rests zero r still = refl
+  rests (suc n) r still = ap (after env store n) still ∙ rests n r still
+
+  later : (n k : ℕ) (a r : Run) → n ≤ k → after env store n a ≡ r → step_run env store r ≡ r → after env store k a ≡ r
+  later zero k a r less e still = ap (after env store k) e ∙ rests k r still
+  later (suc n) zero a r less e still = absurd (omega (arith, less))
+  later (suc n) (suc k) a r less e still = later n k (step_run env store a) r (omega (arith, less)) e still
+
+  steps_to : {a r : Run} → Comes env store a r → (n : ℕ) × (after env store n a ≡ r)
+  steps_to here = (0, refl)
+  steps_to (more p) = let (n, e) = steps_to p in (suc n, e)
+
+  -- and from some number of steps on
+  over_ends : (P : Codes → Type 0) (a : Run) (z : Lives × State) → Over P a z → Ends (λ n. outcome env store (after env store n a))
+  over_ends P a z x =
+      let (n, e) = steps_to x.comes in (n, outcome env store x.end, x.told, λ k less. ap (outcome env store) (later n k a x.end less e x.still))
+
+module _ (env : Env) (store : Store) (sound : Sound env) where
+  over : (c : ℕ) (ms : MScope) (w : Passing) → Fits env c ms w → (from : ℕ) (b : Body) → BodyThere env c (texts_of (s.locals_in ms)) from b → (p : Path) (m : ℕ) (st : State)
+      → Over env store (PlacedIn env c ms w p 0 b) (begun env store (start (seen env c ms w) from p m) st) (fresh_body env.app store m ms p b st)
+  over c (mscope i a l v) w fits from b (last, next, o, at_body, at_end, closes, fit) p m st =
       let components = grow_components m env.app store in
       let invokes = components_go env store sound m in
       let yields = yields_go env store sound m components invokes v in
-      follows env store (PlacedIn env c (mscope i a l v) w p 0 b) (go st [] [] from (room env c i a l v w [] (fresh p) idle m []))
+      is_over env store (PlacedIn env c (mscope i a l v) w p 0 b) (go st [] [] from (room env c i a l v w [] (fresh p) idle m []))
       (grow_body env.app components (grow_yields env.app components v) (mscope i a l v) p 0 b st)
-      (λ r. go r.1 [] [] last (room env c i a l v w [] (adds r.0 (fresh p)) idle m [])) n
+      (λ r. go r.1 [] [] last (room env c i a l v w [] (adds r.0 (fresh p)) idle m []))
       (body_goes env store sound c i a v w fits.is fits.passes (spreads_go env store sound v w fits.passes) m components (grow_yields env.app components v) invokes yields
-      l fits.known [] st [] (fresh p) [] (λ m r. refl) from b last at_body fit)
+        l fits.known [] st [] (fresh p) [] (λ m r. refl) from b last at_body fit)
       (λ x. (
         mach x.1 [] [] last (room env c i a l v w [] (adds x.0 (fresh p)) idle m []),
         at_close env store c i a l v w (adds x.0 (fresh p)) m last next x.1 o at_end closes,
         ap (λ k. ok (k, x.1)) (closed_codes x.0 (fresh p) refl),
       ))
+
+  pub runs_right : (n : ℕ) → RunsRight env store (run_for env store n)
+  runs_right n c ms w fits from b there p m st =
+      answers_within env store (PlacedIn env c ms w p 0 b) (begun env store (start (seen env c ms w) from p m) st) (fresh_body env.app store m ms p b st) (over c ms w fits from b there p m st) n
+
+  pub runs_end : RunsEnd env store (run_for env store)
+  runs_end c ms w fits from b there p m st =
+      over_ends env store (PlacedIn env c ms w p 0 b) (begun env store (start (seen env c ms w) from p m) st) (fresh_body env.app store m ms p b st) (over c ms w fits from b there p m st)

@@ -1,5 +1,7 @@
 -- The whole page is appended.
-use Rattle.std.proofs.Common.{◌≡◌, ℕ, zero, suc, [], ◌∷◌, ◌++◌, Some, None, refl, sym, ◌∙◌, ap, subst}
+use Rattle.gl_base.specs.Texts.{Text}
+use Rattle.gl_ast.specs.Template.{Plain, Body}
+use Rattle.std.proofs.Common.{◌≡◌, ◌≤◌, ℕ, zero, suc, List, [], ◌∷◌, ◌++◌, Some, None, refl, sym, ◌∙◌, ap, subst}
 use Rattle.gl_ops.specs.declared.op.Op.TheVariants as op
 use Rattle.gl_meaning.specs.Eval.{Store, class_named}
 use Rattle.gl_wire.specs.Symbols.{symbols_of}
@@ -11,50 +13,85 @@ use Rattle.gl_plain.specs.Live.{component_live, is_deep, are_deep}
 use Rattle.gl_plain.specs.Grow.{grow_cells, grow_components}
 use Rattle.gl_plain.specs.Renew.{fresh_body}
 use Rattle.gl_machine.specs.Sight.{sight, not_passed}
-use Rattle.gl_machine.specs.Code.{component_code, live_of, lives_of}
-use Rattle.gl_machine.specs.Outcome.{ok, on_ok}
+use Rattle.gl_machine.specs.Code.{Code, component_code, live_of, lives_of}
+use Rattle.gl_machine.specs.Outcome.{Outcome, ok, deep, lost, on_ok, Ends}
 use Rattle.gl_machine.specs.RenewCode.{Runs, start}
 use Rattle.gl_machine.specs.Params.{HasParamsIn}
 use Rattle.gl_machine.specs.Env.{Env, class_no, program_no, symbols_at}
-use Rattle.gl_machine.specs.Placed.{Fits, IsOf, BodyThere, PlacedIn, Follows, RunsRight}
+use Rattle.gl_machine.specs.Placed.{Fits, BodyThere, PlacedIn, Follows, RunsRight, RunsEnd}
 use Rattle.gl_machine.specs.Root.{PlacedRoot, append_page}
 use Rattle.gl_machine.proofs.Following.{follow_on}
 use Rattle.gl_machine.proofs.Sound.{Sound}
 use Rattle.gl_machine.proofs.Getters.{known_none}
 use Rattle.gl_machine.proofs.Layers.{cells_named}
+use Rattle.gl_machine.proofs.Right.{deep_told, ok_told}
 
-module _ (env : Env) (store : Store) (run : Runs) (runs : RunsRight env store run) (sound : Sound env) where
-  pub page_grows : (q : ℕ) → class_number env.manifest env.app.root ≡ Some q → (m : ℕ) (st : State)
-      → Follows (PlacedRoot env) live_of is_deep (append_page m env store run q st) (grow_components m env.app store [] [] [] None mnothing st)
-  page_grows q number zero st = refl
-  page_grows q number (suc m) st =
+known_so : {A B : Type 0} (o : Outcome A) (g : A → B) → (o ≡ lost → ⊥) → on_ok o (λ r. ok (g r)) ≡ lost → ⊥
+known_so (ok x) g told e = ok_told (g x) e
+known_so deep g told e = deep_told e
+known_so lost g told e = told refl
+
+-- what is done with an answer ends where the answer does
+ends_on : {A B : Type 0} (f : ℕ → Outcome A) (g : A → B) → Ends f → Ends (λ n. on_ok (f n) (λ r. ok (g r)))
+ends_on f g (n, o, told, same) = (n, on_ok o (λ r. ok (g r)), known_so o g told, λ k less. ap (λ x. on_ok x (λ r. ok (g r))) (same k less))
+
+-- where the root's class begins
+module _ (env : Env) (store : Store) (sound : Sound env) (q : ℕ) (number : class_number env.manifest env.app.root ≡ Some q) (st : State) where
+  abbrev fs : List (Text × Plain)
+  fs = (class_named env.app.root env.app.classes).fields
+
+  same_fields : fs ≡ (class_no env q).fields
+  same_fields = ap (λ k. k.fields) (sound.classes env.app.root q number).class
+
+  abbrev root_inst : List (Text × Plain) → Inst
+  root_inst fs = let c = grow_cells env.app store [] fs st in record { id = c.state.next an_instance; path = []; cells = c.names }
+
+  abbrev ms : MScope
+  ms = mscope (root_inst fs) [] [] mnothing
+
+  abbrev template : Body
+  template = (class_named env.app.root env.app.classes).template
+
+  root_fits : Fits env q ms not_passed
+  root_fits = record {
+    known = known_none (symbols_at env q);
+    is = record { cells = cells_named env store [] fs st ∙ ap keys same_fields; class = (sound.classes env.app.root q number).class };
+    passes = refl;
+  }
+
+  root_there : BodyThere env q [] 0 template
+  root_there =
       let low = sound.classes env.app.root q number in
-      let same_fields = ap (λ k. k.fields) low.class in
-      let fs = (class_named env.app.root env.app.classes).fields in
+      let (last, at_body, at_done) = low.lowered in (
+        last, _, op.Done, subst (λ y. BodyAt (program_no env q) env.manifest (class_no env q) (symbols_of (class_named y env.app.classes).template) [] 0 template last) (sym low.name) at_body,
+        at_done, record {}, subst (λ y. HasParamsIn (symbols_of (class_named y env.app.classes).template) template) (sym low.name) low.params,
+      )
+
+  abbrev from_root : Runs → ℕ → List (Text × Plain) → Outcome (Code × State)
+  from_root run m fs' =
+      let c = grow_cells env.app store [] fs' st in
+      let i = root_inst fs' in
+      on_ok (run (start (sight q i [] [] not_passed) 0 [] m) (make an_instance (instance_row i) c.state)) (λ r. ok (component_code i (instance_id i.id ∷ ([] ++ c.made)) [] [] None r.0, r.1))
+
+  pub page_grows : (run : Runs) → RunsRight env store run → (m : ℕ)
+      → Follows (PlacedRoot env) live_of is_deep (append_page m env store run q st) (grow_components m env.app store [] [] [] None mnothing st)
+  page_grows run runs zero = refl
+  page_grows run runs (suc m) =
       let c = grow_cells env.app store [] fs st in
-      let i : Inst = record { id = c.state.next an_instance; path = []; cells = c.names } in
+      let i = root_inst fs in
       let st1 = make an_instance (instance_row i) c.state in
-      let ms : MScope = mscope i [] [] mnothing in
-      let t = (class_named env.app.root env.app.classes).template in
-      let z = grow_components (suc m) env.app store [] [] [] None mnothing st in
-      let is : IsOf env q i = record { cells = cells_named env store [] fs st ∙ ap keys same_fields; class = low.class } in
-      let fits : Fits env q ms not_passed = record { known = known_none (symbols_at env q); is = is; passes = refl } in
-      let (last, at_body, at_done) = low.lowered in
-      let there : BodyThere env q [] 0 t = (
-        last,
-        _,
-        op.Done,
-        subst (λ y. BodyAt (program_no env q) env.manifest (class_no env q) (symbols_of (class_named y env.app.classes).template) [] 0 t last) (sym low.name) at_body,
-        at_done,
-        record {},
-        subst (λ y. HasParamsIn (symbols_of (class_named y env.app.classes).template) t) (sym low.name) low.params,
-      ) in
-      subst (λ fs'. Follows (PlacedRoot env) live_of is_deep
-      (let c' = grow_cells env.app store [] fs' st in
-      let i' : Inst = record { id = c'.state.next an_instance; path = []; cells = c'.names } in
-      on_ok (run (start (sight q i' [] [] not_passed) 0 [] m) (make an_instance (instance_row i') c'.state))
-      (λ r. ok (component_code i' (instance_id i'.id ∷ ([] ++ c'.made)) [] [] None r.0, r.1))) z) same_fields
-      (follow_on (PlacedIn env q ms not_passed [] 0 t) lives_of are_deep (PlacedRoot env) live_of is_deep
-      (run (start (sight q i [] [] not_passed) 0 [] m) st1) (fresh_body env.app store m ms [] t st1)
-      (λ r. ok (component_code i (instance_id i.id ∷ ([] ++ c.made)) [] [] None r.0, r.1)) (λ r. (component_live i (instance_id i.id ∷ ([] ++ c.made)) [] [] None r.0, r.1))
-      (runs q ms not_passed fits 0 t there [] m st1) (λ r d. d) (λ r fine placed. (refl, fine, (q, placed))))
+      subst (λ fs'. Follows (PlacedRoot env) live_of is_deep (from_root run m fs') (grow_components (suc m) env.app store [] [] [] None mnothing st)) same_fields
+      (follow_on (PlacedIn env q ms not_passed [] 0 template) lives_of are_deep (PlacedRoot env) live_of is_deep
+        (run (start (sight q i [] [] not_passed) 0 [] m) st1) (fresh_body env.app store m ms [] template st1)
+        (λ r. ok (component_code i (instance_id i.id ∷ ([] ++ c.made)) [] [] None r.0, r.1)) (λ r. (component_live i (instance_id i.id ∷ ([] ++ c.made)) [] [] None r.0, r.1))
+        (runs q ms not_passed root_fits 0 template root_there [] m st1) (λ r d. d) (λ r fine placed. (refl, fine, (q, placed))))
+
+  pub page_ends : (run : ℕ → Runs) → RunsEnd env store run → (m : ℕ) → Ends (λ n. append_page m env store (run n) q st)
+  page_ends run runs zero = (0, deep, deep_told, λ k less. refl)
+  page_ends run runs (suc m) =
+      let c = grow_cells env.app store [] fs st in
+      let i = root_inst fs in
+      let st1 = make an_instance (instance_row i) c.state in
+      subst (λ fs'. Ends (λ n. from_root (run n) m fs')) same_fields
+      (ends_on (λ n. run n (start (sight q i [] [] not_passed) 0 [] m) st1) (λ r. (component_code i (instance_id i.id ∷ ([] ++ c.made)) [] [] None r.0, r.1))
+        (runs q ms not_passed root_fits 0 template root_there [] m st1))

@@ -10,8 +10,9 @@ use Rattle.gl_plain.specs.Live.{is_deep}
 use Rattle.gl_plain.specs.Grow.{grow_app}
 use Rattle.gl_plain.specs.Renew.{renew_app}
 use Rattle.gl_machine.specs.Code.{Code, live_of}
+use Rattle.gl_machine.specs.Outcome.{Ends}
 use Rattle.gl_machine.specs.Env.{Env}
-use Rattle.gl_machine.specs.Placed.{Follows, RunsRight}
+use Rattle.gl_machine.specs.Placed.{Follows, RunsRight, RunsEnd}
 use Rattle.gl_machine.specs.Step.{run_for}
 use Rattle.gl_machine.specs.Root.{PlacedRoot, append_page, renew_root_code}
 
@@ -23,6 +24,15 @@ AllLowered env = (templates : List Body) × (env.app ≡ app_of env.manifest tem
 -- What is run from an address appends what the tree says.
 abbrev pub WordsAppend : Type 0
 WordsAppend = (env : Env) (store : Store) → AllLowered env → (n : ℕ) → RunsRight env store (run_for env store n)
+
+-- It ends.
+abbrev pub WordsEnd : Type 0
+WordsEnd = (env : Env) (store : Store) → AllLowered env → RunsEnd env store (run_for env store)
+
+abbrev pub PageEnds : Type 0
+PageEnds =
+    (env : Env) (store : Store) → AllLowered env → (q : ℕ) → class_number env.manifest env.app.root ≡ Some q → (st : State)
+    → Ends (λ n. append_page env.app.limit env store (run_for env store n) q st)
 
 -- The whole page, appended and updated within n steps for each body that is appended.
 abbrev pub PageAppends : Type 0

@@ -18,7 +18,7 @@ use Rattle.gl_plain.specs.Live.{Lives, is_deep, are_deep}
 use Rattle.gl_plain.specs.Renew.{fresh_body, renew}
 use Rattle.gl_machine.specs.Sight.{Passing, not_passed, passing}
 use Rattle.gl_machine.specs.Code.{Choice, Listing, Code, still_code, put_code, element_code, branch_code, listed_code, unlisted_code, let_code, component_code, yield_code, ItemCodes, no_item_codes, item_code, Codes, no_codes, code_and, live_of, lives_of}
-use Rattle.gl_machine.specs.Outcome.{Outcome, ok, deep, lost}
+use Rattle.gl_machine.specs.Outcome.{Outcome, ok, deep, lost, Ends}
 use Rattle.gl_machine.specs.RenewCode.{Runs, start, renew_code}
 use Rattle.gl_machine.specs.Params.{Known, TwoKnown, HasParamsIn}
 use Rattle.gl_machine.specs.Env.{Env, class_no, program_no, symbols_at, texts_of, seen}
@@ -138,6 +138,12 @@ RunsRight env store run =
     (c : ℕ) (ms : MScope) (w : Passing) → Fits env c ms w → (from : ℕ) (b : Body) → BodyThere env c (texts_of (s.locals_in ms)) from b
     → (p : Path) (m : ℕ) (st : State)
     → FollowsIn (PlacedIn env c ms w p 0 b) (run (start (seen env c ms w) from p m) st) (fresh_body env.app store m ms p b st)
+
+-- With enough steps it ends. `run` takes how many it may make.
+abbrev pub RunsEnd : Env → Store → (ℕ → Runs) → Type 0
+RunsEnd env store run =
+    (c : ℕ) (ms : MScope) (w : Passing) → Fits env c ms w → (from : ℕ) (b : Body) → BodyThere env c (texts_of (s.locals_in ms)) from b
+    → (p : Path) (m : ℕ) (st : State) → Ends (λ n. run n (start (seen env c ms w) from p m) st)
 
 -- The law of the recorded program.
 abbrev pub RenewsRight : Type 0
