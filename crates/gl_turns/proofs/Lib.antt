@@ -1,3 +1,6 @@
 pub mod Sites
 pub mod Kept
 pub mod Agrees
+pub mod Found
+pub mod Listed
+pub mod Numbered

@@ -203,3 +203,10 @@ mutual
 
 pub arm_counted : (p : Path) (k : Option ℕ) (ls : Lives) → FitsIn p 0 ls → Counted (λ q. times_in q ls + times_comment q k) (places_in p 0 ls ++ comment_places p k)
 arm_counted p k ls f = counted_arm p k ls (body_counted p 0 ls f)
+
+pub root_counted : (l : Live) → Rattle.gl_turns.specs.Fits.FitsRoot l → Counted (λ q. times q l) (places [] l)
+root_counted (Live.component_live i made gm args b ls) f =
+    counted_cons (λ q. times q (Live.component_live i made gm args b ls)) (instance_place i.path i) (places_in i.path 0 ls) (left_above _ _ f.1)
+    (λ a m. right_above _ _ (body_counted i.path 0 ls (subst (λ q. FitsIn q 0 ls) (sym f.0) f.2) a m))
+root_counted (Live.deep_live q) f = λ a m. absurd m
+root_counted _ f = absurd f

@@ -1,2 +1,4 @@
 pub mod Places
 pub mod Fits
+pub mod Numbers
+pub mod Laws

@@ -1,5 +1,10 @@
 //! The laws of the machine's turns. Each function does nothing: its contract is the law.
 
-/// Nothing yet.
-pub fn nothing()
+ghost use Rattle.gl_turns.specs.Laws.{AppendedNumbers, UpdatedNumbers, UpdatedMadeCount};
+
+/// The ids of nodes are the numbers that the meaning gives to their paths, and as many are made as it counts.
+pub fn numbers()
+    ensures appended { AppendedNumbers }
+    ensures updated { UpdatedNumbers }
+    ensures made { UpdatedMadeCount }
 {}

@@ -1,0 +1,32 @@
+-- The laws of the machine's turns.
+use Rattle.std.specs.Prelude.{◌≡◌, ◌+◌, []}
+use Rattle.gl_meaning.specs.App.{App}
+use Rattle.gl_meaning.specs.Eval.{Store}
+use Rattle.gl_meaning.specs.Render.{draw}
+use Rattle.gl_meaning.specs.Changes.{Numbers, number, Sets}
+use Rattle.gl_meaning.specs.Work.{work}
+use Rattle.gl_plain.specs.Ids.{a_node}
+use Rattle.gl_plain.specs.State.{State}
+use Rattle.gl_plain.specs.Live.{Live}
+use Rattle.gl_plain.specs.Grow.{grow_app}
+use Rattle.gl_plain.specs.Renew.{renew_app}
+use Rattle.gl_plain.specs.Machine.{StandsFor, OnlyTouched}
+use Rattle.gl_turns.specs.Numbers.{numbers_of}
+
+-- Ids by path
+
+-- The ids of nodes are the numbers that the meaning gives: what is appended is numbered as a rendering where no path has a number yet,
+abbrev pub AppendedNumbers : Type 0
+AppendedNumbers = (app : App) (τ : Store) (st : State) → let r = grow_app app τ st in numbers_of r.1 r.0 ≡ number (record { of = []; next = st.next a_node }) (draw app τ)
+
+-- and after an update the node at a path that persists is the same, and the others are new, in document order.
+abbrev pub UpdatedNumbers : Type 0
+UpdatedNumbers =
+    (app : App) (σ τ : Store) (st : State) (l : Live) → StandsFor app σ τ st l → OnlyTouched app σ τ st
+    → let r = renew_app app τ l st in numbers_of r.1 r.0 ≡ number (numbers_of st l) (draw app τ)
+
+-- As many nodes are made as the meaning counts: those at a path that is new.
+abbrev pub UpdatedMadeCount : Type 0
+UpdatedMadeCount =
+    (app : App) (σ τ : Store) (sets : Sets) (st : State) (l : Live) → StandsFor app σ τ st l → OnlyTouched app σ τ st
+    → (renew_app app τ l st).1.next a_node ≡ st.next a_node + (work (draw app σ) (draw app τ) sets).made
