@@ -4,3 +4,4 @@ pub mod Agrees
 pub mod Found
 pub mod Listed
 pub mod Numbered
+pub mod Touched
