@@ -53,7 +53,7 @@ none_pass : (test : ℕ → Bool) (xs : List ℕ) → Fails test xs → filter t
 none_pass test [] h = refl
 none_pass test (x ∷ xs) h = ap (λ b. cond b (x ∷ filter test xs) (filter test xs)) h.0 ∙ none_pass test xs h.1
 
-runs_le : (n m : ℕ) (xs : List ℕ) → Runs n xs m → n ≤ m
+pub runs_le : (n m : ℕ) (xs : List ℕ) → Runs n xs m → n ≤ m
 runs_le n m [] h = omega (arith, h)
 runs_le n m (x ∷ xs) h = let k = runs_le (suc n) m xs h.1 in omega (arith, k)
 

@@ -5,3 +5,4 @@ pub mod Found
 pub mod Listed
 pub mod Numbered
 pub mod Touched
+pub mod Touching

@@ -57,25 +57,25 @@ source_equal (item_index p) (item_index q) e = ap item_index ((path-Decides p q)
 source_equal _ _ e = absurd (true≢false (sym e))
 
 -- A step that touches nothing, and gives no source a value.
-record Quiet (st st' : State) : Type 0 where
-  more : st.next a_ref ≤ st'.next a_ref
-  same_touched : (x : Source) → st'.touched x ≡ st.touched x
-  back : (r : ℕ) (x : Source) (v : V) → r < st.next a_ref → st'.look (ref r) ≡ source_row x v → st.look (ref r) ≡ source_row x v
+pub record Quiet (st st' : State) : Type 0 where
+  pub more : st.next a_ref ≤ st'.next a_ref
+  pub same_touched : (x : Source) → st'.touched x ≡ st.touched x
+  pub back : (r : ℕ) (x : Source) (v : V) → r < st.next a_ref → st'.look (ref r) ≡ source_row x v → st.look (ref r) ≡ source_row x v
 
-quiet_all : (st : State) → Quiet st st
+pub quiet_all : (st : State) → Quiet st st
 quiet_all st = record { more = omega arith; same_touched = λ x. refl; back = λ r x v lt e. e }
 
-quiet_then : (st st1 st2 : State) → Quiet st st1 → Quiet st1 st2 → Quiet st st2
+pub quiet_then : (st st1 st2 : State) → Quiet st st1 → Quiet st1 st2 → Quiet st st2
 quiet_then st st1 st2 h g = record {
   more = let i = h.more in let j = g.more in omega (arith, i, j);
   same_touched = λ x. g.same_touched x ∙ h.same_touched x;
   back = λ r x v lt e. h.back r x v lt (g.back r x v (let i = h.more in omega (arith, i, lt)) e);
 }
 
-quiet_leaves : (st st' : State) → Leaves st st' → Quiet st st'
+pub quiet_leaves : (st st' : State) → Leaves st st' → Quiet st st'
 quiet_leaves st st' h = record { more = h.more; same_touched = h.touches; back = λ r x v lt e. sym (h.rows r lt) ∙ e }
 
-quiet_drop : (count : Id → ℕ) (st : State) → Quiet st (dropped count st)
+pub quiet_drop : (count : Id → ℕ) (st : State) → Quiet st (dropped count st)
 quiet_drop count st = record {
   more = omega arith;
   same_touched = λ x. refl;
@@ -94,20 +94,20 @@ quiet_one st x z a n e f l true = record { more = omega (arith, e); same_touched
   by r y v true g = absurd (no_source a n y v g)
   by r y v false g = g
 
-quiet_reread : (r : ℕ) (st : State) → Quiet st (reread r st)
+pub quiet_reread : (r : ℕ) (st : State) → Quiet st (reread r st)
 quiet_reread r st = quiet_one st (evaluate r st) r _ refl refl (λ y. refl) (λ i. refl) (is_stale st r)
 
-quiet_text : (n r : ℕ) (st : State) → Quiet st (renew_text n r st)
+pub quiet_text : (n r : ℕ) (st : State) → Quiet st (renew_text n r st)
 quiet_text n r st = quiet_one st (put_thing (node n) (content (text_content (text_of (first_value (spot_pairs st r))))) (evaluate r st)) r _ refl refl (λ y. refl) (λ i. refl) (is_stale st r)
 
-quiet_attrs : (n : ℕ) (xs : List AttrSpot) (st : State) → Quiet st (renew_attrs n xs st)
+pub quiet_attrs : (n : ℕ) (xs : List AttrSpot) (st : State) → Quiet st (renew_attrs n xs st)
 quiet_attrs n [] st = quiet_all st
 quiet_attrs n (a ∷ xs) st =
     let x = put_thing (node n) (content (changed_attr a.name (attribute_value (spot_pairs st a.spot.ref)) (st.look (node n)))) (evaluate a.spot.ref st) in
     let st1 : State = if is_stale st a.spot.ref then x else st in
     quiet_then st st1 (renew_attrs n xs st1) (quiet_one st x a.spot.ref _ refl refl (λ y. refl) (λ i. refl) (is_stale st a.spot.ref)) (quiet_attrs n xs st1)
 
-quiet_mods : (zs : List ModSpot) (st : State) → Quiet st (renew_mods zs st)
+pub quiet_mods : (zs : List ModSpot) (st : State) → Quiet st (renew_mods zs st)
 quiet_mods [] st = quiet_all st
 quiet_mods (z ∷ zs) st =
     let x = note_updated z.id (put_thing (modifier_id z.id) (modifier_row (refreshed z (values_in (spot_pairs st z.spot.ref)) (st.look (modifier_id z.id)))) (evaluate z.spot.ref st)) in
@@ -136,7 +136,7 @@ module _ (st0 : State) where
     pub back : (r : ℕ) (x : Source) (v : V) → r < st.next a_ref → st'.look (ref r) ≡ source_row x v → (st.look (ref r) ≡ source_row x v) ⊎ (st'.touched x ≡ true)
     pub given : (x : Source) → st'.touched x ≡ true → (st.touched x ≡ true) ⊎ Changed st' count os ns x
 
-  touch_quiet : (st st' : State) (count : Id → ℕ) (os ns : List Place) → Quiet st st' → Touches st st' count os ns
+  pub touch_quiet : (st st' : State) (count : Id → ℕ) (os ns : List Place) → Quiet st st' → Touches st st' count os ns
   touch_quiet st st' count os ns h = record {
     cells = λ i x. h.same_touched (cell i x);
     more = h.more;
@@ -146,7 +146,7 @@ module _ (st0 : State) where
   }
 
   -- more around it
-  wide : (st st' : State) (a b : Id → ℕ) (os os' ns ns' : List Place) → ((r : ℕ) → a (ref r) ≤ b (ref r)) → ((z : Place) → Among z os → Among z os') → ((z : Place) → Among z ns → Among z ns')
+  pub wide : (st st' : State) (a b : Id → ℕ) (os os' ns ns' : List Place) → ((r : ℕ) → a (ref r) ≤ b (ref r)) → ((z : Place) → Among z os → Among z os') → ((z : Place) → Among z ns → Among z ns')
       → Touches st st' a os ns → Touches st st' b os' ns'
   wide st st' a b os os' ns ns' le io in' h = record { cells = h.cells; more = h.more; still = h.still; back = h.back; given = λ x e. by x (h.given x e) } where
     by : (x : Source) → ((st.touched x ≡ true) ⊎ Changed st' a os ns x) → ((st.touched x ≡ true) ⊎ Changed st' b os' ns' x)
@@ -165,7 +165,7 @@ module _ (st0 : State) where
     })
 
   -- something quiet before it
-  quiet_before : (st st1 st2 : State) (count : Id → ℕ) (os ns : List Place) → Quiet st st1 → Touches st1 st2 count os ns → Touches st st2 count os ns
+  pub quiet_before : (st st1 st2 : State) (count : Id → ℕ) (os ns : List Place) → Quiet st st1 → Touches st1 st2 count os ns → Touches st st2 count os ns
   quiet_before st st1 st2 count os ns q h = record {
     cells = λ i x. h.cells i x ∙ q.same_touched (cell i x);
     more = let i = q.more in let j = h.more in omega (arith, i, j);
@@ -191,14 +191,14 @@ module _ (st0 : State) where
   abbrev pub Frames : State → State → (Id → ℕ) → Type 0
   Frames st st' count = (r : ℕ) → r < st0.next a_ref → count (ref r) ≡ 0 → st'.look (ref r) ≡ st.look (ref r)
 
-  own_after : (st st1 : State) (a b : Id → ℕ) → Ow st (λ q. a q + b q) → Frames st st1 a → Ow st1 b
+  pub own_after : (st st1 : State) (a b : Id → ℕ) → Ow st (λ q. a q + b q) → Frames st st1 a → Ow st1 b
   own_after st st1 a b o f = record {
     once = λ r. let i = o.once r in omega (arith, i);
     low = λ r w. o.low r (omega (arith, w));
     rows = λ r w. f r (o.low r (omega (arith, w))) (let i = o.once r in omega (arith, i, w)) ∙ o.rows r (omega (arith, w));
   }
 
-  own_of : (st : State) (count part : Id → ℕ) → ((r : ℕ) → part (ref r) ≤ count (ref r)) → Ow st count → Ow st part
+  pub own_of : (st : State) (count part : Id → ℕ) → ((r : ℕ) → part (ref r) ≤ count (ref r)) → Ow st count → Ow st part
   own_of st count part le o = record {
     once = λ r. let h = o.once r in let j = le r in omega (arith, h, j);
     low = λ r w. o.low r (let j = le r in omega (arith, w, j));
@@ -206,7 +206,7 @@ module _ (st0 : State) where
   }
 
   -- one part after another
-  both_touch : (st st1 st2 : State) (a b : Id → ℕ) (os ns : List Place) → Ow st (λ q. a q + b q) → Frames st1 st2 b → Touches st st1 a os ns → Touches st1 st2 b os ns → Touches st st2 (λ q. a q + b q) os ns
+  pub both_touch : (st st1 st2 : State) (a b : Id → ℕ) (os ns : List Place) → Ow st (λ q. a q + b q) → Frames st1 st2 b → Touches st st1 a os ns → Touches st1 st2 b os ns → Touches st st2 (λ q. a q + b q) os ns
   both_touch st st1 st2 a b os ns o f h g = record {
     cells = λ i x. g.cells i x ∙ h.cells i x;
     more = let i = h.more in let j = g.more in omega (arith, i, j);
@@ -252,7 +252,7 @@ module _ (st0 : State) where
       differs = c.differs;
     })
 
-  join_touch : (st st1 st2 : State) (a b : Id → ℕ) (os os' ns ns' : List Place) → Ow st (λ q. a q + b q) → Frames st1 st2 b → Touches st st1 a os ns → Touches st1 st2 b os' ns'
+  pub join_touch : (st st1 st2 : State) (a b : Id → ℕ) (os os' ns ns' : List Place) → Ow st (λ q. a q + b q) → Frames st1 st2 b → Touches st st1 a os ns → Touches st1 st2 b os' ns'
       → Touches st st2 (λ q. a q + b q) (os ++ os') (ns ++ ns')
   join_touch st st1 st2 a b os os' ns ns' o f h g =
       both_touch st st1 st2 a b (os ++ os') (ns ++ ns') o f
@@ -261,7 +261,7 @@ module _ (st0 : State) where
 
   -- Giving
 
-  give_touches : (st : State) (r : ℕ) (x : Source) (v : V) (os ns : List Place) (path : Path) (spot : ItemSpot) → Among (item_place path spot) os → Among (item_place path spot) ns
+  pub give_touches : (st : State) (r : ℕ) (x : Source) (v : V) (os ns : List Place) (path : Path) (spot : ItemSpot) → Among (item_place path spot) os → Among (item_place path spot) ns
       → ((x ≡ item_value path) × (r ≡ spot.value)) ⊎ ((x ≡ item_index path) × (r ≡ spot.index)) → st.look (ref r) ≡ st0.look (ref r)
       → ((i : Path) (n : Text) → source_eq (cell i n) x ≡ false) → Touches st (give r x v st) (λ q. hit q (ref r)) os ns
   give_touches st r x v os ns path spot bf af is old no_cell = by (same path_eq (held_value (st.look (ref r))) v) refl where
