@@ -38,7 +38,7 @@ mapped_from f y [] m = absurd m
 mapped_from f y (x ∷ xs) (inl e) = (x, inl refl, e)
 mapped_from f y (x ∷ xs) (inr m) = let h = mapped_from f y xs m in (h.0, inr h.1, h.2)
 
-path_other : (p q : Path) → (p ≡ q → ⊥) → path_eq p q ≡ false
+pub path_other : (p q : Path) → (p ≡ q → ⊥) → path_eq p q ≡ false
 path_other p q d = by (path_eq p q) refl where
   by : (b : Bool) → path_eq p q ≡ b → path_eq p q ≡ false
   by true e = absurd (d (path_means p q e))

@@ -6,3 +6,5 @@ pub mod Listed
 pub mod Numbered
 pub mod Touched
 pub mod Touching
+pub mod Sources
+pub mod Evaluated

@@ -72,7 +72,7 @@ numbered first old (z ∷ zs) n m h r = by h.0 (numbered first old zs) where
 
 -- The nodes of a tree that stands
 
-tree_agrees : (app : App) (σ τ : Store) (st : State) (l : Live) → StandsFor app σ τ st l → Agree st.look (places [] l) (Rattle.gl_meaning.specs.Changes.pieces (draw app σ)) × FitsRoot l
+pub tree_agrees : (app : App) (σ τ : Store) (st : State) (l : Live) → StandsFor app σ τ st l → Agree st.look (places [] l) (Rattle.gl_meaning.specs.Changes.pieces (draw app σ)) × FitsRoot l
 tree_agrees app σ τ st l h = root_shown st.look app σ τ app.limit l h.stands
 
 tree_nodes : (app : App) (σ τ : Store) (st : State) (l : Live) → StandsFor app σ τ st l → map (λ z. z.0) (filter_map node_in (places [] l)) ≡ nodes (draw app σ)

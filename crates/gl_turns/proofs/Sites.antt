@@ -11,7 +11,7 @@ use Rattle.gl_plain.specs.Live.{AttrSpot, ModSpot, Live, Lives, Items, item_made
 use Rattle.gl_plain.proofs.Moves.{hit_self}
 use Rattle.gl_plain.proofs.Stay.{left_above, right_above}
 use Rattle.gl_plain.proofs.Apart.{Into, FromStep, into_more}
-use Rattle.gl_turns.specs.Places.{Place, node_place, position_place, item_place, instance_place, modifier_place, path_of, id_of, comment_places, attr_places, mod_places, places, places_items, places_in}
+use Rattle.gl_turns.specs.Places.{Place, node_place, position_place, item_place, instance_place, modifier_place, path_of, id_by, id_of, comment_places, attr_places, mod_places, places, places_items, places_in}
 use Rattle.gl_turns.specs.Fits.{StepsIn, AttrsOwn, ModsOwn, Fits, FitsItems, FitsIn}
 
 -- each of the places stands below p, at one of these steps
@@ -134,79 +134,102 @@ mutual
       sited_join p (FromStep i) (places (at i ∷ p) l) (places_in p (suc i) ls) (at_step (at i) p (FromStep i) (places (at i ∷ p) l) (part_sited (at i ∷ p) l f.0) (i, omega arith, refl))
       (sited_more p (FromStep (suc i)) (FromStep i) (places_in p (suc i) ls) (λ l w. (w.0, (let e = w.1 in omega (arith, e)), w.2)) (body_sited p (suc i) ls f.1))
 
--- Each is counted in the part.
+-- Each is counted in the part: an item by one of its references that was made for it.
+module _ (num : Rattle.gl_plain.specs.Live.ItemSpot → ℕ) (mine : (z : Rattle.gl_plain.specs.Live.ItemSpot) → 0 < occurs (ref (num z)) (item_made z)) where
+
+  abbrev pub CountedBy : (Id → ℕ) → List Place → Type 0
+  CountedBy count xs = (a : Place) → Among a xs → 0 < count (id_by num a)
+
+  counted_join : (c d : Id → ℕ) (xs ys : List Place) → CountedBy c xs → CountedBy d ys → CountedBy (λ q. c q + d q) (xs ++ ys)
+  counted_join c d xs ys f g a m = elim (among_either a xs ys m) [ inl k ↦ left_above _ _ (f a k) | inr k ↦ right_above _ _ (g a k) ]
+
+  counted_cons : (c : Id → ℕ) (x : Place) (xs : List Place) → 0 < c (id_by num x) → CountedBy c xs → CountedBy c (x ∷ xs)
+  counted_cons c x xs w f a (inl e) = subst (λ b. 0 < c (id_by num b)) (sym e) w
+  counted_cons c x xs w f a (inr m) = f a m
+
+  comment_counted : (p : Path) (k : Option ℕ) → CountedBy (λ q. times_comment q k) (comment_places p k)
+  comment_counted p None = λ a m. absurd m
+  comment_counted p (Some n) = counted_cons (λ q. times_comment q (Some n)) (node_place (empty ∷ p) n) [] (hit_self (node n)) (λ a m. absurd m)
+
+  attrs_counted : (p : Path) (xs : List AttrSpot) → AttrsOwn xs → CountedBy (λ q. times_attrs q xs) (attr_places p xs)
+  attrs_counted p [] o = λ a m. absurd m
+  attrs_counted p (x ∷ xs) o = counted_cons (λ q. times_attrs q (x ∷ xs)) _ (attr_places p xs) (left_above _ _ o.0) (λ a m. right_above _ _ (attrs_counted p xs o.1 a m))
+
+  mods_counted : (p : Path) (i : ℕ) (zs : List ModSpot) → ModsOwn zs → CountedBy (λ q. times_mods q zs) (mod_places p i zs)
+  mods_counted p i [] o = λ a m. absurd m
+  mods_counted p i (z ∷ zs) o =
+      let c : Id → ℕ = λ q. times_mods q (z ∷ zs) in
+      let y = modifier_place (modifier_at i ∷ p) z.id in
+      let rest = mod_places p (suc i) zs in
+      counted_cons c (position_place (modifier_at i ∷ p) z.spot.ref) (y ∷ rest) (left_above _ _ (right_above _ _ o.0))
+      (counted_cons c y rest (left_above (hit (modifier_id z.id) (modifier_id z.id) + occurs (modifier_id z.id) z.spot.made) (times_mods (modifier_id z.id) zs) (left_above _ _ (hit_self (modifier_id z.id)))) (λ a m. right_above _ _ (mods_counted p (suc i) zs o.1 a m)))
+
+  counted_arm : (p : Path) (k : Option ℕ) (ls : Lives) → CountedBy (λ q. times_in q ls) (places_in p 0 ls) → CountedBy (λ q. times_in q ls + times_comment q k) (places_in p 0 ls ++ comment_places p k)
+  counted_arm p k ls h = counted_join (λ q. times_in q ls) (λ q. times_comment q k) (places_in p 0 ls) (comment_places p k) h (comment_counted p k)
+
+  mutual
+    pub part_counted_by : (p : Path) (l : Live) → Fits p l → CountedBy (λ q. times q l) (places p l)
+    part_counted_by p (Live.still n) f = counted_cons (λ q. times q (Live.still n)) (node_place p n) [] (hit_self (node n)) (λ a m. absurd m)
+    part_counted_by p (Live.put_live n z) f =
+        counted_cons (λ q. times q (Live.put_live n z)) (position_place p z.ref) (node_place p n ∷ []) (right_above _ _ f)
+        (counted_cons (λ q. times q (Live.put_live n z)) (node_place p n) [] (left_above _ _ (hit_self (node n))) (λ a m. absurd m))
+    part_counted_by p (Live.element_live n made xs zs ls) f =
+        counted_cons (λ q. times q (Live.element_live n made xs zs ls)) (node_place p n) _ (left_above _ _ (left_above _ _ (hit_self (node n))))
+        (λ a m. elim (among_either a (attr_places p xs) (places_in p 0 ls ++ mod_places p 0 zs) m) [
+          | inl k ↦ left_above _ _ (right_above _ _ (right_above _ _ (attrs_counted p xs f.0 a k)))
+          | inr k ↦ right_above _ _ (counted_join (λ q. times_in q ls) (λ q. times_mods q zs) (places_in p 0 ls) (mod_places p 0 zs) (body_counted_by p 0 ls f.2) (mods_counted p 0 zs f.1) a k)
+        ])
+    part_counted_by p (Live.branch_live z true k ls) f = counted_cons (λ q. times q (Live.branch_live z true k ls)) (position_place p z.ref) _ (left_above _ _ f.0) (λ a m. right_above _ _ (counted_arm (main ∷ p) k ls (body_counted_by (main ∷ p) 0 ls f.1) a m))
+    part_counted_by p (Live.branch_live z false k ls) f = counted_cons (λ q. times q (Live.branch_live z false k ls)) (position_place p z.ref) _ (left_above _ _ f.0) (λ a m. right_above _ _ (counted_arm (otherwise ∷ p) k ls (body_counted_by (otherwise ∷ p) 0 ls f.1) a m))
+    part_counted_by p (Live.listed z is) f = counted_cons (λ q. times q (Live.listed z is)) (position_place p z.ref) _ (left_above _ _ f.0) (λ a m. right_above _ _ (items_counted_by (items ∷ p) is f.1 a m))
+    part_counted_by p (Live.unlisted z k ls) f = counted_cons (λ q. times q (Live.unlisted z k ls)) (position_place p z.ref) _ (left_above _ _ f.0) (λ a m. right_above _ _ (counted_arm (otherwise ∷ p) k ls (body_counted_by (otherwise ∷ p) 0 ls f.1) a m))
+    part_counted_by p (Live.let_live made rs ls) f = λ a m. right_above _ _ (body_counted_by (main ∷ p) 0 ls f a m)
+    part_counted_by p (Live.component_live i made gm args b ls) f =
+        counted_cons (λ q. times q (Live.component_live i made gm args b ls)) (instance_place i.path i) (places_in i.path 0 ls) (left_above _ _ f.2) (λ a m. right_above _ _ (body_counted_by i.path 0 ls f.3 a m))
+    part_counted_by p (Live.yield_live n made rs ls) f = λ a m. right_above _ _ (body_counted_by (slot n ∷ p) 0 ls f a m)
+    part_counted_by p (Live.deep_live q) f = λ a m. absurd m
+
+    pub items_counted_by : (p : Path) (is : Items) → FitsItems p is → CountedBy (λ q. times_items q is) (places_items p is)
+    items_counted_by p Live.no_items f = λ a m. absurd m
+    items_counted_by p (Live.item_live z k ls is) f =
+        let q = item z.key z.occurrence ∷ p in
+        counted_cons (λ i. times_items i (Live.item_live z k ls is)) (item_place q z) _ (left_above _ _ (left_above _ _ (mine z)))
+        (counted_join (λ i. occurs i (item_made z) + (times_in i ls + times_comment i k)) (λ i. times_items i is) (places_in q 0 ls ++ comment_places q k) (places_items p is)
+        (λ a m. right_above _ _ (counted_arm q k ls (body_counted_by q 0 ls f.1) a m)) (items_counted_by p is f.2))
+
+    pub body_counted_by : (p : Path) (i : ℕ) (ls : Lives) → FitsIn p i ls → CountedBy (λ q. times_in q ls) (places_in p i ls)
+    body_counted_by p i Live.no_lives f = λ a m. absurd m
+    body_counted_by p i (Live.live_and l ls) f =
+        counted_join (λ q. times q l) (λ q. times_in q ls) (places (at i ∷ p) l) (places_in p (suc i) ls) (part_counted_by (at i ∷ p) l f.0) (body_counted_by p (suc i) ls f.1)
+
+  pub arm_counted_by : (p : Path) (k : Option ℕ) (ls : Lives) → FitsIn p 0 ls → CountedBy (λ q. times_in q ls + times_comment q k) (places_in p 0 ls ++ comment_places p k)
+  arm_counted_by p k ls f = counted_arm p k ls (body_counted_by p 0 ls f)
+
+  pub root_counted_by : (l : Live) → Rattle.gl_turns.specs.Fits.FitsRoot l → CountedBy (λ q. times q l) (places [] l)
+  root_counted_by (Live.component_live i made gm args b ls) f =
+      counted_cons (λ q. times q (Live.component_live i made gm args b ls)) (instance_place i.path i) (places_in i.path 0 ls) (left_above _ _ f.1)
+      (λ a m. right_above _ _ (body_counted_by i.path 0 ls (subst (λ q. FitsIn q 0 ls) (sym f.0) f.2) a m))
+  root_counted_by (Live.deep_live q) f = λ a m. absurd m
+  root_counted_by _ f = absurd f
 
 abbrev pub Counted : (Id → ℕ) → List Place → Type 0
 Counted count xs = (a : Place) → Among a xs → 0 < count (id_of a)
 
-counted_join : (c d : Id → ℕ) (xs ys : List Place) → Counted c xs → Counted d ys → Counted (λ q. c q + d q) (xs ++ ys)
-counted_join c d xs ys f g a m = elim (among_either a xs ys m) [ inl k ↦ left_above _ _ (f a k) | inr k ↦ right_above _ _ (g a k) ]
+value_made : (z : Rattle.gl_plain.specs.Live.ItemSpot) → 0 < occurs (ref z.value) (item_made z)
+value_made z = left_above _ _ (hit_self (ref z.value))
 
-counted_cons : (c : Id → ℕ) (x : Place) (xs : List Place) → 0 < c (id_of x) → Counted c xs → Counted c (x ∷ xs)
-counted_cons c x xs w f a (inl e) = subst (λ b. 0 < c (id_of b)) (sym e) w
-counted_cons c x xs w f a (inr m) = f a m
+index_made : (z : Rattle.gl_plain.specs.Live.ItemSpot) → 0 < occurs (ref z.index) (item_made z)
+index_made z = right_above (hit (ref z.index) (ref z.value)) _ (left_above _ _ (hit_self (ref z.index)))
 
-comment_counted : (p : Path) (k : Option ℕ) → Counted (λ q. times_comment q k) (comment_places p k)
-comment_counted p None = λ a m. absurd m
-comment_counted p (Some n) = counted_cons (λ q. times_comment q (Some n)) (node_place (empty ∷ p) n) [] (hit_self (node n)) (λ a m. absurd m)
-
-attrs_counted : (p : Path) (xs : List AttrSpot) → AttrsOwn xs → Counted (λ q. times_attrs q xs) (attr_places p xs)
-attrs_counted p [] o = λ a m. absurd m
-attrs_counted p (x ∷ xs) o = counted_cons (λ q. times_attrs q (x ∷ xs)) _ (attr_places p xs) (left_above _ _ o.0) (λ a m. right_above _ _ (attrs_counted p xs o.1 a m))
-
-mods_counted : (p : Path) (i : ℕ) (zs : List ModSpot) → ModsOwn zs → Counted (λ q. times_mods q zs) (mod_places p i zs)
-mods_counted p i [] o = λ a m. absurd m
-mods_counted p i (z ∷ zs) o =
-    let c : Id → ℕ = λ q. times_mods q (z ∷ zs) in
-    let y = modifier_place (modifier_at i ∷ p) z.id in
-    let rest = mod_places p (suc i) zs in
-    counted_cons c (position_place (modifier_at i ∷ p) z.spot.ref) (y ∷ rest) (left_above _ _ (right_above _ _ o.0))
-    (counted_cons c y rest (left_above (hit (modifier_id z.id) (modifier_id z.id) + occurs (modifier_id z.id) z.spot.made) (times_mods (modifier_id z.id) zs) (left_above _ _ (hit_self (modifier_id z.id)))) (λ a m. right_above _ _ (mods_counted p (suc i) zs o.1 a m)))
-
-counted_arm : (p : Path) (k : Option ℕ) (ls : Lives) → Counted (λ q. times_in q ls) (places_in p 0 ls) → Counted (λ q. times_in q ls + times_comment q k) (places_in p 0 ls ++ comment_places p k)
-counted_arm p k ls h = counted_join (λ q. times_in q ls) (λ q. times_comment q k) (places_in p 0 ls) (comment_places p k) h (comment_counted p k)
-
-mutual
-  pub part_counted : (p : Path) (l : Live) → Fits p l → Counted (λ q. times q l) (places p l)
-  part_counted p (Live.still n) f = counted_cons (λ q. times q (Live.still n)) (node_place p n) [] (hit_self (node n)) (λ a m. absurd m)
-  part_counted p (Live.put_live n z) f =
-      counted_cons (λ q. times q (Live.put_live n z)) (position_place p z.ref) (node_place p n ∷ []) (right_above _ _ f)
-      (counted_cons (λ q. times q (Live.put_live n z)) (node_place p n) [] (left_above _ _ (hit_self (node n))) (λ a m. absurd m))
-  part_counted p (Live.element_live n made xs zs ls) f =
-      counted_cons (λ q. times q (Live.element_live n made xs zs ls)) (node_place p n) _ (left_above _ _ (left_above _ _ (hit_self (node n))))
-      (λ a m. elim (among_either a (attr_places p xs) (places_in p 0 ls ++ mod_places p 0 zs) m) [
-        | inl k ↦ left_above _ _ (right_above _ _ (right_above _ _ (attrs_counted p xs f.0 a k)))
-        | inr k ↦ right_above _ _ (counted_join (λ q. times_in q ls) (λ q. times_mods q zs) (places_in p 0 ls) (mod_places p 0 zs) (body_counted p 0 ls f.2) (mods_counted p 0 zs f.1) a k)
-      ])
-  part_counted p (Live.branch_live z true k ls) f = counted_cons (λ q. times q (Live.branch_live z true k ls)) (position_place p z.ref) _ (left_above _ _ f.0) (λ a m. right_above _ _ (counted_arm (main ∷ p) k ls (body_counted (main ∷ p) 0 ls f.1) a m))
-  part_counted p (Live.branch_live z false k ls) f = counted_cons (λ q. times q (Live.branch_live z false k ls)) (position_place p z.ref) _ (left_above _ _ f.0) (λ a m. right_above _ _ (counted_arm (otherwise ∷ p) k ls (body_counted (otherwise ∷ p) 0 ls f.1) a m))
-  part_counted p (Live.listed z is) f = counted_cons (λ q. times q (Live.listed z is)) (position_place p z.ref) _ (left_above _ _ f.0) (λ a m. right_above _ _ (items_counted (items ∷ p) is f.1 a m))
-  part_counted p (Live.unlisted z k ls) f = counted_cons (λ q. times q (Live.unlisted z k ls)) (position_place p z.ref) _ (left_above _ _ f.0) (λ a m. right_above _ _ (counted_arm (otherwise ∷ p) k ls (body_counted (otherwise ∷ p) 0 ls f.1) a m))
-  part_counted p (Live.let_live made rs ls) f = λ a m. right_above _ _ (body_counted (main ∷ p) 0 ls f a m)
-  part_counted p (Live.component_live i made gm args b ls) f =
-      counted_cons (λ q. times q (Live.component_live i made gm args b ls)) (instance_place i.path i) (places_in i.path 0 ls) (left_above _ _ f.2) (λ a m. right_above _ _ (body_counted i.path 0 ls f.3 a m))
-  part_counted p (Live.yield_live n made rs ls) f = λ a m. right_above _ _ (body_counted (slot n ∷ p) 0 ls f a m)
-  part_counted p (Live.deep_live q) f = λ a m. absurd m
-
-  pub items_counted : (p : Path) (is : Items) → FitsItems p is → Counted (λ q. times_items q is) (places_items p is)
-  items_counted p Live.no_items f = λ a m. absurd m
-  items_counted p (Live.item_live z k ls is) f =
-      let q = item z.key z.occurrence ∷ p in
-      counted_cons (λ i. times_items i (Live.item_live z k ls is)) (item_place q z) _ (left_above _ _ (left_above _ _ (left_above _ _ (hit_self (ref z.value)))))
-      (counted_join (λ i. occurs i (item_made z) + (times_in i ls + times_comment i k)) (λ i. times_items i is) (places_in q 0 ls ++ comment_places q k) (places_items p is)
-      (λ a m. right_above _ _ (counted_arm q k ls (body_counted q 0 ls f.1) a m)) (items_counted p is f.2))
-
-  pub body_counted : (p : Path) (i : ℕ) (ls : Lives) → FitsIn p i ls → Counted (λ q. times_in q ls) (places_in p i ls)
-  body_counted p i Live.no_lives f = λ a m. absurd m
-  body_counted p i (Live.live_and l ls) f =
-      counted_join (λ q. times q l) (λ q. times_in q ls) (places (at i ∷ p) l) (places_in p (suc i) ls) (part_counted (at i ∷ p) l f.0) (body_counted p (suc i) ls f.1)
+pub items_counted : (p : Path) (is : Items) → FitsItems p is → Counted (λ q. times_items q is) (places_items p is)
+items_counted p is f = items_counted_by (λ z. z.value) value_made p is f
 
 pub arm_counted : (p : Path) (k : Option ℕ) (ls : Lives) → FitsIn p 0 ls → Counted (λ q. times_in q ls + times_comment q k) (places_in p 0 ls ++ comment_places p k)
-arm_counted p k ls f = counted_arm p k ls (body_counted p 0 ls f)
+arm_counted p k ls f = arm_counted_by (λ z. z.value) value_made p k ls f
 
 pub root_counted : (l : Live) → Rattle.gl_turns.specs.Fits.FitsRoot l → Counted (λ q. times q l) (places [] l)
-root_counted (Live.component_live i made gm args b ls) f =
-    counted_cons (λ q. times q (Live.component_live i made gm args b ls)) (instance_place i.path i) (places_in i.path 0 ls) (left_above _ _ f.1)
-    (λ a m. right_above _ _ (body_counted i.path 0 ls (subst (λ q. FitsIn q 0 ls) (sym f.0) f.2) a m))
-root_counted (Live.deep_live q) f = λ a m. absurd m
-root_counted _ f = absurd f
+root_counted l f = root_counted_by (λ z. z.value) value_made l f
+
+-- an item's index too
+pub root_indexed : (l : Live) → Rattle.gl_turns.specs.Fits.FitsRoot l → (p : Path) (z : Rattle.gl_plain.specs.Live.ItemSpot) → Among (item_place p z) (places [] l) → 0 < times (ref z.index) l
+root_indexed l f p z m = root_counted_by (λ z. z.index) index_made l f (item_place p z) m

@@ -1,9 +1,11 @@
 -- The laws of the machine's turns.
-use Rattle.std.specs.Prelude.{◌≡◌, ◌+◌, []}
+use Rattle.std.specs.Prelude.{◌≡◌, ◌+◌, [], ◌++◌, map, filter, filter_map, length}
 use Rattle.gl_meaning.specs.App.{App}
+use Rattle.gl_meaning.specs.Scope.{Source}
 use Rattle.gl_meaning.specs.Eval.{Store}
 use Rattle.gl_meaning.specs.Render.{draw}
-use Rattle.gl_meaning.specs.Changes.{Numbers, number, Sets}
+use Rattle.gl_meaning.specs.Changes.{Numbers, number, Sets, touched}
+use Rattle.gl_meaning.specs.Laws.{HoldsNoAction}
 use Rattle.gl_meaning.specs.Work.{work}
 use Rattle.gl_plain.specs.Ids.{a_node}
 use Rattle.gl_plain.specs.State.{State}
@@ -11,7 +13,9 @@ use Rattle.gl_plain.specs.Live.{Live}
 use Rattle.gl_plain.specs.Grow.{grow_app}
 use Rattle.gl_plain.specs.Renew.{renew_app}
 use Rattle.gl_plain.specs.Machine.{StandsFor, OnlyTouched}
+use Rattle.gl_turns.specs.Places.{position_in, places}
 use Rattle.gl_turns.specs.Numbers.{numbers_of}
+use Rattle.gl_turns.specs.Evaluated.{TouchedBy, new_or_stale}
 
 -- Ids by path
 
@@ -30,3 +34,25 @@ abbrev pub UpdatedMadeCount : Type 0
 UpdatedMadeCount =
     (app : App) (σ τ : Store) (sets : Sets) (st : State) (l : Live) → StandsFor app σ τ st l → OnlyTouched app σ τ st
     → (renew_app app τ l st).1.next a_node ≡ st.next a_node + (work (draw app σ) (draw app τ) sets).made
+
+-- What is touched and evaluated
+
+-- At the end of an update just those sources are touched that the meaning names: the cells that were set, and of each item that persists the
+-- value and the index where it isn't the same as before.
+abbrev pub TouchedIsTouched : Type 0
+TouchedIsTouched =
+    (app : App) (σ τ : Store) (sets : Sets) (st : State) (l : Live) → StandsFor app σ τ st l → OnlyTouched app σ τ st → TouchedBy sets st
+    → (x : Source) → (renew_app app τ l st).1.touched x ≡ touched (draw app σ) (draw app τ) sets x
+
+-- An update evaluates exactly the positions that are new or stale, each once, in the order in which they stand.
+abbrev pub EvaluatesNewOrStale : Type 0
+EvaluatesNewOrStale =
+    (app : App) (σ τ : Store) (sets : Sets) (st : State) (l : Live) → StandsFor app σ τ st l → OnlyTouched app σ τ st → TouchedBy sets st → HoldsNoAction σ
+    → let r = renew_app app τ l st in
+    r.1.evaluated ≡ st.evaluated ++ map (λ q. q.1) (filter (λ q. new_or_stale (draw app σ) (draw app τ) sets q.0) (filter_map position_in (places [] r.0)))
+
+-- So they are as many as the meaning counts.
+abbrev pub EvaluatedCount : Type 0
+EvaluatedCount =
+    (app : App) (σ τ : Store) (sets : Sets) (st : State) (l : Live) → StandsFor app σ τ st l → OnlyTouched app σ τ st → TouchedBy sets st → HoldsNoAction σ
+    → length (renew_app app τ l st).1.evaluated ≡ length st.evaluated + (work (draw app σ) (draw app τ) sets).evaluated

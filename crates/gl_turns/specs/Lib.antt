@@ -1,4 +1,5 @@
 pub mod Places
 pub mod Fits
 pub mod Numbers
+pub mod Evaluated
 pub mod Laws

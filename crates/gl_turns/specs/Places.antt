@@ -21,13 +21,17 @@ path_of (item_place p z) = p
 path_of (instance_place p i) = p
 path_of (modifier_place p m) = p
 
--- what is named there; an item by the reference of its value
+-- what is named there; an item by one of its references
+abbrev pub id_by : (ItemSpot → ℕ) → Place → Id
+id_by f (node_place p n) = node n
+id_by f (position_place p r) = ref r
+id_by f (item_place p z) = ref (f z)
+id_by f (instance_place p i) = instance_id i.id
+id_by f (modifier_place p m) = modifier_id m
+
+-- an item by the reference of its value
 abbrev pub id_of : Place → Id
-id_of (node_place p n) = node n
-id_of (position_place p r) = ref r
-id_of (item_place p z) = ref z.value
-id_of (instance_place p i) = instance_id i.id
-id_of (modifier_place p m) = modifier_id m
+id_of a = id_by (λ z. z.value) a
 
 abbrev pub node_in : Place → Option (Path × ℕ)
 node_in (node_place p n) = Some (p, n)

@@ -1,10 +1,17 @@
 //! The laws of the machine's turns. Each function does nothing: its contract is the law.
 
-ghost use Rattle.gl_turns.specs.Laws.{AppendedNumbers, UpdatedNumbers, UpdatedMadeCount};
+ghost use Rattle.gl_turns.specs.Laws.{AppendedNumbers, UpdatedNumbers, UpdatedMadeCount, TouchedIsTouched, EvaluatesNewOrStale, EvaluatedCount};
 
 /// The ids of nodes are the numbers that the meaning gives to their paths, and as many are made as it counts.
 pub fn numbers()
     ensures appended { AppendedNumbers }
     ensures updated { UpdatedNumbers }
     ensures made { UpdatedMadeCount }
+{}
+
+/// An update touches what the meaning names, and evaluates exactly the positions that are new or stale.
+pub fn evaluated()
+    ensures touched { TouchedIsTouched }
+    ensures evaluates { EvaluatesNewOrStale }
+    ensures count { EvaluatedCount }
 {}
