@@ -8,3 +8,4 @@ pub mod Touched
 pub mod Touching
 pub mod Sources
 pub mod Evaluated
+pub mod Held

@@ -16,6 +16,9 @@ use Rattle.gl_plain.specs.Machine.{StandsFor, OnlyTouched}
 use Rattle.gl_turns.specs.Places.{position_in, places}
 use Rattle.gl_turns.specs.Numbers.{numbers_of}
 use Rattle.gl_turns.specs.Evaluated.{TouchedBy, new_or_stale}
+use Rattle.gl_turns.specs.Sets.{set_all}
+use Rattle.gl_plain.specs.Turns.{begin}
+use Rattle.gl_meaning.specs.Actions.{lay}
 
 -- Ids by path
 
@@ -56,3 +59,12 @@ abbrev pub EvaluatedCount : Type 0
 EvaluatedCount =
     (app : App) (σ τ : Store) (sets : Sets) (st : State) (l : Live) → StandsFor app σ τ st l → OnlyTouched app σ τ st → TouchedBy sets st → HoldsNoAction σ
     → length (renew_app app τ l st).1.evaluated ≡ length st.evaluated + (work (draw app σ) (draw app τ) sets).evaluated
+
+-- Sets
+
+-- A set by id is the store with the set laid on: at the beginning of a turn and after the sets of its event the machine still shows what it
+-- showed, its cells hold the store with the sets, and just the cells that were set are touched.
+abbrev pub SetsAreLaid : Type 0
+SetsAreLaid =
+    (app : App) (σ : Store) (sets : Sets) (st : State) (l : Live) → StandsFor app σ σ st l
+    → let st' = set_all app l sets (begin st) in StandsFor app σ (lay sets σ) st' l × OnlyTouched app σ (lay sets σ) st' × TouchedBy sets st'
