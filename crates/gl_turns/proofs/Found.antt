@@ -91,3 +91,10 @@ has_not p xs d = by (has_path p xs) refl where
   by : (b : Bool) → has_path p xs ≡ b → has_path p xs ≡ false
   by true e = absurd (d (has_means p xs e))
   by false e = e
+
+pub at_gives : {A : Type 0} (p : Path) (xs : List (Path × A)) (n : A) → at_path p xs ≡ Some n → Among (p, n) xs
+at_gives p [] n e = absurd (none_some n e)
+at_gives {A} p (x ∷ xs) n e = by (path_eq p x.0) refl (at_gives p xs n) e where
+  by : (b : Bool) → path_eq p x.0 ≡ b → (at_path p xs ≡ Some n → Among (p, n) xs) → (if b then Some x.1 else at_path p xs) ≡ Some n → Among (p, n) (x ∷ xs)
+  by true f rec g = inl (ap₂ (λ q k. (q, k)) (path_means p x.0 f) (sym (some_same x.1 n g)))
+  by false f rec g = inr (rec g)

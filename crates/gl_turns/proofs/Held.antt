@@ -106,7 +106,7 @@ module _ (app : App) (σ τ : Store) (look : Id → Option Thing) where
   own_cells own c d r s is js H e f g h =
       as_cells (λ q. own q + c q) d (λ q. own q + r q) s is js (λ ρ k. Unit {0} × H ρ k) H e f g (λ ρ k w. w.1) (join_cells own c own r [] is Nothing H (no_cells own) h)
 
-  component_cells : (i : Inst) (made gm : List Id) (c r : Id → ℕ) (is : List (Path × Inst)) (H : Store → (Id → Option Thing) → Type 0) → 0 < occurs (instance_id i.id) made → ((q : Id) → 0 < occurs q gm → 0 < occurs q made)
+  pub component_cells : (i : Inst) (made gm : List Id) (c r : Id → ℕ) (is : List (Path × Inst)) (H : Store → (Id → Option Thing) → Type 0) → 0 < occurs (instance_id i.id) made → ((q : Id) → 0 < occurs q gm → 0 < occurs q made)
       → ((x : Text) → member_of (class_at app i.path) x ≡ field_member → occurs (ref (cell_ref i x)) gm ≡ 0) → CellsStand app σ τ look i made → Cells c r is H
       → Cells (λ q. occurs q made + c q) (λ q. (hit q (instance_id i.id) + occurs q gm) + r q) ((i.path, i) ∷ is) (λ ρ k. CellsStand app ρ ρ k i made × H ρ k)
   component_cells i made gm c r is H own sub none held h =

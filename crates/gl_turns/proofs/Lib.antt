@@ -9,3 +9,4 @@ pub mod Touching
 pub mod Sources
 pub mod Evaluated
 pub mod Held
+pub mod Setting

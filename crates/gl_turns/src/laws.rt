@@ -1,6 +1,6 @@
 //! The laws of the machine's turns. Each function does nothing: its contract is the law.
 
-ghost use Rattle.gl_turns.specs.Laws.{AppendedNumbers, UpdatedNumbers, UpdatedMadeCount, TouchedIsTouched, EvaluatesNewOrStale, EvaluatedCount};
+ghost use Rattle.gl_turns.specs.Laws.{AppendedNumbers, UpdatedNumbers, UpdatedMadeCount, TouchedIsTouched, EvaluatesNewOrStale, EvaluatedCount, SetsAreLaid};
 
 /// The ids of nodes are the numbers that the meaning gives to their paths, and as many are made as it counts.
 pub fn numbers()
@@ -14,4 +14,9 @@ pub fn evaluated()
     ensures touched { TouchedIsTouched }
     ensures evaluates { EvaluatesNewOrStale }
     ensures count { EvaluatedCount }
+{}
+
+/// After the sets of an event the machine still shows what it showed, and its cells hold the store with the sets laid on.
+pub fn sets()
+    ensures { SetsAreLaid }
 {}
