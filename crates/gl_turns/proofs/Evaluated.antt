@@ -71,7 +71,7 @@ any_from {A} test (x ∷ xs) e = by (test x) refl (any_from test xs) e where
   by true f rec g = (x, inl refl, f)
   by false f rec g = let h = rec g in (h.0, inr h.1, h.2)
 
-length_mapped : {A B : Type 0} (f : A → B) (xs : List A) → length (map f xs) ≡ length xs
+pub length_mapped : {A B : Type 0} (f : A → B) (xs : List A) → length (map f xs) ≡ length xs
 length_mapped f [] = refl
 length_mapped f (x ∷ xs) = ap suc (length_mapped f xs)
 
@@ -81,7 +81,7 @@ length_joined (x ∷ xs) ys = let h = length_joined xs ys in omega (arith, h)
 
 -- Sums of tests
 
-abbrev one_if : Bool → ℕ
+abbrev pub one_if : Bool → ℕ
 one_if true = 1
 one_if false = 0
 
@@ -90,10 +90,10 @@ is_one true w = refl
 is_one false w = absurd (omega (arith, w))
 
 -- a test of a path and of what was read
-abbrev Test : Type 0
+abbrev pub Test : Type 0
 Test = Path → ((Source → Bool) → Bool) → Bool
 
-abbrev counts : Test → Path → ((Source → Bool) → Bool) → ℕ
+abbrev pub counts : Test → Path → ((Source → Bool) → Bool) → ℕ
 counts test p g = one_if (test p g)
 
 module _ (look : Id → Option Thing) (test : Test) where
@@ -124,14 +124,14 @@ module _ (test : Test) where
     by true f rec u = (y, inl refl, f)
     by false f rec u = let h = rec (omega (arith, u)) in (h.0, inr h.1, h.2)
 
-count_kept : (look : Id → Option Thing) (test : Path → Bool) (zs : List (Path × ℕ)) → kept_sum look (counts (λ p g. test p)) zs ≡ length (filter (λ z. test z.0) zs)
+pub count_kept : (look : Id → Option Thing) (test : Path → Bool) (zs : List (Path × ℕ)) → kept_sum look (counts (λ p g. test p)) zs ≡ length (filter (λ z. test z.0) zs)
 count_kept look test [] = refl
 count_kept look test (z ∷ zs) = by (test z.0) (count_kept look test zs) where
   by : (b : Bool) → kept_sum look (counts (λ p g. test p)) zs ≡ length (filter (λ z. test z.0) zs) → one_if b + kept_sum look (counts (λ p g. test p)) zs ≡ length (cond b (z ∷ filter (λ z. test z.0) zs) (filter (λ z. test z.0) zs))
   by true h = omega (arith, h)
   by false h = omega (arith, h)
 
-count_read : (test : Path → Bool) (qs : List Position) → read_sum (counts (λ p g. test p)) qs ≡ length (filter (λ q. test q.path) qs)
+pub count_read : (test : Path → Bool) (qs : List Position) → read_sum (counts (λ p g. test p)) qs ≡ length (filter (λ q. test q.path) qs)
 count_read test [] = refl
 count_read test (z ∷ zs) = by (test z.path) (count_read test zs) where
   by : (b : Bool) → read_sum (counts (λ p g. test p)) zs ≡ length (filter (λ z. test z.path) zs) → one_if b + read_sum (counts (λ p g. test p)) zs ≡ length (cond b (z ∷ filter (λ z. test z.path) zs) (filter (λ z. test z.path) zs))

@@ -10,3 +10,4 @@ pub mod Sources
 pub mod Evaluated
 pub mod Held
 pub mod Setting
+pub mod Turning

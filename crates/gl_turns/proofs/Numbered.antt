@@ -125,7 +125,7 @@ appended_numbers app τ st =
 
 -- The count of nodes made
 
-next_count : (old : List (Path × ℕ)) (paths : List Path) → map (λ z. z.0) old ≡ paths → (n : ℕ) (ps : List Path) → (number_from old n ps).next ≡ n + length (filter (λ p. not (has_path p paths)) ps)
+pub next_count : (old : List (Path × ℕ)) (paths : List Path) → map (λ z. z.0) old ≡ paths → (n : ℕ) (ps : List Path) → (number_from old n ps).next ≡ n + length (filter (λ p. not (has_path p paths)) ps)
 next_count old paths e n [] = omega arith
 next_count old paths e n (p ∷ ps) = by (at_path p old) refl (λ k. next_count old paths e k ps) where
   by : (o : Option ℕ) → at_path p old ≡ o → ((k : ℕ) → (number_from old k ps).next ≡ k + length (filter (λ q. not (has_path q paths)) ps))

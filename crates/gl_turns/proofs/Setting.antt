@@ -168,7 +168,7 @@ module _ (app : App) (σ τ : Store) (st : State) (h : Held) (i : Inst) (made gm
 
 -- The whole tree
 
-set_next : (o : Option Inst) (k : Member) (h : Held) (st : State) → (set_at o k h st).next ≡ st.next
+pub set_next : (o : Option Inst) (k : Member) (h : Held) (st : State) → (set_at o k h st).next ≡ st.next
 set_next None k h st = refl
 set_next (Some i) field_member h st = refl
 set_next (Some i) (getter_member g) h st = refl

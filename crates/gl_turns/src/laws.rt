@@ -1,6 +1,6 @@
 //! The laws of the machine's turns. Each function does nothing: its contract is the law.
 
-ghost use Rattle.gl_turns.specs.Laws.{AppendedNumbers, UpdatedNumbers, UpdatedMadeCount, TouchedIsTouched, EvaluatesNewOrStale, EvaluatedCount, SetsAreLaid};
+ghost use Rattle.gl_turns.specs.Laws.{AppendedNumbers, UpdatedNumbers, UpdatedMadeCount, TouchedIsTouched, EvaluatesNewOrStale, EvaluatedCount, SetsAreLaid, FirstTurn, NextTurn};
 
 /// The ids of nodes are the numbers that the meaning gives to their paths, and as many are made as it counts.
 pub fn numbers()
@@ -19,4 +19,10 @@ pub fn evaluated()
 /// After the sets of an event the machine still shows what it showed, and its cells hold the store with the sets laid on.
 pub fn sets()
     ensures { SetsAreLaid }
+{}
+
+/// In a session, a turn of the machine shows what the session's turn has, and does as much as its work says.
+pub fn turns()
+    ensures first { FirstTurn }
+    ensures next { NextTurn }
 {}
