@@ -1,0 +1,8 @@
+use Rattle.gl_turns.proofs.laws.turns.Goals as goal
+use Rattle.gl_turns.proofs.Turning.{first_turn, next_turn}
+
+pub returns-clause-first : goal.returns-clause-first
+returns-clause-first c = first_turn
+
+pub returns-clause-next : goal.returns-clause-next
+returns-clause-next c = next_turn

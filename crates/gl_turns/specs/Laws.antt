@@ -1,0 +1,95 @@
+-- The laws of the machine's turns.
+use Rattle.std.specs.Prelude.{◌≡◌, ◌+◌, [], ◌++◌, map, filter, filter_map, length, Some, None}
+use Rattle.gl_meaning.specs.App.{App, Event}
+use Rattle.gl_meaning.specs.Scope.{Source}
+use Rattle.gl_meaning.specs.Eval.{Store}
+use Rattle.gl_meaning.specs.Render.{draw}
+use Rattle.gl_meaning.specs.Changes.{Numbers, number, Sets, touched}
+use Rattle.gl_meaning.specs.Laws.{HoldsNoAction, Reached}
+use Rattle.gl_meaning.specs.Session as session
+use Rattle.gl_meaning.specs.Session.{Turn, first_state, applied, step}
+use Rattle.gl_meaning.specs.Work.{work}
+use Rattle.gl_plain.specs.Ids.{a_node}
+use Rattle.gl_plain.specs.State.{State}
+use Rattle.gl_plain.specs.Live.{Live}
+use Rattle.gl_plain.specs.Grow.{grow_app}
+use Rattle.gl_plain.specs.Renew.{renew_app}
+use Rattle.gl_plain.specs.Machine.{StandsFor, OnlyTouched}
+use Rattle.gl_turns.specs.Places.{position_in, places}
+use Rattle.gl_turns.specs.Numbers.{numbers_of, one_more}
+use Rattle.gl_turns.specs.Evaluated.{TouchedBy, new_or_stale}
+use Rattle.gl_turns.specs.Sets.{set_all}
+use Rattle.gl_plain.specs.Turns.{blank, begin}
+use Rattle.gl_plain.specs.Drawn.{drawn_app}
+use Rattle.gl_meaning.specs.Actions.{lay}
+
+-- Ids by path
+
+-- The ids of nodes are the numbers that the meaning gives: what is appended is numbered as a rendering where no path has a number yet,
+abbrev pub AppendedNumbers : Type 0
+AppendedNumbers = (app : App) (τ : Store) (st : State) → let r = grow_app app τ st in numbers_of r.1 r.0 ≡ number (record { of = []; next = st.next a_node }) (draw app τ)
+
+-- and after an update the node at a path that persists is the same, and the others are new, in document order.
+abbrev pub UpdatedNumbers : Type 0
+UpdatedNumbers =
+    (app : App) (σ τ : Store) (st : State) (l : Live) → StandsFor app σ τ st l → OnlyTouched app σ τ st
+    → let r = renew_app app τ l st in numbers_of r.1 r.0 ≡ number (numbers_of st l) (draw app τ)
+
+-- As many nodes are made as the meaning counts: those at a path that is new.
+abbrev pub UpdatedMadeCount : Type 0
+UpdatedMadeCount =
+    (app : App) (σ τ : Store) (sets : Sets) (st : State) (l : Live) → StandsFor app σ τ st l → OnlyTouched app σ τ st
+    → (renew_app app τ l st).1.next a_node ≡ st.next a_node + (work (draw app σ) (draw app τ) sets).made
+
+-- What is touched and evaluated
+
+-- At the end of an update just those sources are touched that the meaning names: the cells that were set, and of each item that persists the
+-- value and the index where it isn't the same as before.
+abbrev pub TouchedIsTouched : Type 0
+TouchedIsTouched =
+    (app : App) (σ τ : Store) (sets : Sets) (st : State) (l : Live) → StandsFor app σ τ st l → OnlyTouched app σ τ st → TouchedBy sets st
+    → (x : Source) → (renew_app app τ l st).1.touched x ≡ touched (draw app σ) (draw app τ) sets x
+
+-- An update evaluates exactly the positions that are new or stale, each once, in the order in which they stand.
+abbrev pub EvaluatesNewOrStale : Type 0
+EvaluatesNewOrStale =
+    (app : App) (σ τ : Store) (sets : Sets) (st : State) (l : Live) → StandsFor app σ τ st l → OnlyTouched app σ τ st → TouchedBy sets st → HoldsNoAction σ
+    → let r = renew_app app τ l st in
+    r.1.evaluated ≡ st.evaluated ++ map (λ q. q.1) (filter (λ q. new_or_stale (draw app σ) (draw app τ) sets q.0) (filter_map position_in (places [] r.0)))
+
+-- So they are as many as the meaning counts.
+abbrev pub EvaluatedCount : Type 0
+EvaluatedCount =
+    (app : App) (σ τ : Store) (sets : Sets) (st : State) (l : Live) → StandsFor app σ τ st l → OnlyTouched app σ τ st → TouchedBy sets st → HoldsNoAction σ
+    → length (renew_app app τ l st).1.evaluated ≡ length st.evaluated + (work (draw app σ) (draw app τ) sets).evaluated
+
+-- Sets
+
+-- A set by id is the store with the set laid on: at the beginning of a turn and after the sets of its event the machine still shows what it
+-- showed, its cells hold the store with the sets, and just the cells that were set are touched.
+abbrev pub SetsAreLaid : Type 0
+SetsAreLaid =
+    (app : App) (σ : Store) (sets : Sets) (st : State) (l : Live) → StandsFor app σ σ st l
+    → let st' = set_all app l sets (begin st) in StandsFor app σ (lay sets σ) st' l × OnlyTouched app σ (lay sets σ) st' × TouchedBy sets st'
+
+-- Turns of a session
+
+-- the machine shows the rendering, and its nodes have the numbers of their paths
+pub record Shows (app : App) (s : session.State) (st : State) (l : Live) : Type 0 where
+  pub rendering : drawn_app app st.look l ≡ s.rendering
+  pub numbers : s.numbers ≡ one_more (numbers_of st l)
+
+-- What is appended first shows what the first turn has, and did its work.
+abbrev pub FirstTurn : Type 0
+FirstTurn =
+    (app : App) (t : Turn) → step app first_state None ≡ Some t
+    → let r = grow_app app [] blank in
+    StandsFor app [] [] r.1 r.0 × Shows app t.state r.1 r.0 × (length r.1.evaluated ≡ t.work.evaluated) × (r.1.next a_node ≡ t.work.made)
+
+-- In a state of a session, where a machine stands for the cells and shows the rendering: after the sets of an event, an update shows what
+-- the event's turn has, evaluates as many positions as its work says, and makes as many nodes.
+abbrev pub NextTurn : Type 0
+NextTurn =
+    (app : App) (s : session.State) (e : Event) (t : Turn) (st : State) (l : Live) → Reached app s → step app s (Some e) ≡ Some t → StandsFor app s.store s.store st l → Shows app s st l
+    → let sets = (applied app s (Some e)).sets in let τ = lay sets s.store in let r = renew_app app τ l (set_all app l sets (begin st)) in
+    StandsFor app τ τ r.1 r.0 × Shows app t.state r.1 r.0 × (length r.1.evaluated ≡ t.work.evaluated) × (r.1.next a_node ≡ st.next a_node + t.work.made)

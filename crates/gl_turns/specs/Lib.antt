@@ -1,0 +1,6 @@
+pub mod Places
+pub mod Fits
+pub mod Numbers
+pub mod Evaluated
+pub mod Sets
+pub mod Laws

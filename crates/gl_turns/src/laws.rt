@@ -1,0 +1,28 @@
+//! The laws of the machine's turns. Each function does nothing: its contract is the law.
+
+ghost use Rattle.gl_turns.specs.Laws.{AppendedNumbers, UpdatedNumbers, UpdatedMadeCount, TouchedIsTouched, EvaluatesNewOrStale, EvaluatedCount, SetsAreLaid, FirstTurn, NextTurn};
+
+/// The ids of nodes are the numbers that the meaning gives to their paths, and as many are made as it counts.
+pub fn numbers()
+    ensures appended { AppendedNumbers }
+    ensures updated { UpdatedNumbers }
+    ensures made { UpdatedMadeCount }
+{}
+
+/// An update touches what the meaning names, and evaluates exactly the positions that are new or stale.
+pub fn evaluated()
+    ensures touched { TouchedIsTouched }
+    ensures evaluates { EvaluatesNewOrStale }
+    ensures count { EvaluatedCount }
+{}
+
+/// After the sets of an event the machine still shows what it showed, and its cells hold the store with the sets laid on.
+pub fn sets()
+    ensures { SetsAreLaid }
+{}
+
+/// In a session, a turn of the machine shows what the session's turn has, and does as much as its work says.
+pub fn turns()
+    ensures first { FirstTurn }
+    ensures next { NextTurn }
+{}
