@@ -20,6 +20,7 @@ pub mod Order
 pub mod Parts
 pub mod Path
 pub mod PathCode
+pub mod PlaceLaws
 pub mod Pointer
 pub mod Print
 pub mod Render
