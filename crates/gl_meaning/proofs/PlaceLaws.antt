@@ -1,7 +1,6 @@
 -- What is read at places that persist, and which numbers nodes have.
-use Rattle.std.proofs.Common.{◌≡◌, ℕ, List, [], ◌∷◌, map, Bool, true, false, Option, Some, None, refl, sym, ap, subst}
+use Rattle.std.proofs.Common.{◌≡◌, ℕ, List, ◌∷◌, map, Bool, true, false, Option, Some, None, refl, ap, subst}
 use Rattle.std.specs.Prelude.{if◌then◌else◌, ◌↔◌, option_map}
-use Rattle.gl_base.specs.Texts.{Text}
 use Rattle.gl_ast.specs.Template
 use Rattle.gl_meaning.specs.App.{App, Event}
 use Rattle.gl_meaning.specs.Path.{Path, at_path}
@@ -17,7 +16,7 @@ use Rattle.gl_meaning.specs.PlaceLaws.{OnePlace, in_template, in_let, in_item, i
 use Rattle.gl_meaning.proofs.Alike
 use Rattle.gl_meaning.proofs.Frame
 use Rattle.gl_meaning.proofs.Numbers.{number_is_kept, others_are_numbered, nodes_are_numbered}
-use Rattle.gl_meaning.proofs.Sessions.{stepped-turn, after-turns, laid, made}
+use Rattle.gl_meaning.proofs.Sessions.{stepped-turn, after-turns, laid}
 use Rattle.gl_meaning.proofs.Touched.{frame, items_kept, cells_kept}
 
 -- What is read

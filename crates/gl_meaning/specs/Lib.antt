@@ -27,6 +27,7 @@ pub mod Render
 pub mod Scope
 pub mod ScriptOf
 pub mod Session
+pub mod Signs
 pub mod View
 pub mod Walk
 pub mod Work
