@@ -12,7 +12,7 @@ row i = codes "{\"id\":" ++ (decimal i ++ (codes ",\"t\":\"r" ++ (decimal i ++ c
 unfoldable pub rows : ℕ → List Text
 rows n = map row (range_with_len 0 n)
 
--- with the first of them, so many, moved to the end, in order
+-- these texts with the first ones, so many of them, moved to the end in order
 abbrev pub moved : ℕ → List Text → List Text
 moved count texts = drop count texts ++ take count texts
 
