@@ -1,8 +1,7 @@
 // Places of names in lists.
-ghost use Rattle.std.specs.Prelude.{◌≡◌, true, ℕ, List, IsTrue, IfOk, map, position};
+ghost use Rattle.std.specs.Prelude.{◌≡◌, true, ℕ, List, IfOk, map, position};
 ghost use Rattle.std.specs.Str.{bytes_eq};
-ghost use Rattle.gl_meaning.specs.Order.{Rise};
-ghost use Rattle.gl_opc.specs.NamePlaces.{IsIndexOf};
+ghost use Rattle.gl_opc.specs.NamePlaces.{rising, IsIndexOf};
 
 use gl_ast::NamedExpr;
 use gl_meaning::{Action, Class};
@@ -16,7 +15,7 @@ pub trait Named {
     ghost called: { Self → List ℕ };
 
     fn name(&self) -> &Text
-        ensures { result.now ≡ Self.called self.now };
+        ensures { result.now ≡ called self.now };
 }
 
 impl Named for Class {
@@ -51,21 +50,25 @@ impl Named for (Text, Value) {
     }
 }
 
-/// Whether names rise. A list whose names do is told so.
+/// Whether names rise by bytes.
 pub fn rise<T: Named>(items: &[T]) -> bool
-    ensures { IsTrue result → Rise (map T.called items.now) }
+    ensures { result ≡ rising (map T.called items.now) }
 {
-    for at in 1..items.len() {
-        if !items[at - 1].name().is_before(items[at].name()) {
-            return false;
+    let mut rest = items;
+    while let [first, tail @ ..] = rest {
+        if let [second, ..] = tail {
+            if !first.name().is_before(second.name()) {
+                return false;
+            }
         }
+        rest = tail;
     }
     true
 }
 
 // The place of a name among names that rise, by halves.
 fn place_by_halves<T: Named>(items: &[T], name: &Text) -> Option<usize>
-    requires { Rise (map T.called items.now) }
+    requires { rising (map T.called items.now) ≡ true }
     ensures { result ≡ position (λ x. bytes_eq name.now (T.called x)) items.now }
 {
     let place = items.partition_point(|item| item.name().is_before(name));
@@ -78,7 +81,7 @@ fn place_by_halves<T: Named>(items: &[T], name: &Text) -> Option<usize>
 
 /// The place of the first item of a name: by halves where the names are known to rise.
 pub fn place<T: Named>(items: &[T], rise: bool, name: &Text) -> Option<usize>
-    requires { rise ≡ true → Rise (map T.called items.now) }
+    requires { rise ≡ true → rising (map T.called items.now) ≡ true }
     ensures { result ≡ position (λ x. bytes_eq name.now (T.called x)) items.now }
 {
     if rise {

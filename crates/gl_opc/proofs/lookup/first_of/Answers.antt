@@ -1,7 +1,7 @@
 use Rattle.std.proofs.Common.{sym}
 use Rattle.std.specs.Str.Iter.{chars_rest}
 use Rattle.gl_opc.proofs.Lookups.{first_char}
-use Rattle.gl_opc.proofs.context.first_of.Goals as goal
+use Rattle.gl_opc.proofs.lookup.first_of.Goals as goal
 
 pub returns : goal.returns
 returns c =
