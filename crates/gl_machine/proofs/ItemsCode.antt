@@ -3,7 +3,7 @@ use Rattle.std.proofs.Common.{◌≡◌, ℕ, List, [], ◌∷◌, ◌++◌, map
 use Rattle.std.specs.Prelude.{slice_get}
 use Rattle.std.specs.Str.{bytes_eq}
 use Rattle.std.proofs.lemmas.List.{map-append}
-use Rattle.std.proofs.lemmas.Bool.{or_cases, or_left, or_right, both_ways}
+use Rattle.std.proofs.lemmas.Bool.{or_cases, both_ways}
 use Rattle.std.proofs.lemmas.Slice.Eq.{bytes_eq-Decides}
 use Rattle.gl_base.specs.Texts.{Text}
 use Rattle.gl_base.specs.Names.{has_text}
@@ -25,14 +25,7 @@ use Rattle.gl_machine.specs.Env.{Env, symbols_at, by_symbol, texts_of, seen}
 use Rattle.gl_machine.specs.Params.{Known, TwoKnown}
 use Rattle.gl_machine.specs.Placed.{Fits, BodyThere, PlacedIn, FollowsIn, RunsRight}
 use Rattle.gl_machine.proofs.SyncsCode.{FollowsItem, fresh_follows}
-
-known_both : (symbols xs ys : List Text) → Known symbols xs → Known symbols ys → Known symbols (xs ++ ys)
-known_both symbols [] ys f g n h = g n h
-known_both symbols (x ∷ xs) ys f g n h =
-    elim (or_cases (bytes_eq n x) (has_text n (xs ++ ys)) h) [
-      | inl e ↦ f n (or_left (bytes_eq n x) (has_text n xs) e)
-      | inr e ↦ known_both symbols xs ys (λ m k. f m (or_right (bytes_eq m x) (has_text m xs) k)) g n e
-    ]
+use Rattle.gl_machine.proofs.Tags.{known_both}
 
 one_known : (symbols : List Text) (n : Text) (xs : List Text) → has_text n symbols ≡ true → Known symbols xs → Known symbols (n ∷ xs)
 one_known symbols n xs e f m h =

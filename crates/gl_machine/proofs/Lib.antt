@@ -31,3 +31,4 @@ pub mod PlacesOnce
 pub mod GoneLines
 pub mod Freed
 pub mod PageGone
+pub mod Named

@@ -11,5 +11,6 @@ pub mod Root
 pub mod Shape
 pub mod Rows
 pub mod Gone
+pub mod Scopes
 pub mod UpdateLaws
 pub mod Laws
