@@ -24,11 +24,9 @@ use Rattle.gl_machine.specs.Step.{do_getter, Comes}
 use Rattle.gl_machine.proofs.Sound.{Sound}
 use Rattle.gl_machine.proofs.Runs.{on, at_op}
 use Rattle.gl_machine.proofs.Stacks.{popped-last, unnamed, with_name}
+use Rattle.gl_machine.proofs.Symbols.{known_none}
 use Rattle.gl_machine.proofs.Levels.{Settles, settles}
 use Rattle.gl_machine.proofs.Words.{within, pushed, IsGood, literal_pushes, expr_pushes, exprs_push, named_push}
-
-pub known_none : (symbols : List Text) → Known symbols []
-known_none symbols n h = absurd (both_ways _ refl h)
 
 module _ (env : Env) (store : Store) (sound : Sound env) (c : ℕ) (i : Inst) (a : Names) (is : IsOf env c i) where
   abbrev gs : List (Text × Expr)

@@ -20,6 +20,7 @@ pub mod SyncsCode
 pub mod ItemsCode
 pub mod RenewsCode
 pub mod PageRenews
+pub mod Ending
 pub mod Root
 pub mod Pages
 pub mod Nests
@@ -27,3 +28,4 @@ pub mod Sits
 pub mod RowsOf
 pub mod ByPath
 pub mod NestShown
+pub mod RenewEnds

@@ -57,14 +57,6 @@ names_bound (n ∷ ns) (r ∷ rs) st = ap (λ xs. n ∷ xs) (names_bound ns rs s
 pub names_more : (l : Names) (ns : List Text) (rs : List ℕ) (st : State) → texts_of (l ++ (bind_params ns rs st).names) ≡ texts_of l ++ ns
 names_more l ns rs st = map-append (λ x. x.0) l (bind_params ns rs st).names ∙ ap (λ xs. texts_of l ++ xs) (names_bound ns rs st)
 
-pub known_both : (symbols xs ys : List Text) → Known symbols xs → Known symbols ys → Known symbols (xs ++ ys)
-known_both symbols [] ys f g n h = g n h
-known_both symbols (x ∷ xs) ys f g n h =
-    elim (or_cases (bytes_eq n x) (has_text n (xs ++ ys)) h) [
-      | inl e ↦ f n (or_left (bytes_eq n x) (has_text n xs) e)
-      | inr e ↦ known_both symbols xs ys (λ m k. f m (or_right (bytes_eq m x) (has_text m xs) k)) g n e
-    ]
-
 refs_same : (symbols : List Text) (xs : Names) → refs_in (map (by_symbol symbols) xs) ≡ refs_of xs
 refs_same symbols [] = refl
 refs_same symbols (x ∷ xs) = ap (λ ys. x.1 ∷ ys) (refs_same symbols xs)
