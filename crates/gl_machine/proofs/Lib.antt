@@ -1,8 +1,8 @@
 pub mod Following
 pub mod Runs
 pub mod Stacks
-pub mod Symbols
 pub mod Numbered
+pub mod Symbols
 pub mod Helpers
 pub mod Members
 pub mod Words
@@ -20,12 +20,13 @@ pub mod SyncsCode
 pub mod ItemsCode
 pub mod RenewsCode
 pub mod PageRenews
+pub mod RenewEnds
 pub mod Ending
 pub mod Root
+pub mod Nesting
 pub mod Pages
 pub mod Nests
 pub mod Sits
 pub mod RowsOf
 pub mod ByPath
 pub mod NestShown
-pub mod RenewEnds

@@ -12,12 +12,12 @@ use Rattle.gl_meaning.specs.Eval.{Store, class_at, takes_first}
 use Rattle.gl_meaning.specs.Render.{Entry, entries, values_listed, Block, block_named}
 use Rattle.gl_opc.specs.Numbers.{parameter_symbol}
 use Rattle.gl_plain.specs.Ids.{a_ref, Id, occurs}
-use Rattle.gl_plain.specs.State.{Names, MScope, mscope, mpassed, passed_in, mslots, mwriter, named_as, with_names, State, dropped}
+use Rattle.gl_plain.specs.State.{Names, MScope, mscope, mnothing, mpassed, passed_in, mslots, mwriter, named_as, with_names, State, dropped}
 use Rattle.gl_plain.specs.State as s
 use Rattle.gl_plain.specs.Binding.{Spot, first_value}
 use Rattle.gl_plain.specs.Live.{ItemSpot, item_made, times_in, times_items, times_comment}
 use Rattle.gl_plain.specs.Renew.{spot_pairs, reread, renew_attrs, renew_mods, give}
-use Rattle.gl_machine.specs.Sight.{Sight, sight, Passing, with_locals}
+use Rattle.gl_machine.specs.Sight.{Sight, sight, Passing, not_passed, with_locals}
 use Rattle.gl_machine.specs.Code.{Choice, Listing, ItemCodes, no_item_codes, item_code, items_of, Code, still_code, put_code, element_code, branch_code, listed_code, unlisted_code, let_code, component_code, yield_code, Codes, no_codes, code_and, live_of, lives_of}
 use Rattle.gl_machine.specs.Outcome.{Outcome, ok, deep, lost, on_ok, Ends}
 use Rattle.gl_machine.specs.RenewCode.{Runs, start, kept, commented, branch_with, unlisted_with, ItemDone, item_done, CodeHandle, times_code_handles, with_code_front, taken_code, renew_item_code, with_left, sync_one_code, item_with, sync_codes, fresh_codes, by_values, fresh_branch, fresh_other, fresh_item, renew_code, renew_codes, code_handles}
@@ -25,6 +25,7 @@ use Rattle.gl_machine.specs.Params.{Known, TwoKnown}
 use Rattle.gl_machine.specs.Nesting.{Nests, NestsIn, NestsItems}
 use Rattle.gl_machine.specs.Env.{Env, symbols_at, by_symbol, texts_of, seen}
 use Rattle.gl_machine.specs.Placed.{Fits, BodyThere, ChoiceAt, ListingAt, WhereFound, Placed, PlacedIn, PlacedItems, RunsEnd}
+use Rattle.gl_machine.specs.Root.{PlacedRoot, renew_root_code}
 use Rattle.gl_machine.proofs.Following.{either}
 use Rattle.gl_machine.proofs.Symbols.{known_both, known_two}
 use Rattle.gl_machine.proofs.Ending.{ends_at, ends_then, ends_on, ends_as, on_ok_twice}
@@ -264,3 +265,12 @@ module _ (env : Env) (store : Store) (run : ℕ → Runs) (runs : RunsEnd env st
           } ∷ es,
           λ n. ap (λ hs. record { spot = z; comment = k; codes = cs; go = λ q st. renew_codes (run n) m q 0 cs st } ∷ hs) (same n),
         )
+
+-- the whole page
+module _ (env : Env) (store : Store) (run : ℕ → Runs) (runs : RunsEnd env store run) where
+  pub page_renew_ends : (m : ℕ) (k : Code) → PlacedRoot env k → Nests (live_of k) m → (st : State) → Ends (λ n. renew_root_code m (run n) k st)
+  page_renew_ends zero (component_code i made gm args None cs) h d st = absurd d
+  page_renew_ends (suc m) (component_code i made gm args None cs) (q, h) d st =
+      ends_on (λ n. renew_codes (run n) m [] 0 cs st) (λ r. (component_code i made gm args None r.0, r.1))
+      (renews_end env store run runs m q (mscope i args [] mnothing) not_passed [] 0 (class_at env.app []).template cs h d [] 0 st)
+  page_renew_ends m _ h d st = absurd h

@@ -9,11 +9,7 @@ use Rattle.gl_wire.specs.Symbols.{place_of}
 use Rattle.gl_machine.specs.Step.{last_symbol}
 use Rattle.gl_machine.specs.Params.{Known, TwoKnown}
 use Rattle.gl_machine.specs.Env.{by_symbol, texts_of}
-
-same_if : (b c : Bool) → (b ≡ true → c ≡ true) → (c ≡ true → b ≡ true) → b ≡ c
-same_if true c f g = sym (f refl)
-same_if false true f g = g refl
-same_if false false f g = refl
+use Rattle.gl_machine.proofs.Numbered.{same_if}
 
 at_head : (n m y : Text) (ys : List Text) (b c : Bool) → bytes_eq n y ≡ b → bytes_eq m y ≡ c
     → (has_text n ys ≡ true → place_of ys n ≡ place_of ys m → n ≡ m)
