@@ -1,14 +1,14 @@
 -- What persists keeps its id, by its path.
-use Rattle.std.proofs.Common.{◌≡◌, ◌<◌, ◌≤◌, ℕ, zero, suc, ◌+◌, List, [], ◌∷◌, ◌++◌, Bool, true, false, true≢false, Option, Some, None, refl, sym, ap, ap₂, ◌∙◌, subst, arith, inl, inr, ◌⊎◌}
-use Rattle.std.specs.Prelude.{nat_eq, nat_le, ◌&&◌}
+use Rattle.std.proofs.Common.{◌≡◌, ◌<◌, ◌≤◌, ℕ, suc, ◌+◌, List, [], ◌∷◌, ◌++◌, Bool, true, false, true≢false, Option, Some, None, refl, sym, ap, ◌∙◌, subst, arith, inl, inr, ◌⊎◌}
+use Rattle.std.specs.Prelude.{nat_eq, nat_le}
 use Rattle.std.proofs.lemmas.Bool.Decides.{leb_tells, Decides-eqb}
 use Rattle.gl_value.specs.Value.{same}
-use Rattle.gl_meaning.specs.Path.{PathStep, at, main, otherwise, items, item, slot, empty, Path, no_owners}
+use Rattle.gl_meaning.specs.Path.{PathStep, at, main, otherwise, items, slot, empty, Path, no_owners}
 use Rattle.gl_meaning.specs.Known.{Among}
 use Rattle.gl_meaning.specs.Laws.{Within}
 use Rattle.gl_meaning.proofs.Equal.{both_true, same_itself, no_owners-Decides}
 use Rattle.gl_meaning.proofs.Pieces.{among_either, among_left, among_right}
-use Rattle.gl_meaning.proofs.Under.{within_itself, within_outer, steps_apart, not_below, From, IsPartStep}
+use Rattle.gl_meaning.proofs.Under.{within_itself, steps_apart, not_below, From, IsPartStep}
 use Rattle.gl_plain.specs.Ids.{Kind, Id, ref, node, instance_id}
 use Rattle.gl_plain.specs.State.{Inst}
 use Rattle.gl_plain.specs.Binding.{Spot}
@@ -17,41 +17,41 @@ use Rattle.gl_plain.specs.Live.{Live, Lives, Items, AttrSpot, ModSpot, ItemSpot,
 use Rattle.gl_plain.specs.Keeps.{New, same_key, WhereTrue, item_count, EachItem, Keeps, KeepIn, KeptBy}
 use Rattle.gl_plain.specs.Renew.{renew_app}
 use Rattle.gl_plain.proofs.Roots.{ids_are_kept, updated_stands}
-use Rattle.gl_machine.specs.Rows.{Role, a_node, a_position, an_instance, a_value, an_index, Row, row_of, comment_rows, tag_rows, instance_rows, rows, rows_items, rows_in}
+use Rattle.gl_machine.specs.Rows.{a_node, a_position, an_instance, a_value, an_index, Row, row_of, comment_rows, tag_rows, instance_rows, rows, rows_items, rows_in}
 use Rattle.gl_machine.specs.UpdateLaws.{IdsByPath}
-use Rattle.gl_machine.proofs.Sits.{item_key, item_number, item_step, NotAt, Sits, SitsItems, SitsIn, RootSits, page_sits}
+use Rattle.gl_machine.proofs.Sits.{item_key, item_number, item_step, Sits, SitsItems, SitsIn, RootSits, page_sits}
 use Rattle.gl_machine.proofs.RowsOf.{OnTag, on_tag, arm_rows, arm_either, item_rows, rows_within, rows_from, items_within, arm_within, arm_below, item_within, not_there, among_ids, ids_arm, ids_items, ids_item}
 
-abbrev step_number : PathStep → ℕ
+abbrev pub step_number : PathStep → ℕ
 step_number (at n) = n
 step_number _ = 0
 
 -- steps that differ
-at_empty : (n : ℕ) → at n ≡ empty → ⊥
+pub at_empty : (n : ℕ) → at n ≡ empty → ⊥
 at_empty n e = cc
 
-main_otherwise : main ≡ otherwise → ⊥
+pub main_otherwise : main ≡ otherwise → ⊥
 main_otherwise e = cc
 
-otherwise_main : otherwise ≡ main → ⊥
+pub otherwise_main : otherwise ≡ main → ⊥
 otherwise_main e = cc
 
-otherwise_items : otherwise ≡ items → ⊥
+pub otherwise_items : otherwise ≡ items → ⊥
 otherwise_items e = cc
 
-items_otherwise : items ≡ otherwise → ⊥
+pub items_otherwise : items ≡ otherwise → ⊥
 items_otherwise e = cc
 
 -- two places below one path at different steps
-apart : (l m : PathStep) (p : Path) (x y : Row) → (l ≡ m → ⊥) → Within (l ∷ p) x.path → Within (m ∷ p) y.path → y.path ≡ x.path → ⊥
+pub apart : (l m : PathStep) (p : Path) (x y : Row) → (l ≡ m → ⊥) → Within (l ∷ p) x.path → Within (m ∷ p) y.path → y.path ≡ x.path → ⊥
 apart l m p x y ne u v e = ne (steps_apart l m p x.path u (subst (λ z. Within (m ∷ p) z) e v))
 
 -- a place below a path isn't it
-above : (l : PathStep) (p : Path) (x y : Row) → Within (l ∷ p) x.path → y.path ≡ p → y.path ≡ x.path → ⊥
+pub above : (l : PathStep) (p : Path) (x y : Row) → Within (l ∷ p) x.path → y.path ≡ p → y.path ≡ x.path → ⊥
 above l p x y u f e = not_below l p (subst (λ z. Within (l ∷ p) z) (sym e ∙ f) u)
 
 -- nor one on a tag, where it stands in the body
-off_tag : (k : ℕ) (p : Path) (x y : Row) → Within (at k ∷ p) x.path → OnTag p y → y.path ≡ x.path → ⊥
+pub off_tag : (k : ℕ) (p : Path) (x y : Row) → Within (at k ∷ p) x.path → OnTag p y → y.path ≡ x.path → ⊥
 off_tag k p x y u (inl f) e = above (at k) p x y u f e
 off_tag k p x y u (inr (l, part, f)) e = off l part (steps_apart (at k) l p x.path u (subst (λ z. Within (l ∷ p) z) e (subst (λ z. Within (l ∷ p) z) (sym f) (within_itself (l ∷ p))))) where
   off : (l : PathStep) → IsPartStep l → at k ≡ l → ⊥
@@ -60,7 +60,7 @@ off_tag k p x y u (inr (l, part, f)) e = off l part (steps_apart (at k) l p x.pa
 abbrev ApartFrom : Row → List Row → Type 0
 ApartFrom x ys = (y : Row) → Among y ys → y.path ≡ x.path → ⊥
 
-same_key_itself : (y z : ItemSpot) → item_step y ≡ item_step z → same_key y z ≡ true
+pub same_key_itself : (y z : ItemSpot) → item_step y ≡ item_step z → same_key y z ≡ true
 same_key_itself y z e = both_true (same no_owners z.key y.key) (nat_eq z.occurrence y.occurrence)
     (subst (λ k. same no_owners k y.key ≡ true) (ap item_key e) (same_itself ⊥ no_owners no_owners-Decides y.key))
     (subst (λ k. nat_eq k y.occurrence ≡ true) (ap item_number e) ((Decides-eqb y.occurrence y.occurrence).1 refl))
@@ -140,7 +140,7 @@ module _ (next : Kind → ℕ) where
         let b = arm_below (item_step y ∷ p) k ls (rows_from (item_step y ∷ p) 0 ls s') x h in
         known_below (row_of a_value (item_step y ∷ p) (ref y.value)) (item_step y ∷ p) b.0 (row_of an_index (item_step y ∷ p) (ref y.index) ∷ arm_rows (item_step y ∷ p) j ms) x refl b.1
         (known_below (row_of an_index (item_step y ∷ p) (ref y.index)) (item_step y ∷ p) b.0 (arm_rows (item_step y ∷ p) j ms) x refl b.1
-          (arm_known (item_step y ∷ p) j k ms ls s s' f g x h))
+        (arm_known (item_step y ∷ p) j k ms ls s s' f g x h))
 
   each_known : (p : Path) (is is' : Items) → SitsItems p is' → EachItem (KeptBy next is) is'
       → ((z : ItemSpot) (k : Option ℕ) (ls : Lives) → SitsIn (item_step z ∷ p) 0 ls → KeptBy next is z k ls → (x : Row) → Among x (item_rows p z k ls) → Known (rows_items p is) x)
@@ -181,7 +181,7 @@ module _ (next : Kind → ℕ) where
     keeps_rows p (Live.element_live n made xs zs ls) (Live.element_live n' made' xs' zs' ls') s s' h x m =
         elim (among_either x (tag_rows p n' xs' zs') (rows_in p 0 ls') m) [
           | inl j ↦ inl (among_left x (tag_rows p n xs zs) (rows_in p 0 ls)
-            (subst (λ k. Among x (tag_rows p k xs zs)) h.0 (subst (λ v. Among x (tag_rows p n' v zs)) h.2 (subst (λ v. Among x (tag_rows p n' xs' v)) h.3 j))))
+              (subst (λ k. Among x (tag_rows p k xs zs)) h.0 (subst (λ v. Among x (tag_rows p n' v zs)) h.2 (subst (λ v. Among x (tag_rows p n' xs' v)) h.3 j))))
           | inr j ↦ known_right (tag_rows p n xs zs) (rows_in p 0 ls) x (λ y k e. let w = rows_from p 0 ls' s'.2 x j in off_tag w.0 p x y w.2 (on_tag p n xs zs y k) e) (keep_rows_in p 0 ls ls' s.2 s'.2 h.4 x j)
         ]
     keeps_rows p (Live.branch_live z true k ls) (Live.branch_live z' true k' ls') s s' h x m =
@@ -214,11 +214,11 @@ module _ (next : Kind → ℕ) where
     keep_rows_in p i (Live.live_and l ls) (Live.live_and l' ls') s s' h x m =
         elim (among_either x (rows (at i ∷ p) l') (rows_in p (suc i) ls') m) [
           | inl j ↦ known_left (rows (at i ∷ p) l) (rows_in p (suc i) ls) x
-            (λ y n e. let w = rows_from p (suc i) ls s.1 y n in apart (at i) (at w.0) p x y (λ g. let a : i ≡ w.0 = ap step_number g in let b = w.1 in omega (arith, a, b)) (rows_within (at i ∷ p) l' s'.0 x j) w.2 e)
-            (keeps_rows (at i ∷ p) l l' s.0 s'.0 h.0 x j)
+              (λ y n e. let w = rows_from p (suc i) ls s.1 y n in apart (at i) (at w.0) p x y (λ g. let a : i ≡ w.0 = ap step_number g in let b = w.1 in omega (arith, a, b)) (rows_within (at i ∷ p) l' s'.0 x j) w.2 e)
+              (keeps_rows (at i ∷ p) l l' s.0 s'.0 h.0 x j)
           | inr j ↦ known_right (rows (at i ∷ p) l) (rows_in p (suc i) ls) x
-            (λ y n e. let w = rows_from p (suc i) ls' s'.1 x j in apart (at w.0) (at i) p x y (λ g. let a : w.0 ≡ i = ap step_number g in let b = w.1 in omega (arith, a, b)) w.2 (rows_within (at i ∷ p) l s.0 y n) e)
-            (keep_rows_in p (suc i) ls ls' s.1 s'.1 h.1 x j)
+              (λ y n e. let w = rows_from p (suc i) ls' s'.1 x j in apart (at w.0) (at i) p x y (λ g. let a : w.0 ≡ i = ap step_number g in let b = w.1 in omega (arith, a, b)) w.2 (rows_within (at i ∷ p) l s.0 y n) e)
+              (keep_rows_in p (suc i) ls ls' s.1 s'.1 h.1 x j)
         ]
     keep_rows_in p i _ _ s s' h x m = absurd h
 

@@ -30,3 +30,7 @@ pub mod Sits
 pub mod RowsOf
 pub mod ByPath
 pub mod NestShown
+pub mod PlacesOnce
+pub mod GoneLines
+pub mod Freed
+pub mod PageGone

@@ -1,5 +1,5 @@
 -- The nodes and the ids of what stands are those of the rendering, in order.
-use Rattle.std.proofs.Common.{◌≡◌, ◌<◌, ◌≤◌, ℕ, zero, suc, ◌+◌, List, [], ◌∷◌, ◌++◌, map, true, false, Option, Some, None, refl, sym, ap, ap₂, ◌∙◌, subst, arith, inl, inr}
+use Rattle.std.proofs.Common.{◌≡◌, ◌<◌, ◌≤◌, ℕ, zero, suc, List, [], ◌∷◌, ◌++◌, map, true, false, Option, Some, None, refl, sym, ap, ap₂, ◌∙◌, subst, arith, inl, inr}
 use Rattle.std.proofs.lemmas.List.{append-nil, append_assoc, map-append}
 use Rattle.gl_base.specs.Texts.{Text}
 use Rattle.gl_value.specs.Value.{Values, no_values, value}
@@ -10,8 +10,8 @@ use Rattle.gl_meaning.specs.Scope.{Pair, Scope}
 use Rattle.gl_meaning.specs.Eval.{Store, class_at}
 use Rattle.gl_meaning.specs.Render.{Piece, element_node, component, branch, item_region, position, Forest, no_pieces, piece, single, join, forest_of, Entry, Block, block_named, draw}
 use Rattle.gl_meaning.specs.Known.{Among}
-use Rattle.gl_plain.specs.Ids.{Id, ref, node, modifier_id, hit, occurs}
-use Rattle.gl_plain.specs.State.{Inst, MScope, mscope, mnothing, mpassed, passed_in, mslots, mwriter, named_as, with_names, Content, text_content, comment_content, element_content, content, Thing, State}
+use Rattle.gl_plain.specs.Ids.{Id, ref, node, hit, occurs}
+use Rattle.gl_plain.specs.State.{Inst, MScope, mscope, mnothing, mpassed, passed_in, mslots, mwriter, named_as, with_names, text_content, comment_content, element_content, content, Thing, State}
 use Rattle.gl_plain.specs.Live
 use Rattle.gl_plain.specs.Live.{Live, Lives, Items, AttrSpot, ModSpot, ItemSpot, item_names, times}
 use Rattle.gl_plain.specs.Renew.{where_block}
@@ -19,10 +19,9 @@ use Rattle.gl_plain.specs.Drawn.{leaf_piece, tag_of, attrs_of, drawn_comment, dr
 use Rattle.gl_plain.specs.Stands.{WhereValues, WhereBlock, CommentStands, Stands, StandIn, ItemsStand, BlockStands, ListStands, ElseStands}
 use Rattle.gl_plain.specs.Machine.{RootStands, StandsFor}
 use Rattle.gl_plain.proofs.Moves.{hit_self}
-use Rattle.gl_plain.proofs.Stay.{left_above}
 use Rattle.gl_plain.proofs.Roots.{standing_shows}
 use Rattle.gl_machine.specs.Shape.{Nest, end, tree, joined, leaf, map_nest, place_comment, placed_nest, placed_items, placed_in, piece_nest, forest_nest}
-use Rattle.gl_machine.specs.Rows.{Role, a_node, a_position, an_instance, a_modifier, a_value, an_index, Row, row_of, comment_rows, attr_rows, mod_spot_rows, mod_rows, tag_rows, instance_rows, rows, rows_items, rows_in, row_ids, modifier_places, piece_places, places}
+use Rattle.gl_machine.specs.Rows.{Role, a_node, a_position, an_instance, a_modifier, a_value, an_index, Row, row_of, attr_rows, mod_spot_rows, mod_rows, tag_rows, instance_rows, rows, rows_items, rows_in, row_ids, modifier_places, piece_places, places}
 use Rattle.gl_machine.specs.UpdateLaws.{kept_content, drawn_content, place_of, NestIsDrawn, RowsAreDrawn, IdsStandOnce}
 use Rattle.gl_machine.proofs.Nests.{map_joined}
 use Rattle.gl_machine.proofs.RowsOf.{arm_rows, among_ids, page_ids}
@@ -104,7 +103,7 @@ module _ (look : Id → Option Thing) where
   is_element : (p : Path) (n : ℕ) (tag : Text) (attrs : Rattle.gl_meaning.specs.Parts.Attrs) (xs : List AttrSpot) (zs : List ModSpot) (a : Nest (Path × ℕ)) (ys : List Row) (f : Forest)
       → look (node n) ≡ Some (content (element_content tag attrs)) → Is a ys f
       → Is (tree (p, n) a end) (tag_rows p n xs zs ++ ys)
-        (join (forest_of (drawn_attrs look p xs ++ drawn_places look p 0 zs)) (single (element_node p (tag_of (look (node n))) (attrs_of (look (node n))) (drawn_modifiers look p 0 zs) f)))
+      (join (forest_of (drawn_attrs look p xs ++ drawn_places look p 0 zs)) (single (element_node p (tag_of (look (node n))) (attrs_of (look (node n))) (drawn_modifiers look p 0 zs) f)))
   is_element p n tag attrs xs zs a ys f e h =
       let q = single (element_node p (tag_of (look (node n))) (attrs_of (look (node n))) (drawn_modifiers look p 0 zs) f) in
       let A = map place_of (attr_rows p xs) in
@@ -119,13 +118,13 @@ module _ (look : Id → Option Thing) where
         all =
             map-append place_of (tag_rows p n xs zs) ys
             ∙ (ap₂ (λ c d. c ++ d)
-              (map-append place_of (attr_rows p xs) (mod_spot_rows p 0 zs ++ (mod_rows p 0 zs ++ row_of a_node p (node n) ∷ []))
-                ∙ ap (λ c. A ++ c) (map-append place_of (mod_spot_rows p 0 zs) (mod_rows p 0 zs ++ row_of a_node p (node n) ∷ []) ∙ ap (λ c. B ++ c) (map-append place_of (mod_rows p 0 zs) (row_of a_node p (node n) ∷ []))))
-              h.all
+            (map-append place_of (attr_rows p xs) (mod_spot_rows p 0 zs ++ (mod_rows p 0 zs ++ row_of a_node p (node n) ∷ []))
+            ∙ ap (λ c. A ++ c) (map-append place_of (mod_spot_rows p 0 zs) (mod_rows p 0 zs ++ row_of a_node p (node n) ∷ []) ∙ ap (λ c. B ++ c) (map-append place_of (mod_rows p 0 zs) (row_of a_node p (node n) ∷ []))))
+            h.all
             ∙ (append_assoc A (B ++ (C ++ N)) (places f)
             ∙ (ap (λ c. A ++ c) (append_assoc B (C ++ N) (places f) ∙ ap (λ c. B ++ c) (append_assoc C N (places f)))
             ∙ sym (tag_places p xs (drawn_places look p 0 zs) q
-              ∙ ap (λ c. A ++ c) (mod_places p 0 zs q ∙ ap (λ c. B ++ c) (append-nil (modifier_places (drawn_modifiers look p 0 zs) ++ ((a_node, p) ∷ places f)) ∙ ap (λ c. c ++ ((a_node, p) ∷ places f)) (modifiers_are p 0 zs)))))));
+            ∙ ap (λ c. A ++ c) (mod_places p 0 zs q ∙ ap (λ c. B ++ c) (append-nil (modifier_places (drawn_modifiers look p 0 zs) ++ ((a_node, p) ∷ places f)) ∙ ap (λ c. c ++ ((a_node, p) ∷ places f)) (modifiers_are p 0 zs)))))));
       }
 
   is_instance : (i : Inst) (ls : Lives) (s : Scope) (f : Forest) → Is (placed_in i.path 0 ls) (rows_in i.path 0 ls) f → Is (placed_in i.path 0 ls) (instance_rows i ++ rows_in i.path 0 ls) (single (component i.path s f))
@@ -173,21 +172,21 @@ module _ (look : Id → Option Thing) where
           is_position p (ref z.ref) _ _ _ _ (is_branch (otherwise ∷ p) _ _ _ (is_arm (otherwise ∷ p) k ls (drawn_in app look ms (otherwise ∷ p) 0 d ls) h.2 (body_is m b s ms (otherwise ∷ p) 0 d ls h.3)))
       stmt_is m b s ms p (t.each e key ns c d) (Live.listed z is) h =
           is_position p (ref z.ref) _ _ _ _ (is_branch (items ∷ p) _ _ _
-            (list_is _ (ListStands app σ τ look m b s ms p key ns c is) (Is (placed_items (items ∷ p) is) (rows_items (items ∷ p) is) (drawn_items app look ns ms c (items ∷ p) 0 is)) (λ us g. items_is m b s ms (items ∷ p) ns c 0 _ is g) h.1))
+          (list_is _ (ListStands app σ τ look m b s ms p key ns c is) (Is (placed_items (items ∷ p) is) (rows_items (items ∷ p) is) (drawn_items app look ns ms c (items ∷ p) 0 is)) (λ us g. items_is m b s ms (items ∷ p) ns c 0 _ is g) h.1))
       stmt_is m b s ms p (t.each e key ns c d) (Live.unlisted z k ls) h =
           is_position p (ref z.ref) _ _ _ _ (is_branch (otherwise ∷ p) _ _ _
-            (else_is _ (ElseStands app σ τ look m b s ms p d k ls) (Is (joined (placed_in (otherwise ∷ p) 0 ls) (place_comment (otherwise ∷ p) k)) (arm_rows (otherwise ∷ p) k ls) (join (drawn_in app look ms (otherwise ∷ p) 0 d ls) (drawn_comment look (otherwise ∷ p) k)))
-              (λ g. is_arm (otherwise ∷ p) k ls (drawn_in app look ms (otherwise ∷ p) 0 d ls) g.0 (body_is m b s ms (otherwise ∷ p) 0 d ls g.1)) h.1))
+          (else_is _ (ElseStands app σ τ look m b s ms p d k ls) (Is (joined (placed_in (otherwise ∷ p) 0 ls) (place_comment (otherwise ∷ p) k)) (arm_rows (otherwise ∷ p) k ls) (join (drawn_in app look ms (otherwise ∷ p) 0 d ls) (drawn_comment look (otherwise ∷ p) k)))
+          (λ g. is_arm (otherwise ∷ p) k ls (drawn_in app look ms (otherwise ∷ p) 0 d ls) g.0 (body_is m b s ms (otherwise ∷ p) 0 d ls g.1)) h.1))
       stmt_is m b s ms p (t.let_stmt es ns c) (Live.let_live made rs ls) h = body_is m _ _ (with_names (named_as ns rs) ms) (main ∷ p) 0 c ls h.3
       stmt_is (suc m) b s ms p (t.component_stmt c ps given bs) (Live.component_live i made gm args (Some k) ls) h =
           is_instance i ls (drawn_scope look i args (mpassed k ps bs ms)) (drawn_in app look (mscope i args [] (mpassed k ps bs ms)) i.path 0 (class_at app i.path).template ls)
           (subst (λ q. Is (placed_in q 0 ls) (rows_in q 0 ls) (drawn_in app look (mscope i args [] (mpassed k ps bs ms)) q 0 (class_at app q).template ls)) (sym h.2)
-            (body_is m _ _ (mscope i args [] (mpassed k ps bs ms)) (into c ∷ p) 0 (class_at app (into c ∷ p)).template ls h.7))
+          (body_is m _ _ (mscope i args [] (mpassed k ps bs ms)) (into c ∷ p) 0 (class_at app (into c ∷ p)).template ls h.7))
       stmt_is zero b s ms p (t.component_stmt c ps given bs) (Live.deep_live q) h = record { nodes = refl; all = refl }
       stmt_is m b s ms p (t.yield es n) (Live.yield_live k made rs ls) h =
           block_is (block_named n (mslots (passed_in ms))) (BlockStands app σ τ look m b s ms p es n made rs ls) (λ c. drawn_in app look (with_names (named_as c.params rs) (mwriter (passed_in ms))) (slot k ∷ p) 0 c.body ls) (slot k ∷ p) ls
           (λ c g. subst (λ j. Is (placed_in (slot j ∷ p) 0 ls) (rows_in (slot j ∷ p) 0 ls) (drawn_in app look (with_names (named_as c.params rs) (mwriter (passed_in ms))) (slot j ∷ p) 0 c.body ls)) (sym h.0)
-            (body_is m _ _ (with_names (named_as c.params rs) (mwriter (passed_in ms))) (slot n ∷ p) 0 c.body ls g.3)) h.1
+          (body_is m _ _ (with_names (named_as c.params rs) (mwriter (passed_in ms))) (slot n ∷ p) 0 c.body ls g.3)) h.1
       stmt_is m b s ms p _ _ h = absurd h
 
       pub body_is : (m b : ℕ) (s : Scope) (ms : MScope) (p : Path) (i : ℕ) (c : t.Body) (ls : Lives) → StandIn app σ τ look m b s ms p i c ls → Is (placed_in p i ls) (rows_in p i ls) (drawn_in app look ms p i c ls)
@@ -203,8 +202,8 @@ module _ (look : Id → Option Thing) where
       items_is m b s ms p ns c i (x ∷ xs) (Live.item_live z o ls is) h =
           is_item p z o ls i _ _ is (drawn_items app look ns ms c p (suc i) is)
           (is_arm (item_step z ∷ p) o ls (drawn_in app look (with_names (item_names ns z) ms) (item_step z ∷ p) 0 c ls) h.3
-            (subst (λ q. Is (placed_in q 0 ls) (rows_in q 0 ls) (drawn_in app look (with_names (item_names ns z) ms) q 0 c ls)) (sym (ap₂ (λ a n. item a n ∷ p) h.0.0 h.0.1))
-              (body_is m _ _ (with_names (item_names ns z) ms) (item x.key x.occurrence ∷ p) 0 c ls h.4)))
+          (subst (λ q. Is (placed_in q 0 ls) (rows_in q 0 ls) (drawn_in app look (with_names (item_names ns z) ms) q 0 c ls)) (sym (ap₂ (λ a n. item a n ∷ p) h.0.0 h.0.1))
+          (body_is m _ _ (with_names (item_names ns z) ms) (item x.key x.occurrence ∷ p) 0 c ls h.4)))
           (items_is m b s ms p ns c (suc i) xs is h.5)
       items_is m b s ms p ns c i _ _ h = absurd h
 
@@ -212,7 +211,7 @@ root_is : (app : App) (τ : Store) (m : ℕ) (look : Id → Option Thing) (l : L
 root_is app τ (suc m) look (Live.component_live i made gm args None ls) h =
     is_instance look i ls (drawn_scope look i args mnothing) (drawn_in app look (mscope i args [] mnothing) i.path 0 (class_at app i.path).template ls)
     (subst (λ q. Is look (placed_in q 0 ls) (rows_in q 0 ls) (drawn_in app look (mscope i args [] mnothing) q 0 (class_at app q).template ls)) (sym h.1)
-      (body_is look app τ τ m _ _ (mscope i args [] mnothing) [] 0 (class_at app []).template ls h.5))
+    (body_is look app τ τ m _ _ (mscope i args [] mnothing) [] 0 (class_at app []).template ls h.5))
 root_is app τ zero look (Live.deep_live q) h = record { nodes = refl; all = refl }
 root_is app τ _ look _ h = absurd h
 

@@ -1,19 +1,17 @@
 -- The rows of a part stand at or below its path, and their ids are its own.
-use Rattle.std.proofs.Common.{◌≡◌, ◌<◌, ◌≤◌, ℕ, zero, suc, ◌+◌, List, [], ◌∷◌, ◌++◌, map, true, false, Option, Some, None, refl, sym, ap, ◌∙◌, subst, arith, inl, inr, ◌⊎◌}
-use Rattle.gl_meaning.specs.Path.{PathStep, at, main, otherwise, items, item, into, slot, empty, attribute_at, modifier_at, Path}
+use Rattle.std.proofs.Common.{◌≡◌, ◌<◌, ◌≤◌, ℕ, suc, ◌+◌, List, [], ◌∷◌, ◌++◌, true, false, Option, Some, None, sym, ap, ◌∙◌, subst, arith, inl, inr, ◌⊎◌}
+use Rattle.gl_meaning.specs.Path.{PathStep, at, main, otherwise, items, into, slot, empty, attribute_at, modifier_at, Path}
 use Rattle.gl_meaning.specs.Known.{Among}
 use Rattle.gl_meaning.specs.Laws.{Within}
 use Rattle.gl_meaning.proofs.Pieces.{among_either}
-use Rattle.gl_meaning.proofs.Under.{within_itself, within_outer, steps_apart, not_below, From, IsPartStep}
-use Rattle.gl_plain.specs.Ids.{Id, ref, node, instance_id, modifier_id, hit, occurs}
-use Rattle.gl_plain.specs.State.{Inst}
-use Rattle.gl_plain.specs.Binding.{Spot}
+use Rattle.gl_meaning.proofs.Under.{within_itself, within_outer, steps_apart, From, IsPartStep}
+use Rattle.gl_plain.specs.Ids.{Id, ref, node, instance_id, hit, occurs}
 use Rattle.gl_plain.specs.Live
 use Rattle.gl_plain.specs.Live.{Live, Lives, Items, AttrSpot, ModSpot, ItemSpot, item_made, times, times_in, times_items, times_comment, times_attrs, times_mods}
-use Rattle.gl_plain.proofs.Moves.{IdCase, id_case, hit_le, hit_other, hit_self, occurs_append}
+use Rattle.gl_plain.proofs.Moves.{IdCase, id_case, hit_le, hit_other, hit_self}
 use Rattle.gl_plain.proofs.Stay.{left_above, right_above}
-use Rattle.gl_machine.specs.Rows.{Role, a_node, a_position, a_value, an_index, Row, row_of, comment_rows, attr_rows, mod_spot_rows, mod_rows, tag_rows, instance_rows, rows, rows_items, rows_in, row_ids}
-use Rattle.gl_machine.proofs.Sits.{Own, AttrsOwn, ModsOwn, item_step, NotAt, Sits, SitsItems, SitsIn, RootSits}
+use Rattle.gl_machine.specs.Rows.{Role, a_node, a_value, an_index, Row, row_of, comment_rows, attr_rows, mod_spot_rows, mod_rows, tag_rows, rows, rows_items, rows_in, row_ids}
+use Rattle.gl_machine.proofs.Sits.{AttrsOwn, ModsOwn, item_step, NotAt, Sits, SitsItems, SitsIn, RootSits}
 
 -- Where they stand
 

@@ -1,22 +1,22 @@
 -- What a tree that stands has besides: each position and each instance is among what was made for it, each instance is at the place of its
 -- component, and the items of one list differ.
-use Rattle.std.proofs.Common.{◌≡◌, ◌<◌, ◌≤◌, ℕ, zero, suc, List, [], ◌∷◌, true, false, Option, Some, None, sym, ap, ap₂, ◌∙◌, subst, arith}
+use Rattle.std.proofs.Common.{◌≡◌, ◌<◌, ℕ, zero, suc, List, [], ◌∷◌, true, false, Option, Some, None, sym, ap, ap₂, ◌∙◌, subst, arith}
 use Rattle.gl_base.specs.Texts.{Text}
 use Rattle.gl_value.specs.Value.{Values, no_values, value, undefined}
 use Rattle.gl_ast.specs.Template as t
 use Rattle.gl_meaning.specs.App.{App}
 use Rattle.gl_meaning.specs.Path.{PathStep, at, main, otherwise, items, item, into, slot, Path}
-use Rattle.gl_meaning.specs.Scope.{Pair, Scope}
+use Rattle.gl_meaning.specs.Scope.{Scope}
 use Rattle.gl_meaning.specs.Eval.{Store, class_at}
 use Rattle.gl_meaning.specs.Parts.{WrittenValue, WrittenModifier}
-use Rattle.gl_meaning.specs.Render.{Entry, Block, block_named, entries}
+use Rattle.gl_meaning.specs.Render.{Entry, Block, block_named}
 use Rattle.gl_meaning.proofs.Once.{Later, Distinct, distinct}
 use Rattle.gl_plain.specs.Ids.{Id, ref, instance_id, occurs}
 use Rattle.gl_plain.specs.State.{MScope, passed_in, mslots, Thing, State}
 use Rattle.gl_plain.specs.Binding.{Spot}
 use Rattle.gl_plain.specs.Live
 use Rattle.gl_plain.specs.Live.{Live, Lives, Items, AttrSpot, ModSpot, ItemSpot}
-use Rattle.gl_plain.specs.Stands.{SpottedIn, AttrsStand, ModsStand, WhereValues, WhereBlock, Stands, StandIn, ItemsStand, BlockStands, ListStands, ElseStands, attrs_by, mods_by, tail_of}
+use Rattle.gl_plain.specs.Stands.{AttrsStand, ModsStand, WhereValues, WhereBlock, Stands, StandIn, ItemsStand, BlockStands, ListStands, ElseStands, attrs_by, mods_by, tail_of}
 use Rattle.gl_plain.specs.Machine.{RootStands, StandsFor}
 
 abbrev pub Own : Spot → Type 0
@@ -108,9 +108,9 @@ module _ (app : App) (σ τ : Store) (look : Id → Option Thing) where
   later_sits m b s ms p ns c k o [] Live.no_items d h y ek eo = tt
   later_sits m b s ms p ns c k o (x ∷ xs) (Live.item_live z u ls is) d h y ek eo = (
     (λ e.
-      let a : x.key ≡ k = sym h.0.0 ∙ (sym (ap item_key e) ∙ ek) in
-      let n : x.occurrence ≡ o = sym h.0.1 ∙ (sym (ap item_number e) ∙ eo) in
-      let le = d.0 a in absurd (omega (arith, n, le))),
+        let a : x.key ≡ k = sym h.0.0 ∙ (sym (ap item_key e) ∙ ek) in
+        let n : x.occurrence ≡ o = sym h.0.1 ∙ (sym (ap item_number e) ∙ eo) in
+        let le = d.0 a in absurd (omega (arith, n, le))),
     later_sits m b s ms p ns c k o xs is d.1 h.5 y ek eo,
   )
   later_sits m b s ms p ns c k o _ _ d h y ek eo = absurd h

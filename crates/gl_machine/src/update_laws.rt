@@ -1,10 +1,32 @@
 //! The laws of an update. Each function does nothing: its contract is the law.
 
 ghost use Rattle.gl_machine.specs.Placed.{RenewsRight};
-ghost use Rattle.gl_machine.specs.UpdateLaws.{PageFollows};
+ghost use Rattle.gl_machine.specs.UpdateLaws.{FreedIsGone, FreedIsLogged, IdsByPath, IdsStandOnce, NestHasNodes, NestIsDrawn, NestIsOrdered, NestIsPlaced, PageFollows, PlacesStandOnce, RowsAreDrawn};
 
 /// An update of the recorded program does what one of the tree does, and leaves it recorded well.
 pub fn recorded()
     ensures statements { RenewsRight }
     ensures page { PageFollows }
+{}
+
+/// The nodes that the tree has are nested as those of the rendering, in order.
+pub fn nested()
+    ensures ordered { NestIsOrdered }
+    ensures placed { NestIsPlaced }
+    ensures drawn { NestIsDrawn }
+    ensures nodes { NestHasNodes }
+{}
+
+/// What stands at which path, that each stands once, and that what persists keeps its id.
+pub fn by_path()
+    ensures drawn { RowsAreDrawn }
+    ensures ids { IdsStandOnce }
+    ensures places { PlacesStandOnce }
+    ensures kept { IdsByPath }
+{}
+
+/// What an update frees, children first over the old tree, and what the log of the turn tells of it.
+pub fn destroyed()
+    ensures gone { FreedIsGone }
+    ensures logged { FreedIsLogged }
 {}
