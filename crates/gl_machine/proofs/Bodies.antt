@@ -12,11 +12,6 @@ use Rattle.gl_meaning.specs.Path as pt
 use Rattle.gl_meaning.specs.Render as r
 use Rattle.gl_meaning.specs.Eval.{Store, takes_first}
 use Rattle.std.specs.Prelude.{slice_get}
-use Rattle.std.specs.Str.{bytes_eq}
-use Rattle.std.proofs.Common.{inl, inr}
-use Rattle.std.proofs.lemmas.Bool.{or_cases, both_ways}
-use Rattle.std.proofs.lemmas.Slice.Eq.{bytes_eq-Decides}
-use Rattle.gl_base.specs.Names.{has_text}
 use Rattle.gl_opc.specs.Numbers.{class_number, parameter_symbol, item_op}
 use Rattle.gl_opc.specs.Spans.{StmtAt, BodyAt, BlocksAt, BareAt, ExprAt, if_op, count_exprs}
 use Rattle.gl_plain.specs.Ids.{a_ref, a_node, a_block, Id, block_id}

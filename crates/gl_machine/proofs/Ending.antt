@@ -1,5 +1,5 @@
 -- What ends, one after another.
-use Rattle.std.proofs.Common.{◌≡◌, ◌≤◌, ℕ, zero, suc, ◌+◌, Bool, true, false, cond, refl, sym, ◌∙◌, ap, subst, arith}
+use Rattle.std.proofs.Common.{◌≡◌, ◌≤◌, ℕ, ◌+◌, refl, ◌∙◌, ap, arith}
 use Rattle.gl_machine.specs.Outcome.{Outcome, ok, deep, lost, on_ok, Ends}
 use Rattle.gl_machine.proofs.Right.{deep_told, ok_told}
 

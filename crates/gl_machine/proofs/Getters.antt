@@ -1,7 +1,6 @@
 -- The words of an expression of a template push the reference that stands for it. A getter's program is run in a frame of its own.
 use Rattle.std.proofs.Common.{◌≡◌, ℕ, zero, suc, List, [], ◌∷◌, ◌++◌, map, length, Bool, false, Option, Some, None, refl}
 use Rattle.std.specs.Prelude.{slice_get}
-use Rattle.std.proofs.lemmas.Bool.{both_ways}
 use Rattle.gl_base.specs.Texts.{Text}
 use Rattle.gl_value.specs.Value as va
 use Rattle.gl_ast.specs.Template as t

@@ -1,5 +1,5 @@
 -- Where a machine stands for a rendering that fits, components nest no deeper than they may.
-use Rattle.std.proofs.Common.{◌≡◌, ℕ, zero, suc, List, [], ◌∷◌, Bool, true, false, ◌||◌, Option, Some, None, refl, sym, ◌∙◌, ap, subst}
+use Rattle.std.proofs.Common.{◌≡◌, ℕ, zero, suc, List, [], ◌∷◌, Bool, true, false, ◌||◌, Option, Some, None, refl, sym, subst}
 use Rattle.std.proofs.lemmas.Bool.{both_ways}
 use Rattle.gl_base.specs.Texts.{Text}
 use Rattle.gl_value.specs.Value.{Values, no_values, value}

@@ -14,17 +14,17 @@ use Rattle.gl_opc.specs.Numbers.{parameter_symbol}
 use Rattle.gl_plain.specs.Ids.{a_ref, Id, occurs}
 use Rattle.gl_plain.specs.State.{Names, MScope, mscope, mnothing, mpassed, passed_in, mslots, mwriter, named_as, with_names, State, dropped}
 use Rattle.gl_plain.specs.State as s
-use Rattle.gl_plain.specs.Binding.{Spot, first_value}
+use Rattle.gl_plain.specs.Binding.{first_value}
 use Rattle.gl_plain.specs.Live.{ItemSpot, item_made, times_in, times_items, times_comment}
 use Rattle.gl_plain.specs.Renew.{spot_pairs, reread, renew_attrs, renew_mods, give}
 use Rattle.gl_machine.specs.Sight.{Sight, sight, Passing, not_passed, with_locals}
-use Rattle.gl_machine.specs.Code.{Choice, Listing, ItemCodes, no_item_codes, item_code, items_of, Code, still_code, put_code, element_code, branch_code, listed_code, unlisted_code, let_code, component_code, yield_code, Codes, no_codes, code_and, live_of, lives_of}
-use Rattle.gl_machine.specs.Outcome.{Outcome, ok, deep, lost, on_ok, Ends}
+use Rattle.gl_machine.specs.Code.{Listing, ItemCodes, no_item_codes, item_code, items_of, Code, still_code, put_code, element_code, branch_code, listed_code, unlisted_code, let_code, component_code, yield_code, Codes, no_codes, code_and, live_of, lives_of}
+use Rattle.gl_machine.specs.Outcome.{Outcome, ok, on_ok, Ends}
 use Rattle.gl_machine.specs.RenewCode.{Runs, start, kept, commented, branch_with, unlisted_with, ItemDone, item_done, CodeHandle, times_code_handles, with_code_front, taken_code, renew_item_code, with_left, sync_one_code, item_with, sync_codes, fresh_codes, by_values, fresh_branch, fresh_other, fresh_item, renew_code, renew_codes, code_handles}
 use Rattle.gl_machine.specs.Params.{Known, TwoKnown}
 use Rattle.gl_machine.specs.Nesting.{Nests, NestsIn, NestsItems}
 use Rattle.gl_machine.specs.Env.{Env, symbols_at, by_symbol, texts_of, seen}
-use Rattle.gl_machine.specs.Placed.{Fits, BodyThere, ChoiceAt, ListingAt, WhereFound, Placed, PlacedIn, PlacedItems, RunsEnd}
+use Rattle.gl_machine.specs.Placed.{Fits, BodyThere, ListingAt, WhereFound, Placed, PlacedIn, PlacedItems, RunsEnd}
 use Rattle.gl_machine.specs.Root.{PlacedRoot, renew_root_code}
 use Rattle.gl_machine.proofs.Following.{either}
 use Rattle.gl_machine.proofs.Symbols.{known_both, known_two}
@@ -92,7 +92,7 @@ module _ where
         ends_as (λ n. on_ok (one n q x st) (λ d. on_ok (sync_codes (one n) pp es (map (handle n) hs) d.arm.state) (λ r. ok (item_with d r)))) (λ n. stepped n x es hs st None)
         (λ n. with_rest n (one n q x st) es (map (handle n) hs))
         (ends_then (λ n. one n q x st) (λ n d. on_ok (sync_codes (one n) pp es (map (handle n) hs) d.arm.state) (λ r. ok (item_with d r))) (ones q x st)
-          (λ d. ends_on (λ n. sync_codes (one n) pp es (map (handle n) hs) d.arm.state) (item_with d) (more hs d.arm.state)))
+        (λ d. ends_on (λ n. sync_codes (one n) pp es (map (handle n) hs) d.arm.state) (item_with d) (more hs d.arm.state)))
     item_ends x es hs st (Some p) more =
         let q = item x.key x.occurrence ∷ pp in
         let st2 = give p.0.spot.index (item_index q) (count_value x.index) (give p.0.spot.value (item_value q) x.value st) in
@@ -100,8 +100,8 @@ module _ where
         (λ n. stepped n x es hs st (Some (handles n p)))
         (λ n. with_rest n (renew_item_code q x (handle n p.0) st) es (map (handle n) p.1))
         (ends_then (λ n. renew_item_code q x (handle n p.0) st) (λ n d. on_ok (sync_codes (one n) pp es (map (handle n) p.1) d.arm.state) (λ r. ok (item_with d r)))
-          (ends_on (λ n. p.0.go n q st2) (λ r. item_done p.0.spot (kept p.0.comment r)) (p.0.goes q st2))
-          (λ d. ends_on (λ n. sync_codes (one n) pp es (map (handle n) p.1) d.arm.state) (item_with d) (more p.1 d.arm.state)))
+        (ends_on (λ n. p.0.go n q st2) (λ r. item_done p.0.spot (kept p.0.comment r)) (p.0.goes q st2))
+        (λ d. ends_on (λ n. sync_codes (one n) pp es (map (handle n) p.1) d.arm.state) (item_with d) (more p.1 d.arm.state)))
 
     syncs_end : (es : List Entry) (hs : List Elem) (st : State) → Ends (λ n. sync_codes (one n) pp es (map (handle n) hs) st)
     syncs_end [] hs st =
@@ -143,7 +143,7 @@ module _ (env : Env) (store : Store) (run : ℕ → Runs) (runs : RunsEnd env st
     named_ends g names known there q st =
         ends_on (λ n. run n (start (with_locals (map (by_symbol (symbols_at env c)) names) (seen env c ms w)) body q m) st) g
         (subst (λ v. Ends (λ n. run n (start v body q m) st)) (sym (seen_more env c ms w names))
-          (runs c (with_names names ms) w (fits_more env c ms w names fits known) body a (subst (λ ts. BodyThere env c ts body a) (sym (names_more ms names)) there) q m st))
+        (runs c (with_names names ms) w (fits_more env c ms w names fits known) body a (subst (λ ts. BodyThere env c ts body a) (sym (names_more ms names)) there) q m st))
 
     ones_end : (ns : List Text) → TwoKnown (symbols_at env c) ns → Known (symbols_at env c) ns → BodyThere env c (texts_of (s.locals_in ms) ++ ns) body a → (q : Path) (x : Entry) (st : State)
         → Ends (λ n. fresh_item (run n) (listing ns) m q x st)
@@ -226,11 +226,11 @@ module _ (env : Env) (store : Store) (run : ℕ → Runs) (runs : RunsEnd env st
         (λ n vs. on_ok (sync_codes (fresh_item (run n) z m) (items ∷ q) (entries z.key 0 [] vs) (code_handles (run n) m is) st1) (λ r. ok (listed_code z x r.0, r.1)))
         (λ n. fresh_other (run n) z x q m (dropped (λ q. times_items q (items_of is)) st1))
         (λ vs.
-          ends_on (λ n. sync_codes (fresh_item (run n) z m) (items ∷ q) (entries z.key 0 [] vs) (code_handles (run n) m is) st1) (λ r. (listed_code z x r.0, r.1))
-          (ends_as (λ n. sync_codes (fresh_item (run n) z m) (items ∷ q) (entries z.key 0 [] vs) (map (handle n) es) st1)
-            (λ n. sync_codes (fresh_item (run n) z m) (items ∷ q) (entries z.key 0 [] vs) (code_handles (run n) m is) st1)
-            (λ n. ap (λ hs. sync_codes (fresh_item (run n) z m) (items ∷ q) (entries z.key 0 [] vs) hs st1) (same n))
-            (syncs_end (λ n. fresh_item (run n) z m) (λ q x st. list_ends m c ms w key ns a b z h q x st) (items ∷ q) (entries z.key 0 [] vs) es st1)))
+        ends_on (λ n. sync_codes (fresh_item (run n) z m) (items ∷ q) (entries z.key 0 [] vs) (code_handles (run n) m is) st1) (λ r. (listed_code z x r.0, r.1))
+        (ends_as (λ n. sync_codes (fresh_item (run n) z m) (items ∷ q) (entries z.key 0 [] vs) (map (handle n) es) st1)
+        (λ n. sync_codes (fresh_item (run n) z m) (items ∷ q) (entries z.key 0 [] vs) (code_handles (run n) m is) st1)
+        (λ n. ap (λ hs. sync_codes (fresh_item (run n) z m) (items ∷ q) (entries z.key 0 [] vs) hs st1) (same n))
+        (syncs_end (λ n. fresh_item (run n) z m) (λ q x st. list_ends m c ms w key ns a b z h q x st) (items ∷ q) (entries z.key 0 [] vs) es st1)))
         (anew m c ms w (λ r. unlisted_with z x (commented r)) z.sight z.other b h.4 h.5 h.7 (otherwise ∷ q) (dropped (λ q. times_items q (items_of is)) st1))
     renew_ends m c ms w p (each e key ns a b) (unlisted_code z x k cs) (h, hs) d q st =
         let st1 = reread x.ref st in
@@ -239,8 +239,8 @@ module _ (env : Env) (store : Store) (run : ℕ → Runs) (runs : RunsEnd env st
         (λ n vs. on_ok (fresh_codes (fresh_item (run n) z m) (items ∷ q) (entries z.key 0 [] vs) gone) (λ r. ok (listed_code z x r.0, r.1)))
         (λ n. on_ok (renew_codes (run n) m (otherwise ∷ q) 0 cs st1) (λ r. ok (unlisted_with z x (kept k r))))
         (λ vs.
-          ends_on (λ n. fresh_codes (fresh_item (run n) z m) (items ∷ q) (entries z.key 0 [] vs) gone) (λ r. (listed_code z x r.0, r.1))
-          (news_end (λ n. fresh_item (run n) z m) (λ q x st. list_ends m c ms w key ns a b z h q x st) (items ∷ q) (entries z.key 0 [] vs) gone))
+        ends_on (λ n. fresh_codes (fresh_item (run n) z m) (items ∷ q) (entries z.key 0 [] vs) gone) (λ r. (listed_code z x r.0, r.1))
+        (news_end (λ n. fresh_item (run n) z m) (λ q x st. list_ends m c ms w key ns a b z h q x st) (items ∷ q) (entries z.key 0 [] vs) gone))
         (ends_on (λ n. renew_codes (run n) m (otherwise ∷ q) 0 cs st1) (λ r. unlisted_with z x (kept k r)) (renews_end m c ms w (otherwise ∷ p) 0 b cs hs d (otherwise ∷ q) 0 st1))
     renew_ends m c ms w p _ k h d q st = absurd h
 
@@ -260,7 +260,10 @@ module _ (env : Env) (store : Store) (run : ℕ → Runs) (runs : RunsEnd env st
     elems m c ms w pp ns a (item_code z k cs is) (h, hs) (d, ds) =
         let (es, same) = elems m c ms w pp ns a is hs ds in (
           record {
-            spot = z; comment = k; codes = cs; go = λ n q st. renew_codes (run n) m q 0 cs st;
+            spot = z;
+            comment = k;
+            codes = cs;
+            go = λ n q st. renew_codes (run n) m q 0 cs st;
             goes = λ q st. renews_end m c (with_names (named_as ns z.params) ms) w (item z.key z.occurrence ∷ pp) 0 a cs h d q 0 st;
           } ∷ es,
           λ n. ap (λ hs. record { spot = z; comment = k; codes = cs; go = λ q st. renew_codes (run n) m q 0 cs st } ∷ hs) (same n),

@@ -70,7 +70,9 @@ module _ (env : Env) (store : Store) where
   is_over P a z e (ends x is fine placed p) close =
       let (m, q, o) = close x in
       record {
-        end = finished m; comes = on env store p q; still = refl;
+        end = finished m;
+        comes = on env store p q;
+        still = refl;
         answers = subst (λ y. FollowsIn P y z) (sym o) (is, subst (λ y. are_deep y.0 ≡ false) is fine, placed);
         told = λ l. ok_told x (sym o ∙ l);
       }
@@ -108,7 +110,7 @@ module _ (env : Env) (store : Store) (sound : Sound env) where
       (grow_body env.app components (grow_yields env.app components v) (mscope i a l v) p 0 b st)
       (λ r. go r.1 [] [] last (room env c i a l v w [] (adds r.0 (fresh p)) idle m []))
       (body_goes env store sound c i a v w fits.is fits.passes (spreads_go env store sound v w fits.passes) m components (grow_yields env.app components v) invokes yields
-        l fits.known [] st [] (fresh p) [] (λ m r. refl) from b last at_body fit)
+      l fits.known [] st [] (fresh p) [] (λ m r. refl) from b last at_body fit)
       (λ x. (
         mach x.1 [] [] last (room env c i a l v w [] (adds x.0 (fresh p)) idle m []),
         at_close env store c i a l v w (adds x.0 (fresh p)) m last next x.1 o at_end closes,

@@ -1,7 +1,7 @@
 -- The whole page is appended.
 use Rattle.gl_base.specs.Texts.{Text}
 use Rattle.gl_ast.specs.Template.{Plain, Body}
-use Rattle.std.proofs.Common.{◌≡◌, ◌≤◌, ℕ, zero, suc, List, [], ◌∷◌, ◌++◌, Some, None, refl, sym, ◌∙◌, ap, subst}
+use Rattle.std.proofs.Common.{◌≡◌, ℕ, zero, suc, List, [], ◌∷◌, ◌++◌, Some, None, refl, sym, ◌∙◌, ap, subst}
 use Rattle.gl_ops.specs.declared.op.Op.TheVariants as op
 use Rattle.gl_meaning.specs.Eval.{Store, class_named}
 use Rattle.gl_wire.specs.Symbols.{symbols_of}
@@ -14,7 +14,7 @@ use Rattle.gl_plain.specs.Grow.{grow_cells, grow_components}
 use Rattle.gl_plain.specs.Renew.{fresh_body}
 use Rattle.gl_machine.specs.Sight.{sight, not_passed}
 use Rattle.gl_machine.specs.Code.{Code, component_code, live_of, lives_of}
-use Rattle.gl_machine.specs.Outcome.{Outcome, ok, deep, lost, on_ok, Ends}
+use Rattle.gl_machine.specs.Outcome.{Outcome, ok, on_ok, Ends}
 use Rattle.gl_machine.specs.RenewCode.{Runs, start}
 use Rattle.gl_machine.specs.Params.{HasParamsIn}
 use Rattle.gl_machine.specs.Env.{Env, class_no, program_no, symbols_at}
@@ -54,8 +54,13 @@ module _ (env : Env) (store : Store) (sound : Sound env) (q : ℕ) (number : cla
   root_there =
       let low = sound.classes env.app.root q number in
       let (last, at_body, at_done) = low.lowered in (
-        last, _, op.Done, subst (λ y. BodyAt (program_no env q) env.manifest (class_no env q) (symbols_of (class_named y env.app.classes).template) [] 0 template last) (sym low.name) at_body,
-        at_done, record {}, subst (λ y. HasParamsIn (symbols_of (class_named y env.app.classes).template) template) (sym low.name) low.params,
+        last,
+        _,
+        op.Done,
+        subst (λ y. BodyAt (program_no env q) env.manifest (class_no env q) (symbols_of (class_named y env.app.classes).template) [] 0 template last) (sym low.name) at_body,
+        at_done,
+        record {},
+        subst (λ y. HasParamsIn (symbols_of (class_named y env.app.classes).template) template) (sym low.name) low.params,
       )
 
   abbrev from_root : Runs → ℕ → List (Text × Plain) → Outcome (Code × State)
@@ -73,9 +78,9 @@ module _ (env : Env) (store : Store) (sound : Sound env) (q : ℕ) (number : cla
       let st1 = make an_instance (instance_row i) c.state in
       subst (λ fs'. Follows (PlacedRoot env) live_of is_deep (from_root run m fs') (grow_components (suc m) env.app store [] [] [] None mnothing st)) same_fields
       (follow_on (PlacedIn env q ms not_passed [] 0 template) lives_of are_deep (PlacedRoot env) live_of is_deep
-        (run (start (sight q i [] [] not_passed) 0 [] m) st1) (fresh_body env.app store m ms [] template st1)
-        (λ r. ok (component_code i (instance_id i.id ∷ ([] ++ c.made)) [] [] None r.0, r.1)) (λ r. (component_live i (instance_id i.id ∷ ([] ++ c.made)) [] [] None r.0, r.1))
-        (runs q ms not_passed root_fits 0 template root_there [] m st1) (λ r d. d) (λ r fine placed. (refl, fine, (q, placed))))
+      (run (start (sight q i [] [] not_passed) 0 [] m) st1) (fresh_body env.app store m ms [] template st1)
+      (λ r. ok (component_code i (instance_id i.id ∷ ([] ++ c.made)) [] [] None r.0, r.1)) (λ r. (component_live i (instance_id i.id ∷ ([] ++ c.made)) [] [] None r.0, r.1))
+      (runs q ms not_passed root_fits 0 template root_there [] m st1) (λ r d. d) (λ r fine placed. (refl, fine, (q, placed))))
 
   pub page_ends : (run : ℕ → Runs) → RunsEnd env store run → (m : ℕ) → Ends (λ n. append_page m env store (run n) q st)
   page_ends run runs zero = ends_deep
@@ -85,4 +90,4 @@ module _ (env : Env) (store : Store) (sound : Sound env) (q : ℕ) (number : cla
       let st1 = make an_instance (instance_row i) c.state in
       subst (λ fs'. Ends (λ n. from_root (run n) m fs')) same_fields
       (ends_on (λ n. run n (start (sight q i [] [] not_passed) 0 [] m) st1) (λ r. (component_code i (instance_id i.id ∷ ([] ++ c.made)) [] [] None r.0, r.1))
-        (runs q ms not_passed root_fits 0 template root_there [] m st1))
+      (runs q ms not_passed root_fits 0 template root_there [] m st1))

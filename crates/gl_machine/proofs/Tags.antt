@@ -1,11 +1,8 @@
 -- The words of a tag: parts, arguments, parameters, blocks.
-use Rattle.std.proofs.Common.{◌≡◌, ℕ, suc, List, [], ◌∷◌, ◌++◌, map, length, drop, true, false, None, refl, ◌∙◌, ap, subst, append_assoc, inl, inr}
+use Rattle.std.proofs.Common.{◌≡◌, ℕ, suc, List, [], ◌∷◌, ◌++◌, map, length, drop, true, false, None, refl, ◌∙◌, ap, subst, append_assoc}
 use Rattle.std.specs.Prelude.{codes}
-use Rattle.std.specs.Str.{bytes_eq}
 use Rattle.std.proofs.lemmas.List.{append-nil, map-append}
-use Rattle.std.proofs.lemmas.Bool.{or_cases, or_left, or_right}
 use Rattle.gl_base.specs.Texts.{Text}
-use Rattle.gl_base.specs.Names.{has_text}
 use Rattle.gl_value.specs.Value as va
 use Rattle.gl_ast.specs.Template.{AttrValue, fixed, live, Part, attribute, modifier, spread, Slots, no_slots, block}
 use Rattle.gl_ops.specs.declared.op.Op.{Op}
