@@ -34,3 +34,4 @@ pub mod PlacesOnce
 pub mod GoneLines
 pub mod Freed
 pub mod PageGone
+pub mod Cases
