@@ -1,12 +1,8 @@
 -- An item that is appended.
-use Rattle.std.proofs.Common.{◌≡◌, ℕ, List, [], ◌∷◌, ◌++◌, map, true, refl, sym, ◌∙◌, ap, subst, inl, inr}
+use Rattle.std.proofs.Common.{◌≡◌, ℕ, List, [], ◌∷◌, ◌++◌, map, refl, sym, ◌∙◌, ap, subst}
 use Rattle.std.specs.Prelude.{slice_get}
-use Rattle.std.specs.Str.{bytes_eq}
 use Rattle.std.proofs.lemmas.List.{map-append}
-use Rattle.std.proofs.lemmas.Bool.{or_cases, both_ways}
-use Rattle.std.proofs.lemmas.Slice.Eq.{bytes_eq-Decides}
 use Rattle.gl_base.specs.Texts.{Text}
-use Rattle.gl_base.specs.Names.{has_text}
 use Rattle.gl_ast.specs.Template.{Body}
 use Rattle.gl_meaning.specs.Path.{item, Path}
 use Rattle.gl_meaning.specs.Eval.{Store}
@@ -24,18 +20,8 @@ use Rattle.gl_machine.specs.RenewCode.{Runs, start, commented, item_done, fresh_
 use Rattle.gl_machine.specs.Env.{Env, symbols_at, by_symbol, texts_of, seen}
 use Rattle.gl_machine.specs.Params.{Known, TwoKnown}
 use Rattle.gl_machine.specs.Placed.{Fits, BodyThere, PlacedIn, FollowsIn, RunsRight}
+use Rattle.gl_machine.proofs.Symbols.{known_both, known_two}
 use Rattle.gl_machine.proofs.SyncsCode.{FollowsItem, fresh_follows}
-use Rattle.gl_machine.proofs.Tags.{known_both}
-
-one_known : (symbols : List Text) (n : Text) (xs : List Text) → has_text n symbols ≡ true → Known symbols xs → Known symbols (n ∷ xs)
-one_known symbols n xs e f m h =
-    elim (or_cases (bytes_eq m n) (has_text m xs) h) [
-      | inl g ↦ subst (λ x. has_text x symbols ≡ true) (sym ((bytes_eq-Decides m n).0 g)) e
-      | inr g ↦ f m g
-    ]
-
-none_known : (symbols : List Text) → Known symbols []
-none_known symbols m e = absurd (both_ways _ refl e)
 
 module _ (env : Env) (store : Store) (run : Runs) (runs : RunsRight env store run) (m c : ℕ) (w : Passing) (pp : Path) (a : Body) (key : Text) (body other : ℕ) where
   seen_more : (ms : MScope) (names : Names) → with_locals (map (by_symbol (symbols_at env c)) names) (seen env c ms w) ≡ seen env c (with_names names ms) w
@@ -72,10 +58,10 @@ module _ (env : Env) (store : Store) (run : Runs) (runs : RunsRight env store ru
 
     pub ones : (ns : List Text) → TwoKnown (symbols_at env c) ns → BodyThere env c (texts_of (s.locals_in ms) ++ ns) body a → (x : Entry) (st : State)
         → FollowsItem env store run runs m c ms w pp ns a (fresh_item run (listing ns) m (item x.key x.occurrence ∷ pp) x st) (fresh_items env.app store m ms ns a (item x.key x.occurrence ∷ pp) x st)
-    ones [] t there x st = let y = item_spot [] (item x.key x.occurrence ∷ pp) x st in core [] y.0 y.1 refl (none_known (symbols_at env c)) there
+    ones [] t there x st = let y = item_spot [] (item x.key x.occurrence ∷ pp) x st in core [] y.0 y.1 refl (known_two (symbols_at env c) [] t) there
     ones (n ∷ []) t there x st =
-        let y = item_spot (n ∷ []) (item x.key x.occurrence ∷ pp) x st in core (n ∷ []) y.0 y.1 refl (one_known (symbols_at env c) n [] t (none_known (symbols_at env c))) there
+        let y = item_spot (n ∷ []) (item x.key x.occurrence ∷ pp) x st in core (n ∷ []) y.0 y.1 refl (known_two (symbols_at env c) (n ∷ []) t) there
     ones (n ∷ k ∷ []) t there x st =
         let y = item_spot (n ∷ k ∷ []) (item x.key x.occurrence ∷ pp) x st in
-        core (n ∷ k ∷ []) y.0 y.1 refl (one_known (symbols_at env c) n (k ∷ []) t.0 (one_known (symbols_at env c) k [] t.1 (none_known (symbols_at env c)))) there
+        core (n ∷ k ∷ []) y.0 y.1 refl (known_two (symbols_at env c) (n ∷ k ∷ []) t) there
     ones (n ∷ k ∷ j ∷ ns) t there x st = absurd t

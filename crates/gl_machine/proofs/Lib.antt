@@ -1,8 +1,8 @@
 pub mod Following
 pub mod Runs
 pub mod Stacks
-pub mod Symbols
 pub mod Numbered
+pub mod Symbols
 pub mod Helpers
 pub mod Members
 pub mod Words
@@ -20,7 +20,10 @@ pub mod SyncsCode
 pub mod ItemsCode
 pub mod RenewsCode
 pub mod PageRenews
+pub mod RenewEnds
+pub mod Ending
 pub mod Root
+pub mod Nesting
 pub mod Pages
 pub mod Nests
 pub mod Sits
@@ -32,3 +35,4 @@ pub mod GoneLines
 pub mod Freed
 pub mod PageGone
 pub mod Named
+pub mod Cases

@@ -1,5 +1,5 @@
 //! The laws of the machine over words. Each function does nothing: its contract is the law.
-ghost use Rattle.gl_machine.specs.Laws.{WordsAppend, WordsEnd, PageAppends, PageEnds, PageRenews};
+ghost use Rattle.gl_machine.specs.Laws.{WordsAppend, WordsEnd, PageAppends, PageEnds, PageRenews, PageRenewEnds, StandingNests};
 
 /// What is run from a recorded address appends what the tree says, and what it records is well placed. It ends within some number of steps.
 pub fn words()
@@ -7,9 +7,12 @@ pub fn words()
     ensures ends { WordsEnd }
 {}
 
-/// The whole page is appended and updated as the machine over trees does.
+/// The whole page is appended and updated as the machine over trees does, and both end; an update where components nest no deeper than they
+/// may, as they do where the machine stands for a rendering.
 pub fn pages()
     ensures appends { PageAppends }
     ensures ends { PageEnds }
     ensures renews { PageRenews }
+    ensures renew_ends { PageRenewEnds }
+    ensures nests { StandingNests }
 {}
