@@ -11,3 +11,4 @@ pub mod Evaluated
 pub mod Held
 pub mod Setting
 pub mod Turning
+mod Cases

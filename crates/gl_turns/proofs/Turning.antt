@@ -1,14 +1,14 @@
 -- The turns of a session.
-use Rattle.std.proofs.Common.{◌≡◌, ℕ, suc, ◌+◌, List, [], ◌∷◌, map, Bool, true, false, Option, Some, None, refl, sym, ap, ap₂, ◌∙◌, subst, arith}
-use Rattle.std.specs.Prelude.{filter, filter_map, length, if◌then◌else◌, not, ◌||◌, ◌&&◌}
+use Rattle.std.proofs.Common.{◌≡◌, ℕ, suc, ◌+◌, List, [], ◌∷◌, map, Bool, true, false, Option, Some, None, refl, sym, ap, ◌∙◌, subst, arith}
+use Rattle.std.specs.Prelude.{filter, filter_map, length, if◌then◌else◌, not, ◌||◌}
 use Rattle.std.specs.List.{list_any}
 use Rattle.gl_meaning.specs.App.{App, Event}
 use Rattle.gl_meaning.specs.Path.{Path, path_eq, at_path}
 use Rattle.gl_meaning.specs.Eval.{Store}
-use Rattle.gl_meaning.specs.Laws.{HoldsNoAction, Reached}
+use Rattle.gl_meaning.specs.Laws.{Reached}
 use Rattle.gl_meaning.specs.Render.{Forest, draw, render, fits}
 use Rattle.gl_meaning.specs.Changes.{Position, positions, Numbers, with_number, number_one, number_from, number, nodes, Sets}
-use Rattle.gl_meaning.specs.Actions.{lay, Applied}
+use Rattle.gl_meaning.specs.Actions.{lay}
 use Rattle.gl_meaning.specs.Session as session
 use Rattle.gl_meaning.specs.Session.{Turn, turn_of, first_state, applied, step}
 use Rattle.gl_meaning.specs.Work.{work}
@@ -20,12 +20,10 @@ use Rattle.gl_plain.specs.Live.{Live}
 use Rattle.gl_plain.specs.Turns.{blank, begin}
 use Rattle.gl_plain.specs.Grow.{grow_app}
 use Rattle.gl_plain.specs.Renew.{renew_app}
-use Rattle.gl_plain.specs.Drawn.{drawn_app}
-use Rattle.gl_plain.specs.Counts.{positions_of}
-use Rattle.gl_plain.specs.Machine.{StandsFor, OnlyTouched}
+use Rattle.gl_plain.specs.Machine.{StandsFor}
 use Rattle.gl_plain.proofs.Roots.{appended_stands, updated_stands, standing_shows}
 use Rattle.gl_plain.proofs.CountGrows.{appended_evaluates}
-use Rattle.gl_turns.specs.Places.{instance_in, position_in, places}
+use Rattle.gl_turns.specs.Places.{position_in, places}
 use Rattle.gl_turns.specs.Numbers.{numbers_of, one_more}
 use Rattle.gl_turns.specs.Sets.{set_at, set_one, set_all}
 use Rattle.gl_turns.specs.Laws.{Shows, FirstTurn, NextTurn}

@@ -4,7 +4,7 @@ use Rattle.gl_meaning.specs.App.{App, Event}
 use Rattle.gl_meaning.specs.Scope.{Source}
 use Rattle.gl_meaning.specs.Eval.{Store}
 use Rattle.gl_meaning.specs.Render.{draw}
-use Rattle.gl_meaning.specs.Changes.{Numbers, number, Sets, touched}
+use Rattle.gl_meaning.specs.Changes.{number, Sets, touched}
 use Rattle.gl_meaning.specs.Laws.{HoldsNoAction, Reached}
 use Rattle.gl_meaning.specs.Session as session
 use Rattle.gl_meaning.specs.Session.{Turn, first_state, applied, step}
