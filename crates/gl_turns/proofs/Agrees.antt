@@ -1,21 +1,20 @@
 -- The places of a tree that stands are those of the rendering: its nodes, instances and items in order, and its positions.
-use Rattle.std.proofs.Common.{◌≡◌, ◌<◌, ◌+◌, ℕ, zero, suc, max, List, [], ◌∷◌, ◌++◌, map, Bool, true, false, Option, Some, None, refl, sym, ap, ap₂, ◌∙◌, subst, arith, inl, inr}
+use Rattle.std.proofs.Common.{◌≡◌, ◌+◌, ℕ, zero, suc, List, [], ◌∷◌, ◌++◌, map, Bool, true, false, Option, Some, None, refl, sym, ap, ap₂, ◌∙◌, subst, arith, inl, inr}
 use Rattle.std.specs.Prelude.{if◌then◌else◌, filter_map, ◌||◌}
-use Rattle.std.specs.List.{cons_option}
 use Rattle.std.proofs.lemmas.List.{append-nil, append_assoc}
 use Rattle.gl_base.specs.Texts.{Text}
 use Rattle.gl_value.specs.Value.{Values, no_values, value, count_value}
 use Rattle.gl_ast.specs.Template as t
 use Rattle.gl_ast.specs.Template.{Slots, no_slots}
 use Rattle.gl_meaning.specs.App.{App}
-use Rattle.gl_meaning.specs.Path.{PathStep, at, main, otherwise, items, item, into, slot, empty, attribute_at, modifier_at, Path, V}
+use Rattle.gl_meaning.specs.Path.{PathStep, at, main, otherwise, items, item, into, slot, empty, attribute_at, modifier_at, Path}
 use Rattle.gl_meaning.specs.Scope.{Source, item_value, item_index, Pair, sources_of, NamedPairs, Scope, scope, Passed, nothing_passed, passed, passed_of, with_locals, bind}
 use Rattle.gl_meaning.specs.Eval.{Store, class_at, eval, eval_all, eval_given, takes_first}
 use Rattle.gl_meaning.specs.Parts.{Attrs, Modifier, WrittenValue, WrittenModifier, modifiers_of, taken_pairs}
 use Rattle.gl_meaning.specs.Changes as c
 use Rattle.gl_meaning.specs.Render as r
 use Rattle.gl_meaning.specs.Render.{Forest, Piece, no_pieces, piece, single, join, forest_of, position, Entry, entries, entry_pairs, values_listed, Block, block_named, Components, render_stmt, render_body, yields_of, components_at, draw}
-use Rattle.gl_meaning.proofs.Once.{Later, Distinct, distinct}
+use Rattle.gl_meaning.proofs.Once.{Distinct, distinct}
 use Rattle.gl_meaning.proofs.Pieces.{filter_map_append, pieces_join}
 use Rattle.gl_plain.specs.Ids.{Id, ref}
 use Rattle.gl_plain.specs.State.{any_of, source_form, MScope, mscope, MPassed, mnothing, mpassed, passed_in, mslots, mwriter, writer, named_as, with_names, Names, row, Thing}
@@ -428,8 +427,8 @@ module _ (look : Id → Option Thing) where
           (λ c hi. shown_in m _ (with_locals (bind c.params (eval_all app σ w es)) (writer v)) (with_names (named_as c.params rs) (mwriter (passed_in ms))) (passed_of (writer v)) (slot n ∷ p) 0 c.body ls
           (locals_passed (bind c.params (eval_all app σ w es)) (writer v)) (same_named (mwriter (passed_in ms)) (writer v) (named_as c.params rs) (bind c.params (eval_all app σ w es)) (same_writer (passed_in ms) v sp)) hi.3) h.1 in
           let g1 : PartIn (slot n ∷ p) 0 ls (yields_of app σ (inner m) u n (eval_all app σ w es) p) =
-              subst (λ y. PartIn (slot n ∷ p) 0 ls (yields_of app σ (inner m) y n (eval_all app σ w es) p)) e
-              (subst (PartIn (slot n ∷ p) 0 ls) (sym (yields_by (inner m) v n (eval_all app σ w es) p)) (subst (λ y. PartIn (slot n ∷ p) 0 ls (r.in_block (block_named n y) F)) (sym (same_slots (passed_in ms) v sp)) g)) in
+          subst (λ y. PartIn (slot n ∷ p) 0 ls (yields_of app σ (inner m) y n (eval_all app σ w es) p)) e
+          (subst (PartIn (slot n ∷ p) 0 ls) (sym (yields_by (inner m) v n (eval_all app σ w es) p)) (subst (λ y. PartIn (slot n ∷ p) 0 ls (r.in_block (block_named n y) F)) (sym (same_slots (passed_in ms) v sp)) g)) in
           let f = yields_of app σ (inner m) u n (eval_all app σ w es) p in
           record {
             agree = subst (λ j. Agree (places_in (slot j ∷ p) 0 ls) (c.pieces f)) (sym h.0) g1.agree;

@@ -1,6 +1,6 @@
 -- What an update evaluates is what is new or stale.
-use Rattle.std.proofs.Common.{◌≡◌, ◌<◌, ◌≤◌, ◌+◌, ℕ, suc, List, [], ◌∷◌, ◌++◌, map, Bool, true, false, true≢false, Option, Some, None, cond, refl, sym, ap, ap₂, ◌∙◌, subst, arith, inl, inr, ◌⊎◌}
-use Rattle.std.specs.Prelude.{filter, filter_map, length, nat_le, not, ◌&&◌, ◌||◌}
+use Rattle.std.proofs.Common.{◌≡◌, ◌<◌, ◌≤◌, ◌+◌, ℕ, suc, List, [], ◌∷◌, ◌++◌, map, Bool, true, false, true≢false, Option, Some, cond, refl, sym, ap, ap₂, ◌∙◌, subst, arith, inl, inr}
+use Rattle.std.specs.Prelude.{filter, filter_map, length, not, ◌&&◌, ◌||◌}
 use Rattle.std.specs.List.{list_any}
 use Rattle.std.proofs.lemmas.Bool.{le-leb, lt-leb}
 use Rattle.gl_meaning.specs.App.{App}
@@ -11,7 +11,6 @@ use Rattle.gl_meaning.specs.Known.{Among}
 use Rattle.gl_meaning.specs.Laws.{NoRepeat, HoldsNoAction}
 use Rattle.gl_meaning.specs.Render.{Forest, draw}
 use Rattle.gl_meaning.specs.Changes.{Position, positions, Sets, touched, some_touched, stale}
-use Rattle.gl_meaning.specs.Changes as c
 use Rattle.gl_meaning.specs.Work.{work}
 use Rattle.gl_meaning.proofs.Equal.{path_means, path_itself, both_left, both_right, both_true}
 use Rattle.gl_meaning.proofs.Once.{positions_once}
@@ -20,7 +19,7 @@ use Rattle.gl_plain.specs.Ids.{a_ref, Id, ref}
 use Rattle.gl_plain.specs.State.{any_of, Thing, State}
 use Rattle.gl_plain.specs.Live.{Live, times}
 use Rattle.gl_plain.specs.Renew.{last_of, renew_app}
-use Rattle.gl_plain.specs.Counts.{positions_of, is_due}
+use Rattle.gl_plain.specs.Counts.{is_due}
 use Rattle.gl_plain.specs.Machine.{StandsFor, OnlyTouched}
 use Rattle.gl_plain.proofs.Moves.{is_old}
 use Rattle.gl_plain.proofs.Roots.{updated_stands, ids_are_kept}

@@ -1,5 +1,5 @@
 -- Lists of what is found in others, and look-ups by path.
-use Rattle.std.proofs.Common.{◌≡◌, ℕ, List, [], ◌∷◌, ◌++◌, map, Bool, true, false, true≢false, Option, Some, None, refl, sym, ap, ap₂, ◌∙◌, subst, inl, inr, ◌⊎◌}
+use Rattle.std.proofs.Common.{◌≡◌, List, [], ◌∷◌, map, Bool, true, false, true≢false, Option, Some, None, refl, sym, ap, ap₂, ◌∙◌, subst, inl, inr, ◌⊎◌}
 use Rattle.std.specs.Prelude.{if◌then◌else◌, filter_map, ◌||◌}
 use Rattle.std.specs.List.{cons_option}
 use Rattle.gl_meaning.specs.Path.{Path, path_eq, has_path, at_path}

@@ -1,5 +1,5 @@
 -- The cells of the instances that stand in a tree.
-use Rattle.std.proofs.Common.{◌≡◌, ◌<◌, ◌≤◌, ◌+◌, ℕ, zero, suc, max, List, [], ◌∷◌, ◌++◌, Bool, true, false, Option, Some, None, refl, sym, ap, ap₂, ◌∙◌, subst, arith, inl, inr, ◌⊎◌}
+use Rattle.std.proofs.Common.{◌≡◌, ◌<◌, ◌≤◌, ◌+◌, ℕ, zero, suc, List, [], ◌∷◌, ◌++◌, true, false, Option, Some, None, refl, sym, ap, ap₂, ◌∙◌, subst, arith, inl, inr, ◌⊎◌}
 use Rattle.std.specs.Prelude.{filter_map}
 use Rattle.std.proofs.lemmas.List.{append-nil}
 use Rattle.std.proofs.lemmas.Bool.{cases_lt}
@@ -14,14 +14,12 @@ use Rattle.gl_meaning.specs.Known.{Among}
 use Rattle.gl_meaning.specs.Render.{Entry, Block, block_named}
 use Rattle.gl_meaning.proofs.Pieces.{among_either, filter_map_append}
 use Rattle.gl_plain.specs.Ids.{Id, ref, node, instance_id, hit, occurs}
-use Rattle.gl_plain.specs.State.{any_of, source_form, Inst, MScope, cell_ref, passed_in, mslots, row, Thing}
+use Rattle.gl_plain.specs.State.{Inst, MScope, cell_ref, passed_in, mslots, Thing}
 use Rattle.gl_plain.specs.Live
 use Rattle.gl_plain.specs.Live.{AttrSpot, ModSpot, item_made, Live, Lives, Items, times, times_in, times_items, times_comment, times_attrs, times_mods}
 use Rattle.gl_plain.specs.Laid.{rest, rest_in, rest_items, CellsHold, CellsHoldItems, CellsHoldIn}
 use Rattle.gl_plain.specs.Stands.{WhereValues, WhereBlock, CellsStand, Stands, StandIn, ItemsStand, BlockStands, ListStands, ElseStands}
-use Rattle.gl_plain.specs.Machine.{RootStands}
 use Rattle.gl_plain.proofs.Moves.{hit_num, hit_self}
-use Rattle.gl_plain.proofs.Stay.{left_above, right_above}
 use Rattle.gl_turns.specs.Places.{Place, instance_in, comment_places, attr_places, mod_places, places, places_items, places_in}
 use Rattle.gl_turns.proofs.Touched.{source_row}
 

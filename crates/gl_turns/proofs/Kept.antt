@@ -1,10 +1,10 @@
 -- What is kept by path: each place of the new tree is one of the old tree, or has an id that was never given and a path that is new.
-use Rattle.std.proofs.Common.{◌≡◌, ◌<◌, ◌≤◌, ◌+◌, ℕ, suc, List, [], ◌∷◌, ◌++◌, Bool, true, false, true≢false, Option, Some, None, refl, sym, ap, ap₂, ◌∙◌, subst, arith, inl, inr, ◌⊎◌}
+use Rattle.std.proofs.Common.{◌≡◌, ◌<◌, ◌≤◌, ◌+◌, ℕ, suc, List, [], ◌∷◌, ◌++◌, Bool, true, false, true≢false, Option, refl, sym, ap, ◌∙◌, subst, arith, inl, inr, ◌⊎◌}
 use Rattle.std.proofs.lemmas.Bool.{cases_lt}
 use Rattle.std.proofs.lemmas.Bool.Decides.{Decides-eqb}
 use Rattle.gl_value.specs.Value.{undefined}
 use Rattle.gl_ast.specs.Template.{Plain}
-use Rattle.gl_meaning.specs.Path.{PathStep, at, main, otherwise, items, item, into, slot, Path, no_owners}
+use Rattle.gl_meaning.specs.Path.{PathStep, at, main, otherwise, items, item, slot, Path, no_owners}
 use Rattle.gl_meaning.specs.Known.{Among}
 use Rattle.gl_meaning.specs.Laws.{Within}
 use Rattle.gl_meaning.proofs.Pieces.{among_either, among_left, among_right}

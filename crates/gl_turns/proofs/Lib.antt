@@ -10,4 +10,6 @@ pub mod Sources
 pub mod Evaluated
 pub mod Held
 pub mod Setting
+pub mod Resettled
 pub mod Turning
+mod Cases

@@ -1,6 +1,6 @@
 -- The ids of nodes are the numbers that the meaning gives.
-use Rattle.std.proofs.Common.{◌≡◌, ◌<◌, ◌≤◌, ◌+◌, ℕ, suc, List, [], ◌∷◌, ◌++◌, map, Bool, true, false, true≢false, Option, Some, None, cond, refl, sym, ap, ap₂, ◌∙◌, subst, arith, inl, inr, ◌⊎◌}
-use Rattle.std.specs.Prelude.{filter, filter_map, length, nat_le, not, unwrap_or}
+use Rattle.std.proofs.Common.{◌≡◌, ◌<◌, ◌≤◌, ◌+◌, ℕ, suc, List, [], ◌∷◌, map, Bool, true, false, Option, Some, None, cond, refl, sym, ap, ap₂, ◌∙◌, subst, arith, inl, inr, ◌⊎◌}
+use Rattle.std.specs.Prelude.{filter, filter_map, length, nat_le, not}
 use Rattle.std.proofs.lemmas.Bool.{le-leb, lt-leb}
 use Rattle.gl_meaning.specs.App.{App}
 use Rattle.gl_meaning.specs.Path.{Path, has_path, at_path}
@@ -9,23 +9,21 @@ use Rattle.gl_meaning.specs.Known.{Among}
 use Rattle.gl_meaning.specs.Laws.{NoRepeat}
 use Rattle.gl_meaning.specs.Render.{draw}
 use Rattle.gl_meaning.specs.Changes.{nodes, Numbers, with_number, number_one, number_from, number, Sets}
-use Rattle.gl_meaning.specs.Work.{work}
 use Rattle.gl_meaning.proofs.Once.{nodes_once}
 use Rattle.gl_meaning.proofs.Pieces.{some_same, none_some}
-use Rattle.gl_plain.specs.Ids.{a_node, Id, node}
+use Rattle.gl_plain.specs.Ids.{a_node, node}
 use Rattle.gl_plain.specs.State.{State}
 use Rattle.gl_plain.specs.Live.{Live, times}
 use Rattle.gl_plain.specs.Grow.{grow_app}
 use Rattle.gl_plain.specs.Renew.{renew_app}
-use Rattle.gl_plain.specs.Counts.{nodes_of, Runs}
-use Rattle.gl_plain.specs.Machine.{StandsFor, OnlyTouched}
+use Rattle.gl_plain.specs.Counts.{Runs}
+use Rattle.gl_plain.specs.Machine.{StandsFor}
 use Rattle.gl_plain.proofs.Moves.{is_old}
 use Rattle.gl_plain.proofs.Roots.{appended_stands, updated_stands, ids_are_kept}
 use Rattle.gl_plain.proofs.CountGrows.{appended_makes}
 use Rattle.gl_plain.proofs.CountStands.{updated_makes}
 use Rattle.gl_turns.specs.Places.{Place, node_place, position_place, item_place, instance_place, modifier_place, node_in, places}
 use Rattle.gl_turns.specs.Fits.{FitsRoot}
-use Rattle.gl_turns.specs.Numbers.{numbers_of}
 use Rattle.gl_turns.specs.Laws.{AppendedNumbers, UpdatedNumbers, UpdatedMadeCount}
 use Rattle.gl_turns.proofs.Found.{found_from, found_in, at_absent, at_found, at_means, at_none, has_it, has_not}
 use Rattle.gl_turns.proofs.Listed.{nodes_listed}

@@ -1,10 +1,9 @@
 -- A set by id is the store with the set laid on.
-use Rattle.std.proofs.Common.{◌≡◌, ◌<◌, ◌≤◌, ◌+◌, ℕ, zero, suc, max, List, [], ◌∷◌, map, Bool, true, false, true≢false, Option, Some, None, refl, sym, ap, ap₂, ◌∙◌, subst, arith, inl, inr, ◌⊎◌}
+use Rattle.std.proofs.Common.{◌≡◌, ◌<◌, ◌≤◌, ◌+◌, ℕ, zero, suc, max, List, [], ◌∷◌, map, Bool, true, false, true≢false, Option, Some, None, refl, sym, ap, ap₂, ◌∙◌, subst, arith, inl, inr}
 use Rattle.std.specs.Prelude.{filter_map, unwrap_or, ◌&&◌, ◌||◌, if◌then◌else◌}
 use Rattle.std.specs.Str.{bytes_eq}
 use Rattle.gl_base.specs.Texts.{Text}
 use Rattle.gl_base.specs.Names.{named}
-use Rattle.gl_ast.specs.Template.{Expr}
 use Rattle.gl_value.specs.Value.{undefined, plain}
 use Rattle.gl_meaning.specs.App.{App}
 use Rattle.gl_meaning.specs.Path.{Path, V, path_eq, at_path}
@@ -12,7 +11,6 @@ use Rattle.gl_meaning.specs.Scope.{Source, cell, item_value, item_index}
 use Rattle.gl_meaning.specs.Eval.{Held, Store, class_at, cell_value, held_at, Member, field_member, getter_member, action_member, member_of}
 use Rattle.gl_meaning.specs.Known.{Among}
 use Rattle.gl_meaning.specs.Laws.{NoRepeat}
-use Rattle.gl_meaning.specs.Render.{draw}
 use Rattle.gl_meaning.specs.Changes.{Sets, is_set}
 use Rattle.gl_meaning.specs.Actions.{lay}
 use Rattle.gl_meaning.proofs.Equal.{path_means, path_itself, text_means, text_itself, both_left, both_right, both_true}
@@ -20,11 +18,10 @@ use Rattle.gl_meaning.proofs.Once.{instances_once}
 use Rattle.gl_meaning.proofs.Pieces.{some_same, none_some}
 use Rattle.gl_plain.specs.Ids.{Id, id_eq, ref, instance_id, hit, occurs}
 use Rattle.gl_plain.specs.State.{any_of, source_form, Inst, cell_ref, mscope, mnothing, row, Thing, State, source_eq, touch}
-use Rattle.gl_plain.specs.Live
 use Rattle.gl_plain.specs.Live.{Live, Lives, times, times_in}
 use Rattle.gl_plain.specs.Laid.{rest_in, CellsHoldIn}
 use Rattle.gl_plain.specs.Stands.{top, CellsStand, Owned}
-use Rattle.gl_plain.specs.Machine.{no_place, RootStands, StandsFor, OnlyTouched}
+use Rattle.gl_plain.specs.Machine.{no_place, RootStands, StandsFor}
 use Rattle.gl_plain.specs.Turns.{begin}
 use Rattle.gl_plain.proofs.Laid.{laid_in}
 use Rattle.gl_plain.proofs.Moves.{IdCase, id_case, hit_self, id_itself}

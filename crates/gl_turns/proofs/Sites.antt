@@ -1,11 +1,11 @@
 -- Where the places of a part stand, and that they are the part's own.
-use Rattle.std.proofs.Common.{◌≡◌, ◌<◌, ◌≤◌, ◌+◌, ℕ, suc, List, [], ◌∷◌, ◌++◌, true, false, Option, Some, None, refl, sym, ap, ◌∙◌, subst, arith, inl, inr, ◌⊎◌}
+use Rattle.std.proofs.Common.{◌≡◌, ◌<◌, ◌+◌, ℕ, suc, List, [], ◌∷◌, ◌++◌, true, false, Option, Some, None, refl, sym, ap, ◌∙◌, subst, arith, inl, inr}
 use Rattle.gl_meaning.specs.Path.{PathStep, at, main, otherwise, items, item, into, slot, empty, attribute_at, modifier_at, Path}
 use Rattle.gl_meaning.specs.Known.{Among}
 use Rattle.gl_meaning.specs.Laws.{Within}
 use Rattle.gl_meaning.proofs.Pieces.{among_either}
 use Rattle.gl_meaning.proofs.Under.{within_itself, within_outer, steps_apart, not_below}
-use Rattle.gl_plain.specs.Ids.{Id, ref, node, instance_id, modifier_id, hit, occurs}
+use Rattle.gl_plain.specs.Ids.{Id, ref, node, modifier_id, hit, occurs}
 use Rattle.gl_plain.specs.Live
 use Rattle.gl_plain.specs.Live.{AttrSpot, ModSpot, Live, Lives, Items, item_made, times, times_in, times_items, times_comment, times_attrs, times_mods}
 use Rattle.gl_plain.proofs.Moves.{hit_self}
@@ -136,7 +136,6 @@ mutual
 
 -- Each is counted in the part: an item by one of its references that was made for it.
 module _ (num : Rattle.gl_plain.specs.Live.ItemSpot → ℕ) (mine : (z : Rattle.gl_plain.specs.Live.ItemSpot) → 0 < occurs (ref (num z)) (item_made z)) where
-
   abbrev pub CountedBy : (Id → ℕ) → List Place → Type 0
   CountedBy count xs = (a : Place) → Among a xs → 0 < count (id_by num a)
 

@@ -1,7 +1,7 @@
 -- The sources that are touched at the end of an update are those that the meaning names.
-use Rattle.std.proofs.Common.{◌≡◌, ◌<◌, ◌≤◌, ℕ, List, [], ◌∷◌, map, Bool, true, false, true≢false, Option, Some, None, refl, sym, ap, ap₂, ◌∙◌, subst, arith, inl, inr, ◌⊎◌}
+use Rattle.std.proofs.Common.{◌≡◌, ◌<◌, ℕ, List, [], ◌∷◌, map, Bool, true, false, true≢false, Option, Some, None, refl, sym, ap, ap₂, ◌∙◌, subst, arith, inl, inr, ◌⊎◌}
 use Rattle.std.specs.Prelude.{filter_map, not, if◌then◌else◌}
-use Rattle.gl_value.specs.Value.{same, count_value, undefined}
+use Rattle.gl_value.specs.Value.{same, count_value}
 use Rattle.gl_meaning.specs.App.{App}
 use Rattle.gl_meaning.specs.Path.{Path, V, path_eq}
 use Rattle.gl_meaning.specs.Scope.{Source, cell, item_value, item_index}
@@ -9,12 +9,12 @@ use Rattle.gl_meaning.specs.Eval.{Store}
 use Rattle.gl_meaning.specs.Known.{Among}
 use Rattle.gl_meaning.specs.Laws.{NoRepeat}
 use Rattle.gl_meaning.specs.Render.{draw}
-use Rattle.gl_meaning.specs.Changes.{Item, item_of, both_differ, same_value, same_index, rendered_items, Sets, touched}
-use Rattle.gl_meaning.proofs.Equal.{path_means, path_itself, same_means, same_itself}
+use Rattle.gl_meaning.specs.Changes.{Item, item_of, both_differ, rendered_items, Sets}
+use Rattle.gl_meaning.proofs.Equal.{path_means, path_itself, same_itself}
 use Rattle.gl_meaning.proofs.Once.{items_once}
 use Rattle.gl_meaning.proofs.Pieces.{some_same, none_some}
-use Rattle.gl_plain.specs.Ids.{a_node, a_ref, Id, ref}
-use Rattle.gl_plain.specs.State.{any_of, Form, source_form, row, Thing, State, held_value, form_value}
+use Rattle.gl_plain.specs.Ids.{a_ref, Id, ref}
+use Rattle.gl_plain.specs.State.{Thing, State, held_value}
 use Rattle.gl_plain.specs.Live.{ItemSpot, Live, times}
 use Rattle.gl_plain.specs.Renew.{renew_app}
 use Rattle.gl_plain.specs.Machine.{StandsFor, OnlyTouched}
@@ -27,7 +27,7 @@ use Rattle.gl_turns.specs.Evaluated.{TouchedBy}
 use Rattle.gl_turns.specs.Laws.{TouchedIsTouched}
 use Rattle.gl_turns.proofs.Found.{found_from, found_in, path_other}
 use Rattle.gl_turns.proofs.Sites.{root_counted}
-use Rattle.gl_turns.proofs.Kept.{KeptOne, Kept, root_kept}
+use Rattle.gl_turns.proofs.Kept.{KeptOne, root_kept}
 use Rattle.gl_turns.proofs.Agrees.{ItemsShown}
 use Rattle.gl_turns.proofs.Numbered.{tree_agrees}
 use Rattle.gl_turns.proofs.Touched.{source_row, Changed, Touches}
@@ -82,8 +82,10 @@ spot_of look i (y ∷ ys) (j ∷ js) h (inl e) =
     let here : y.0 ≡ i.path = h.0 ∙ sym (ap (λ (k : Item). k.path) e) in (
       y.1,
       inl (ap (λ q. (q, y.1)) (sym here)),
-      (subst (λ q. look (ref y.1.value) ≡ source_row (item_value q) i.value) here (subst (λ (k : Item). look (ref y.1.value) ≡ source_row (item_value y.0) k.value) (sym e) h.1),
-      subst (λ q. look (ref y.1.index) ≡ source_row (item_index q) (count_value i.index)) here (subst (λ (k : Item). look (ref y.1.index) ≡ source_row (item_index y.0) (count_value k.index)) (sym e) h.2)),
+      (
+        subst (λ q. look (ref y.1.value) ≡ source_row (item_value q) i.value) here (subst (λ (k : Item). look (ref y.1.value) ≡ source_row (item_value y.0) k.value) (sym e) h.1),
+        subst (λ q. look (ref y.1.index) ≡ source_row (item_index q) (count_value i.index)) here (subst (λ (k : Item). look (ref y.1.index) ≡ source_row (item_index y.0) (count_value k.index)) (sym e) h.2),
+      ),
     )
 spot_of look i (y ∷ ys) (j ∷ js) h (inr m) = let g = spot_of look i ys js h.3 m in (g.0, inr g.1, g.2)
 spot_of look i [] (j ∷ js) h m = absurd h
@@ -104,11 +106,11 @@ is_index _ = false
 
 -- For the values of items, or for their indexes: what a source holds at a path, in which reference, and what it is of an item.
 module _ (app : App) (σ τ : Store) (sets : Sets) (st : State) (l : Live) (h : StandsFor app σ τ st l) (cells : OnlyTouched app σ τ st) (by_sets : TouchedBy sets st)
-  (source : Path → Source) (kind : (p : Path) → source_place (source p) ≡ p) (num : ItemSpot → ℕ) (val : Item → V)
-  (unset : (p : Path) → st.touched (source p) ≡ false)
-  (num_of : (p : Path) (c : ItemSpot) (q : Path) (n : ℕ) → ((source p ≡ item_value q) × (n ≡ c.value)) ⊎ ((source p ≡ item_index q) × (n ≡ c.index)) → (p ≡ q) × (n ≡ num c))
-  (row_of : (look : Id → Option Thing) (p : Path) (z : ItemSpot) (i : Item) → Rows look p z i → look (ref (num z)) ≡ source_row (source p) (val i))
-  (owned : (p : Path) (z : ItemSpot) → Among (item_place p z) (places [] l) → num z < st.next a_ref) where
+    (source : Path → Source) (kind : (p : Path) → source_place (source p) ≡ p) (num : ItemSpot → ℕ) (val : Item → V)
+    (unset : (p : Path) → st.touched (source p) ≡ false)
+    (num_of : (p : Path) (c : ItemSpot) (q : Path) (n : ℕ) → ((source p ≡ item_value q) × (n ≡ c.value)) ⊎ ((source p ≡ item_index q) × (n ≡ c.index)) → (p ≡ q) × (n ≡ num c))
+    (row_of : (look : Id → Option Thing) (p : Path) (z : ItemSpot) (i : Item) → Rows look p z i → look (ref (num z)) ≡ source_row (source p) (val i))
+    (owned : (p : Path) (z : ItemSpot) → Among (item_place p z) (places [] l) → num z < st.next a_ref) where
   after : Live × State
   after = renew_app app τ l st
 

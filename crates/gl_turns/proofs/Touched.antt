@@ -1,39 +1,25 @@
 -- What an update touches: the value or the index of an item that stands in the old tree and in the new one, where it isn't the same.
-use Rattle.std.proofs.Common.{◌≡◌, ◌<◌, ◌≤◌, ◌+◌, ℕ, zero, suc, max, List, [], ◌∷◌, ◌++◌, Bool, true, false, true≢false, Option, Some, None, cond, refl, sym, ap, ap₂, ◌∙◌, subst, arith, inl, inr, ◌⊎◌}
+use Rattle.std.proofs.Common.{◌≡◌, ◌<◌, ◌≤◌, ◌+◌, ℕ, List, [], ◌∷◌, ◌++◌, Bool, true, false, true≢false, Option, Some, None, refl, sym, ap, ap₂, ◌∙◌, subst, arith, inl, inr, ◌⊎◌}
 use Rattle.std.specs.Prelude.{if◌then◌else◌, ◌||◌}
-use Rattle.std.proofs.lemmas.Bool.Decides.{Decides-eqb}
 use Rattle.gl_base.specs.Texts.{Text}
-use Rattle.gl_value.specs.Value.{Values, no_values, value, count_value, same, text_of}
-use Rattle.gl_ast.specs.Template as t
-use Rattle.gl_meaning.specs.App.{App}
-use Rattle.gl_meaning.specs.Path.{PathStep, at, main, otherwise, items, item, into, slot, Path, V, path_eq, no_owners}
-use Rattle.gl_meaning.specs.Scope.{Source, cell, item_value, item_index, Scope, scope, passed, passed_of, with_locals, bind}
-use Rattle.gl_meaning.specs.Eval.{Store, class_at, eval_all, eval_given, takes_first, values_in}
+use Rattle.gl_value.specs.Value.{same, text_of}
+use Rattle.gl_meaning.specs.Path.{Path, V, path_eq}
+use Rattle.gl_meaning.specs.Scope.{Source, cell, item_value, item_index}
+use Rattle.gl_meaning.specs.Eval.{values_in}
 use Rattle.gl_meaning.specs.Parts.{attribute_value}
 use Rattle.gl_meaning.specs.Known.{Among}
-use Rattle.gl_meaning.specs.Render.{Entry, entries, entry_pairs, values_listed, Block, block_named}
 use Rattle.gl_meaning.proofs.Equal.{both_left, both_right, same_means, no_owners-Decides, text_means}
-use Rattle.gl_meaning.proofs.Once.{Distinct, distinct}
-use Rattle.gl_meaning.proofs.Pieces.{among_either, among_left, among_right}
-use Rattle.gl_plain.specs.Ids.{a_ref, Id, id_eq, ref, node, modifier_id, hit, occurs}
-use Rattle.gl_plain.specs.State.{any_of, Form, constant_form, source_form, property_form, call_form, joined_form, all_form, MScope, mscope, mnothing, mpassed, passed_in, mslots, mwriter, writer, named_as, with_names, Row, row, content, instance_row, block_row, modifier_row, Thing, State, put_thing, dropped, touch, source_eq, held_value, text_content, note_updated}
-use Rattle.gl_plain.specs.Binding.{Spot, first_value}
-use Rattle.gl_plain.specs.Live.{AttrSpot, ModSpot, ItemSpot, item_names, item_made, Live, Lives, Items, times, times_in, times_items, times_comment, times_attrs, times_mods}
-use Rattle.gl_plain.specs.Live
-use Rattle.gl_plain.specs.Grow.{Arm, or_comment, ItemGrown, grow_entries, branch_from, listed_from, unlisted_from, grow_components, grow_yields}
-use Rattle.gl_plain.specs.Renew.{spot_ids, spot_pairs, is_stale, evaluate, reread, changed_attr, refreshed, renew_text, renew_attrs, renew_mods, give, Handle, times_handle, times_handles, is_of, with_front, taken, renew_item, sync_one, sync, where_values, where_block, fresh_body, fresh_items, renew, renew_body, handles, renew_root}
-use Rattle.gl_plain.specs.Stands.{top, WhereValues, WhereBlock, Stands, StandIn, ItemsStand, BlockStands, ListStands, ElseStands, one_expr, attrs_by, mods_by}
-use Rattle.gl_plain.specs.Counts.{comment_node, nodes_of, nodes_in, nodes_items}
-use Rattle.gl_plain.specs.Machine.{no_place, RootStands}
-use Rattle.gl_plain.proofs.Moves.{id_itself, hit_same, hit_self}
-use Rattle.gl_plain.proofs.Apart.{AnyStep, FromStep}
+use Rattle.gl_meaning.proofs.Pieces.{among_left, among_right}
+use Rattle.gl_plain.specs.Ids.{a_ref, Id, id_eq, ref, node, modifier_id, hit}
+use Rattle.gl_plain.specs.State.{any_of, Form, constant_form, source_form, row, content, modifier_row, Thing, State, put_thing, dropped, touch, source_eq, held_value, text_content, note_updated}
+use Rattle.gl_plain.specs.Binding.{first_value}
+use Rattle.gl_plain.specs.Live.{AttrSpot, ModSpot, ItemSpot}
+use Rattle.gl_plain.specs.Renew.{spot_pairs, is_stale, evaluate, reread, changed_attr, refreshed, renew_text, renew_attrs, renew_mods, give}
+use Rattle.gl_plain.proofs.Moves.{id_itself, hit_self}
 use Rattle.gl_plain.proofs.Syncs.{path-Decides}
-use Rattle.gl_plain.proofs.Renews.{handles_count}
 use Rattle.gl_plain.proofs.Counts.{Leaves}
-use Rattle.gl_plain.proofs.CountGrows.{CountedArm}
-use Rattle.gl_plain.proofs.CountRenews as k
-use Rattle.gl_plain.proofs.CountRenews.{Fails, Turn, Later, Own}
-use Rattle.gl_turns.specs.Places.{Place, node_place, position_place, item_place, instance_place, comment_places, attr_places, mod_places, places, places_items, places_in}
+use Rattle.gl_plain.proofs.CountRenews.{Later, Own}
+use Rattle.gl_turns.specs.Places.{Place, item_place}
 
 -- the row of a source that holds a value
 abbrev pub source_row : Source → V → Option Thing

@@ -1,12 +1,12 @@
 -- An update touches only what was given to items, statement by statement.
-use Rattle.std.proofs.Common.{◌≡◌, ◌<◌, ◌≤◌, ◌+◌, ℕ, zero, suc, max, List, [], ◌∷◌, ◌++◌, Bool, true, false, Option, Some, None, cond, refl, sym, ap, ap₂, ◌∙◌, subst, arith, inl, inr}
-use Rattle.std.specs.Prelude.{if◌then◌else◌, nat_le}
+use Rattle.std.proofs.Common.{◌≡◌, ◌+◌, ℕ, zero, suc, max, List, [], ◌∷◌, ◌++◌, Bool, true, false, Option, Some, None, cond, refl, sym, ap, ap₂, ◌∙◌, subst, arith, inl, inr}
+use Rattle.std.specs.Prelude.{if◌then◌else◌}
 use Rattle.std.proofs.lemmas.Bool.Decides.{Decides-eqb}
 use Rattle.gl_base.specs.Texts.{Text}
 use Rattle.gl_value.specs.Value.{Values, no_values, value, count_value, same}
 use Rattle.gl_ast.specs.Template as t
 use Rattle.gl_meaning.specs.App.{App}
-use Rattle.gl_meaning.specs.Path.{PathStep, at, main, otherwise, items, item, into, slot, Path, V, path_eq, no_owners}
+use Rattle.gl_meaning.specs.Path.{at, main, otherwise, items, item, into, slot, Path, V, path_eq, no_owners}
 use Rattle.gl_meaning.specs.Scope.{Source, item_value, item_index, Scope, scope, passed, passed_of, with_locals, bind}
 use Rattle.gl_meaning.specs.Eval.{Store, class_at, eval_all, eval_given, takes_first}
 use Rattle.gl_meaning.specs.Known.{Among}
@@ -15,23 +15,23 @@ use Rattle.gl_meaning.proofs.Equal.{both_left, both_right, same_means, no_owners
 use Rattle.gl_meaning.proofs.Once.{Distinct, distinct}
 use Rattle.gl_meaning.proofs.Pieces.{among_either, among_left, among_right}
 use Rattle.gl_plain.specs.Ids.{a_ref, Id, id_eq, ref, hit, occurs}
-use Rattle.gl_plain.specs.State.{MScope, mscope, mnothing, mpassed, passed_in, mslots, mwriter, writer, named_as, with_names, Thing, State, dropped, touch, held_value}
+use Rattle.gl_plain.specs.State.{MScope, mscope, mnothing, mpassed, passed_in, mslots, mwriter, writer, named_as, with_names, State, dropped, touch, held_value}
 use Rattle.gl_plain.specs.Binding.{Spot, first_value}
 use Rattle.gl_plain.specs.Live.{AttrSpot, ModSpot, ItemSpot, item_names, item_made, Live, Lives, Items, times, times_in, times_items, times_comment, times_attrs, times_mods}
 use Rattle.gl_plain.specs.Live
 use Rattle.gl_plain.specs.Grow.{Arm, or_comment, ItemGrown, grow_entries, branch_from, listed_from, unlisted_from}
 use Rattle.gl_plain.specs.Renew.{spot_pairs, reread, renew_attrs, renew_mods, give, Handle, times_handle, times_handles, is_of, with_front, taken, renew_item, sync_one, sync, where_values, where_block, fresh_body, fresh_items, renew, renew_body, handles, renew_root}
-use Rattle.gl_plain.specs.Stands.{top, WhereValues, WhereBlock, Stands, StandIn, ItemsStand, BlockStands, ListStands, ElseStands, one_expr, attrs_by, mods_by}
+use Rattle.gl_plain.specs.Stands.{top, WhereValues, WhereBlock, Stands, StandIn, ItemsStand, BlockStands, ListStands, ElseStands, attrs_by, mods_by}
 use Rattle.gl_plain.specs.Counts.{comment_node, nodes_of, nodes_in, nodes_items, attr_positions, positions_of, positions_in}
 use Rattle.gl_plain.specs.Machine.{no_place, RootStands}
 use Rattle.gl_plain.proofs.Moves.{hit_self, unhit}
 use Rattle.gl_plain.proofs.Apart.{NoStep, AnyStep, FromStep}
-use Rattle.gl_plain.proofs.Stay.{left_above, right_above}
+use Rattle.gl_plain.proofs.Stay.{left_above}
 use Rattle.gl_plain.proofs.Renews.{handles_count}
-use Rattle.gl_plain.proofs.CountGrows.{CountedIn, CountedArm, arm_steps, entries_steps}
+use Rattle.gl_plain.proofs.CountGrows.{CountedArm, arm_steps, entries_steps}
 use Rattle.gl_plain.proofs.CountRenews as k
 use Rattle.gl_plain.proofs.CountRenews.{Fails, fails_left, fails_right}
-use Rattle.gl_turns.specs.Places.{Place, node_place, position_place, item_place, instance_place, comment_places, attr_places, mod_places, places, places_items, places_in}
+use Rattle.gl_turns.specs.Places.{Place, item_place, instance_place, comment_places, attr_places, mod_places, places, places_items, places_in}
 use Rattle.gl_turns.proofs.Touched.{source_row, Quiet, quiet_all, quiet_then, quiet_leaves, quiet_drop, quiet_reread, quiet_text, quiet_attrs, quiet_mods, Touches, touch_quiet, wide, quiet_before, Lt, Ow, Frames, own_after, own_of, both_touch, join_touch, give_touches}
 
 -- what stands for an old item

@@ -1,14 +1,14 @@
 -- The turns of a session.
-use Rattle.std.proofs.Common.{◌≡◌, ℕ, suc, ◌+◌, List, [], ◌∷◌, map, Bool, true, false, Option, Some, None, refl, sym, ap, ap₂, ◌∙◌, subst, arith}
-use Rattle.std.specs.Prelude.{filter, filter_map, length, if◌then◌else◌, not, ◌||◌, ◌&&◌}
+use Rattle.std.proofs.Common.{◌≡◌, ℕ, suc, ◌+◌, List, [], ◌∷◌, map, Bool, true, false, Option, Some, None, refl, sym, ap, ◌∙◌, subst, arith}
+use Rattle.std.specs.Prelude.{filter, filter_map, length, if◌then◌else◌, not, ◌||◌}
 use Rattle.std.specs.List.{list_any}
 use Rattle.gl_meaning.specs.App.{App, Event}
 use Rattle.gl_meaning.specs.Path.{Path, path_eq, at_path}
 use Rattle.gl_meaning.specs.Eval.{Store}
-use Rattle.gl_meaning.specs.Laws.{HoldsNoAction, Reached}
+use Rattle.gl_meaning.specs.Laws.{Reached}
 use Rattle.gl_meaning.specs.Render.{Forest, draw, render, fits}
 use Rattle.gl_meaning.specs.Changes.{Position, positions, Numbers, with_number, number_one, number_from, number, nodes, Sets}
-use Rattle.gl_meaning.specs.Actions.{lay, Applied}
+use Rattle.gl_meaning.specs.Actions.{lay}
 use Rattle.gl_meaning.specs.Session as session
 use Rattle.gl_meaning.specs.Session.{Turn, turn_of, first_state, applied, step}
 use Rattle.gl_meaning.specs.Work.{work}
@@ -20,18 +20,17 @@ use Rattle.gl_plain.specs.Live.{Live}
 use Rattle.gl_plain.specs.Turns.{blank, begin}
 use Rattle.gl_plain.specs.Grow.{grow_app}
 use Rattle.gl_plain.specs.Renew.{renew_app}
-use Rattle.gl_plain.specs.Drawn.{drawn_app}
-use Rattle.gl_plain.specs.Counts.{positions_of}
-use Rattle.gl_plain.specs.Machine.{StandsFor, OnlyTouched}
+use Rattle.gl_plain.specs.Machine.{StandsFor}
 use Rattle.gl_plain.proofs.Roots.{appended_stands, updated_stands, standing_shows}
 use Rattle.gl_plain.proofs.CountGrows.{appended_evaluates}
-use Rattle.gl_turns.specs.Places.{instance_in, position_in, places}
+use Rattle.gl_turns.specs.Places.{position_in, places}
 use Rattle.gl_turns.specs.Numbers.{numbers_of, one_more}
 use Rattle.gl_turns.specs.Sets.{set_at, set_one, set_all}
-use Rattle.gl_turns.specs.Laws.{Shows, FirstTurn, NextTurn}
+use Rattle.gl_turns.specs.Laws.{Follows, FirstTurn, NextTurn}
 use Rattle.gl_turns.proofs.Listed.{positions_listed}
 use Rattle.gl_turns.proofs.Numbered.{tree_agrees, appended_numbers, updated_numbers, updated_made_count, next_count}
 use Rattle.gl_turns.proofs.Evaluated.{evaluated_count, count_kept, count_read, length_mapped}
+use Rattle.gl_turns.proofs.Resettled.{settled_stands}
 use Rattle.gl_turns.proofs.Setting.{sets_are_laid, set_next}
 
 -- Numbers with one more
@@ -98,7 +97,7 @@ all_pass [] = refl
 all_pass (x ∷ xs) = ap (λ ys. x ∷ ys) (all_pass xs)
 
 pub first_turn : FirstTurn
-first_turn app t h = subst (λ (u : Turn). let r = grow_app app [] blank in StandsFor app [] [] r.1 r.0 × Shows app u.state r.1 r.0 × (length r.1.evaluated ≡ u.work.evaluated) × (r.1.next a_node ≡ u.work.made)) (step_is app first_state None t h)
+first_turn app t h = subst (λ (u : Turn). let r = grow_app app [] blank in Follows app u.state r.1 r.0 × (length r.1.evaluated ≡ u.work.evaluated) × (r.1.next a_node ≡ u.work.made)) (step_is app first_state None t h)
     (let r = grow_app app [] blank in
     let s = appended_stands app [] blank in
     let ns = appended_numbers app [] blank in
@@ -112,8 +111,8 @@ first_turn app t h = subst (λ (u : Turn). let r = grow_app app [] blank in Stan
     let i = count_read (λ p. true) (positions f) in
     let i' = ap length (all_pass (positions f)) in
     let j = all_new (positions f) f [] in (
-      s,
       record {
+        stands = settled_stands app [] r.1 r.0 s;
         rendering = standing_shows app [] r.1 r.0 s;
         numbers = number_more [] 0 (nodes f) ∙ ap one_more (sym ns);
       },
@@ -122,11 +121,11 @@ first_turn app t h = subst (λ (u : Turn). let r = grow_app app [] blank in Stan
     ))
 
 pub next_turn : NextTurn
-next_turn app s e t st l reached h stands shows = subst (λ (u : Turn). Goal u) (step_is app s (Some e) t h) done where
+next_turn app s e t st l reached h follows = subst (λ (u : Turn). Goal u) (step_is app s (Some e) t h) done where
   Goal : Turn → Type 0
   Goal u =
-      let sets = (applied app s (Some e)).sets in let τ = lay sets s.store in let r = renew_app app τ l (set_all app l sets (begin st)) in
-      StandsFor app τ τ r.1 r.0 × Shows app u.state r.1 r.0 × (length r.1.evaluated ≡ u.work.evaluated) × (r.1.next a_node ≡ st.next a_node + u.work.made)
+      let sets = (applied app s (Some e)).sets in let r = renew_app app (lay sets s.store) l (set_all app l sets (begin st)) in
+      Follows app u.state r.1 r.0 × (length r.1.evaluated ≡ u.work.evaluated) × (r.1.next a_node ≡ st.next a_node + u.work.made)
 
   done : Goal (turn_after app s (Some e))
   done =
@@ -134,7 +133,7 @@ next_turn app s e t st l reached h stands shows = subst (λ (u : Turn). Goal u) 
       let τ = lay sets s.store in
       let st' = set_all app l sets (begin st) in
       let r = renew_app app τ l st' in
-      let laid = sets_are_laid app s.store sets st l stands in
+      let laid = sets_are_laid app s.store sets st l follows.stands in
       let now = updated_stands app s.store τ st' l laid.0 laid.1 in
       let old = rendered app s reached in
       let next = sets_next app l sets (begin st) in
@@ -142,9 +141,9 @@ next_turn app s e t st l reached h stands shows = subst (λ (u : Turn). Goal u) 
       let none = ap length (sets_evaluated app l sets (begin st)) in
       let count = evaluated_count app s.store τ sets st' l laid.0 laid.1 laid.2 (state_holds_no_action app s reached) in
       let made = updated_made_count app s.store τ sets st' l laid.0 laid.1 in
-      let before : s.numbers ≡ one_more (numbers_of st' l) = shows.numbers ∙ ap (λ (f : Rattle.gl_plain.specs.Ids.Kind → ℕ). one_more (record { of = (numbers_of st l).of; next = f a_node })) (sym next) in (
-        now,
+      let before : s.numbers ≡ one_more (numbers_of st' l) = follows.numbers ∙ ap (λ (f : Rattle.gl_plain.specs.Ids.Kind → ℕ). one_more (record { of = (numbers_of st l).of; next = f a_node })) (sym next) in (
         record {
+          stands = settled_stands app τ r.1 r.0 now;
           rendering = standing_shows app τ r.1 r.0 now;
           numbers = ap (λ (y : Numbers). number y (draw app τ)) before ∙ (number_more (numbers_of st' l).of (numbers_of st' l).next (nodes (draw app τ)) ∙ ap one_more (sym ns));
         },

@@ -4,7 +4,7 @@ use Rattle.gl_meaning.specs.App.{App, Event}
 use Rattle.gl_meaning.specs.Scope.{Source}
 use Rattle.gl_meaning.specs.Eval.{Store}
 use Rattle.gl_meaning.specs.Render.{draw}
-use Rattle.gl_meaning.specs.Changes.{Numbers, number, Sets, touched}
+use Rattle.gl_meaning.specs.Changes.{number, Sets, touched, settle}
 use Rattle.gl_meaning.specs.Laws.{HoldsNoAction, Reached}
 use Rattle.gl_meaning.specs.Session as session
 use Rattle.gl_meaning.specs.Session.{Turn, first_state, applied, step}
@@ -72,24 +72,29 @@ SetsAreLaid =
     (app : App) (σ : Store) (sets : Sets) (st : State) (l : Live) → StandsFor app σ σ st l
     → let st' = set_all app l sets (begin st) in StandsFor app σ (lay sets σ) st' l × OnlyTouched app σ (lay sets σ) st' × TouchedBy sets st'
 
+-- A machine that stands for a store stands for the settled one too, in which the cells of instances that are gone are dropped.
+abbrev pub SettledStands : Type 0
+SettledStands =
+    (app : App) (τ : Store) (st : State) (l : Live) → StandsFor app τ τ st l → let τ' = settle app τ (draw app τ) in StandsFor app τ' τ' st l
+
 -- Turns of a session
 
--- the machine shows the rendering, and its nodes have the numbers of their paths
-pub record Shows (app : App) (s : session.State) (st : State) (l : Live) : Type 0 where
+-- A machine follows a state of a session: it stands for the cells, shows the rendering, and its nodes have the numbers of their paths.
+pub record Follows (app : App) (s : session.State) (st : State) (l : Live) : Type 0 where
+  pub stands : StandsFor app s.store s.store st l
   pub rendering : drawn_app app st.look l ≡ s.rendering
   pub numbers : s.numbers ≡ one_more (numbers_of st l)
 
--- What is appended first shows what the first turn has, and did its work.
+-- What is appended first follows the state after the first turn, and did its work.
 abbrev pub FirstTurn : Type 0
 FirstTurn =
     (app : App) (t : Turn) → step app first_state None ≡ Some t
-    → let r = grow_app app [] blank in
-    StandsFor app [] [] r.1 r.0 × Shows app t.state r.1 r.0 × (length r.1.evaluated ≡ t.work.evaluated) × (r.1.next a_node ≡ t.work.made)
+    → let r = grow_app app [] blank in Follows app t.state r.1 r.0 × (length r.1.evaluated ≡ t.work.evaluated) × (r.1.next a_node ≡ t.work.made)
 
--- In a state of a session, where a machine stands for the cells and shows the rendering: after the sets of an event, an update shows what
--- the event's turn has, evaluates as many positions as its work says, and makes as many nodes.
+-- A machine that follows a state of a session follows, after the sets of an event and an update, the state after the event's turn. It has
+-- evaluated as many positions as the turn's work says, and made as many nodes.
 abbrev pub NextTurn : Type 0
 NextTurn =
-    (app : App) (s : session.State) (e : Event) (t : Turn) (st : State) (l : Live) → Reached app s → step app s (Some e) ≡ Some t → StandsFor app s.store s.store st l → Shows app s st l
-    → let sets = (applied app s (Some e)).sets in let τ = lay sets s.store in let r = renew_app app τ l (set_all app l sets (begin st)) in
-    StandsFor app τ τ r.1 r.0 × Shows app t.state r.1 r.0 × (length r.1.evaluated ≡ t.work.evaluated) × (r.1.next a_node ≡ st.next a_node + t.work.made)
+    (app : App) (s : session.State) (e : Event) (t : Turn) (st : State) (l : Live) → Reached app s → step app s (Some e) ≡ Some t → Follows app s st l
+    → let sets = (applied app s (Some e)).sets in let r = renew_app app (lay sets s.store) l (set_all app l sets (begin st)) in
+    Follows app t.state r.1 r.0 × (length r.1.evaluated ≡ t.work.evaluated) × (r.1.next a_node ≡ st.next a_node + t.work.made)

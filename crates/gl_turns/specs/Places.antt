@@ -1,10 +1,8 @@
 -- Where the things of a tree stand: each node, position, item, instance and modifier with its path.
-use Rattle.std.specs.Prelude.{◌≡◌, ◌<◌, ℕ, suc, List, [], ◌∷◌, ◌++◌, true, false, Option, Some, None}
-use Rattle.gl_base.specs.Texts.{Text}
-use Rattle.gl_meaning.specs.Path.{PathStep, at, main, otherwise, items, item, into, slot, empty, attribute_at, modifier_at, Path}
-use Rattle.gl_plain.specs.Ids.{Id, ref, node, instance_id, modifier_id, occurs}
+use Rattle.std.specs.Prelude.{ℕ, suc, List, [], ◌∷◌, ◌++◌, true, false, Option, Some, None}
+use Rattle.gl_meaning.specs.Path.{at, main, otherwise, items, item, slot, empty, attribute_at, modifier_at, Path}
+use Rattle.gl_plain.specs.Ids.{Id, ref, node, instance_id, modifier_id}
 use Rattle.gl_plain.specs.State.{Inst}
-use Rattle.gl_plain.specs.Binding.{Spot}
 use Rattle.gl_plain.specs.Live.{AttrSpot, ModSpot, ItemSpot, Live, still, put_live, element_live, branch_live, listed, unlisted, let_live, component_live, yield_live, deep_live, Items, no_items, item_live, Lives, no_lives, live_and}
 
 pub data Place : Type 0 where

@@ -1,6 +1,5 @@
 -- What an event sets, in the state.
-use Rattle.std.specs.Prelude.{List, [], ◌∷◌, ◌||◌, filter_map, Option, Some, None}
-use Rattle.gl_base.specs.Texts.{Text}
+use Rattle.std.specs.Prelude.{[], ◌∷◌, ◌||◌, filter_map, Option, Some}
 use Rattle.gl_meaning.specs.App.{App}
 use Rattle.gl_meaning.specs.Path.{at_path}
 use Rattle.gl_meaning.specs.Scope.{Source, cell}

@@ -1,6 +1,6 @@
 //! The laws of the machine's turns. Each function does nothing: its contract is the law.
 
-ghost use Rattle.gl_turns.specs.Laws.{AppendedNumbers, UpdatedNumbers, UpdatedMadeCount, TouchedIsTouched, EvaluatesNewOrStale, EvaluatedCount, SetsAreLaid, FirstTurn, NextTurn};
+ghost use Rattle.gl_turns.specs.Laws.{AppendedNumbers, UpdatedNumbers, UpdatedMadeCount, TouchedIsTouched, EvaluatesNewOrStale, EvaluatedCount, SetsAreLaid, SettledStands, FirstTurn, NextTurn};
 
 /// The ids of nodes are the numbers that the meaning gives to their paths, and as many are made as it counts.
 pub fn numbers()
@@ -21,8 +21,10 @@ pub fn sets()
     ensures { SetsAreLaid }
 {}
 
-/// In a session, a turn of the machine shows what the session's turn has, and does as much as its work says.
+/// A machine that stands for a store stands for the settled one. So in a session each turn of the machine shows what the session's turn
+/// has, and does as much as its work says.
 pub fn turns()
+    ensures settled { SettledStands }
     ensures first { FirstTurn }
     ensures next { NextTurn }
 {}
