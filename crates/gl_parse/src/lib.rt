@@ -11,8 +11,6 @@ mod tag;
 #[cfg(test)]
 mod tests;
 mod value;
-#[cfg(test)]
-mod white_space_tests;
 
 pub use gl_exprs::ParseFault;
 pub use spelled::{expression, template};

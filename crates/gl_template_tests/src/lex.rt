@@ -1,11 +1,13 @@
-use super::*;
+// Tokens of templates and of expressions.
 use gl_ast::Tokens;
+use gl_lex::{LexFault, expression_tokens, tokens};
 use std::alloc::{AllocError, Global};
+use std::process::Abort;
 use std::test::Fail;
 
 // Templates, each with a line for each token: its kind, the places where it begins and ends, and its text; or `none`
 // where there is no token at some place.
-const TEMPLATES: [(&str, &str); 110] = [
+static TEMPLATES: [(&str, &str); 110] = [
     ("", ""),
     ("a b\r\n c", "Text 0 7 a b\r\n c\n"),
     ("a { b } c }}", "Text 0 12 a { b } c }}\n"),
@@ -254,7 +256,7 @@ const TEMPLATES: [(&str, &str); 110] = [
 ];
 
 // Expressions that stand alone, in the same way.
-const EXPRESSIONS: [(&str, &str); 9] = [
+static EXPRESSIONS: [(&str, &str); 9] = [
     ("", ""),
     (" \r\n\t\u{c}", ""),
     (
@@ -297,20 +299,30 @@ fn shown(alloc: Global, text: &str, read: Result<Tokens, LexFault>) -> Result<St
     }
 }
 
+fn check_template(rt: &impl Abort, alloc: Global, row: &(&str, &str)) -> Result<(), Fail> {
+    let have = shown(alloc, row.0, tokens(alloc, row.0))?;
+    assert_eq!(rt; have.as_str(), row.1, "{}", row.0);
+    Ok(())
+}
+
+fn check_expression(rt: &impl Abort, alloc: Global, row: &(&str, &str)) -> Result<(), Fail> {
+    let have = shown(alloc, row.0, expression_tokens(alloc, row.0))?;
+    assert_eq!(rt; have.as_str(), row.1, "{}", row.0);
+    Ok(())
+}
+
 #[test]
 fn templates(rt: HostRuntime) -> Result<(), Fail> {
-    for (text, want) in TEMPLATES.iter() {
-        let have = shown(rt.alloc(), *text, tokens(rt.alloc(), *text))?;
-        assert_eq!(rt; have.as_str(), *want, "{text}");
+    for row in &TEMPLATES {
+        check_template(&rt, rt.alloc(), row)?;
     }
     Ok(())
 }
 
 #[test]
 fn expressions(rt: HostRuntime) -> Result<(), Fail> {
-    for (text, want) in EXPRESSIONS.iter() {
-        let have = shown(rt.alloc(), *text, expression_tokens(rt.alloc(), *text))?;
-        assert_eq!(rt; have.as_str(), *want, "{text}");
+    for row in &EXPRESSIONS {
+        check_expression(&rt, rt.alloc(), row)?;
     }
     Ok(())
 }

@@ -2,10 +2,11 @@
 use gl_ast::Tokens;
 use gl_space::settle;
 use std::alloc::{AllocError, Global};
+use std::process::Abort;
 use std::test::Fail;
 
 // Templates, each with the texts of its settled tokens in brackets.
-const TEMPLATES: [(&str, &str); 56] = [
+static TEMPLATES: [(&str, &str); 56] = [
     ("", ""),
     (" a \n", "[ a \n]"),
     ("a {{x}} b", "[a ][{{][x][}}][ b]"),
@@ -125,15 +126,20 @@ fn texts(alloc: Global, tokens: &Tokens) -> Result<String, AllocError> {
     Ok(all)
 }
 
+fn check_row(rt: &impl Abort, alloc: Global, row: &(&str, &str)) -> Result<(), Fail> {
+    let read = gl_lex::tokens(alloc, row.0)?;
+    let count = read.len();
+    let settled = settle(alloc, row.0, read)?;
+    assert_eq!(rt; settled.len(), count, "{}", row.0);
+    let have = texts(alloc, &settled)?;
+    assert_eq!(rt; have.as_str(), row.1, "{}", row.0);
+    Ok(())
+}
+
 #[test]
 fn templates(rt: HostRuntime) -> Result<(), Fail> {
-    for (text, want) in TEMPLATES.iter() {
-        let read = gl_lex::tokens(rt.alloc(), *text)?;
-        let count = read.len();
-        let settled = settle(rt.alloc(), *text, read)?;
-        assert_eq!(rt; settled.len(), count, "{text}");
-        let have = texts(rt.alloc(), &settled)?;
-        assert_eq!(rt; have.as_str(), *want, "{text}");
+    for row in &TEMPLATES {
+        check_row(&rt, rt.alloc(), row)?;
     }
     Ok(())
 }

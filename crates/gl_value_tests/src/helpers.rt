@@ -1,6 +1,6 @@
 // Calls of helpers. Values are written in JSON, where the text `?` stands for undefined, and a record with
 // the key `@go` for the action `go` of the instance 7 with the fixed arguments that stand there.
-use crate::call;
+use gl_helpers::call;
 use gl_value::{Act, List, NamedValues, Record, Text, Value};
 use std::alloc::{AllocError, Global};
 use std::process::Abort;

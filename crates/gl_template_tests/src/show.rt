@@ -1,9 +1,9 @@
 // Trees, each with its spelling.
-use super::*;
 use gl_ast::{
     Args, Argument, AttrValue, Block, Body, Expr, Exprs, Lit, NamedExpr, Names, Pairs, Part, Parts,
     Slot, Slots, Stmt, Template,
 };
+use gl_show::{show, show_body};
 use gl_value::Text;
 use std::alloc::Global;
 use std::process::Abort;
@@ -33,7 +33,7 @@ enum Shape {
     Yield(&'static str),
 }
 
-const ROWS: [(Shape, &str); 48] = [
+static ROWS: [(Shape, &str); 48] = [
     (Shape::Texts(&[]), ""),
     (Shape::Texts(&["a", "b", "c"]), "a{{!}}b{{!}}c"),
     (

@@ -1,5 +1,8 @@
 // Trees with each kind of expression, part and statement.
-use super::*;
+use gl_ast::{
+    Args, Argument, AttrValue, Block, Body, Expr, Exprs, Lit, NamedExpr, Names, Pairs, Part, Parts,
+    Slot, Slots, Stmt, Str,
+};
 use std::alloc::Global;
 use std::process::Abort;
 use std::test::Fail;

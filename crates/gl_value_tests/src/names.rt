@@ -1,4 +1,6 @@
-use super::*;
+use gl_names::{
+    HELPERS, MNEMONICS, NameTable, REFERENCES, Row, VOID, helpers, mnemonics, references, void,
+};
 use std::test::Fail;
 
 // The opcodes' names with their codes.

@@ -1,10 +1,15 @@
 // Values and texts, as callers meet them.
-use super::*;
+use gl_value::{
+    Act, Found, JsonFault, List, NamedValues, Record, Text, Value, key_of, laws, quote,
+};
 use std::alloc::Global;
+use std::process::Abort;
 use std::test::Fail;
 
 // A JSON text; the truth, the text and the attribute of its value.
-const RULES: [(&str, bool, &str, Option<&str>); 14] = [
+type Rule = (&'static str, bool, &'static str, Option<&'static str>);
+
+const RULES: [Rule; 14] = [
     ("null", false, "", None),
     ("true", true, "true", Some("")),
     ("false", false, "false", None),
@@ -48,7 +53,9 @@ const PAIRS: [(&str, &str, bool); 12] = [
 ];
 
 // A JSON text, a name, and the text of the value's property of that name, or none where it is undefined.
-const PROPERTIES: [(&str, &str, Option<&str>); 16] = [
+type Property = (&'static str, &'static str, Option<&'static str>);
+
+const PROPERTIES: [Property; 16] = [
     ("{\"a\":1,\"length\":5}", "length", Some("5")),
     ("{\"a\":1,\"b\":2}", "b", Some("2")),
     ("{\"a\":1}", "length", None),
@@ -68,7 +75,9 @@ const PROPERTIES: [(&str, &str, Option<&str>); 16] = [
 ];
 
 // A JSON text, an index, a key text, and the text of the key, or none where it is undefined.
-const KEYS: [(&str, u64, &str, Option<&str>); 8] = [
+type Key = (&'static str, u64, &'static str, Option<&'static str>);
+
+const KEYS: [Key; 8] = [
     ("[7]", 3, "@index", Some("3")),
     (
         "null",
@@ -123,6 +132,18 @@ const SCALARS: [(&str, Option<&str>); 11] = [
     ("{}", None),
 ];
 
+// How many arrays stand round a JSON text, that text, and why this is no value.
+type Depth = (u32, &'static str, Option<JsonFault>);
+
+const DEPTHS: [Depth; 6] = [
+    (100, "", None),
+    (101, "", Some(JsonFault::TooDeep)),
+    (127, "", Some(JsonFault::TooDeep)),
+    (101, "1.5", Some(JsonFault::NotWhole)),
+    (100, "{}", Some(JsonFault::TooDeep)),
+    (100, "0", None),
+];
+
 const QUOTED: [(&str, &str); 4] = [
     ("", "\"\""),
     ("a\"b\\c", "\"a\\\"b\\\\c\""),
@@ -133,28 +154,55 @@ const QUOTED: [(&str, &str); 4] = [
     ("\u{80}\u{e9}\u{1f600}", "\"\u{80}\u{e9}\u{1f600}\""),
 ];
 
+// The scalar that a JSON text is, and none for any other.
+fn scalar(alloc: Global, json: &str) -> Result<Option<Value>, Fail> {
+    let json = serde_json::Value::from_str(alloc, json)?;
+    Ok(Value::from_scalar(alloc, &json)?)
+}
+
+// The text of a copy of a scalar.
+fn text_of_copy(alloc: Global, scalar: &Option<Value>) -> Result<Option<Text>, Fail> {
+    match scalar {
+        Some(value) => {
+            let copy = value.copy()?;
+            Ok(Some(copy.text_of(alloc)?))
+        }
+        None => Ok(None),
+    }
+}
+
+fn check_scalar(rt: &impl Abort, alloc: Global, row: &(&str, Option<&str>)) -> Result<(), Fail> {
+    let found = scalar(alloc, row.0)?;
+    let text = text_of_copy(alloc, &found)?;
+    assert!(rt; is_shown(&text, &row.1), "{}", row.0);
+    Ok(())
+}
+
 #[test]
 fn scalars(rt: HostRuntime) -> Result<(), Fail> {
-    let alloc = rt.alloc();
-    for (json, wanted) in &SCALARS {
-        let json = serde_json::Value::from_str(alloc, json)?;
-        match (Value::from_scalar(alloc, &json)?, wanted) {
-            (Some(value), Some(text)) => {
-                let shown = value.copy()?.text_of(alloc)?;
-                assert_eq!(rt; shown.as_str(), *text);
-            }
-            (found, _) => assert!(rt; found.is_none()),
-        }
+    for row in &SCALARS {
+        check_scalar(&rt, rt.alloc(), row)?;
     }
-    assert_eq!(rt; Value::Undefined.text_of(alloc)?.as_str(), "");
+    Ok(())
+}
+
+#[test]
+fn text_of_undefined(rt: HostRuntime) -> Result<(), Fail> {
+    let shown = Value::Undefined.text_of(rt.alloc())?;
+    assert_eq!(rt; shown.as_str(), "");
+    Ok(())
+}
+
+fn check_quote(rt: &impl Abort, alloc: Global, row: &(&str, &str)) -> Result<(), Fail> {
+    let quoted = quote(alloc, row.0)?;
+    assert_eq!(rt; quoted.as_str(), row.1);
     Ok(())
 }
 
 #[test]
 fn quotes(rt: HostRuntime) -> Result<(), Fail> {
-    for (text, wanted) in &QUOTED {
-        let quoted = quote(rt.alloc(), text)?;
-        assert_eq!(rt; quoted.as_str(), *wanted);
+    for row in &QUOTED {
+        check_quote(&rt, rt.alloc(), row)?;
     }
     Ok(())
 }
@@ -199,127 +247,134 @@ fn is_shown(found: &Option<Text>, wanted: &Option<&str>) -> bool {
     }
 }
 
-// `n` arrays, each in the one before, round a text.
-fn nested(alloc: Global, n: u32, inside: &str) -> Result<String, Fail> {
+// A character so many times.
+fn repeated(alloc: Global, n: u32, character: char) -> Result<String, Fail> {
     let mut text = String::new(alloc);
     for _ in 0..n {
-        text.push('[')?;
-    }
-    text.push_str(inside)?;
-    for _ in 0..n {
-        text.push(']')?;
+        text.push(character)?;
     }
     Ok(text)
 }
 
-// Whether a JSON text's value has that truth, text and attribute, and is the same as its copies.
-fn has_rules(
-    alloc: Global,
-    json: &str,
-    truth: bool,
-    text: &str,
-    attribute: &Option<&str>,
-) -> Result<bool, Fail> {
-    let value = value_of(alloc, json)?;
+// `n` arrays, each in the one before, round a text.
+fn nested(alloc: Global, n: u32, inside: &str) -> Result<String, Fail> {
+    let mut text = repeated(alloc, n, '[')?;
+    let ends = repeated(alloc, n, ']')?;
+    text.push_str(inside)?;
+    text.push_str(ends.as_str())?;
+    Ok(text)
+}
+
+// Whether a value is the same as its copies.
+fn is_its_copies(value: &Value) -> Result<bool, Fail> {
+    let copy = value.copy()?;
+    let data = value.data_of()?;
+    Ok(copy.same(value) && data.same(value))
+}
+
+// Whether a value has the text and the attribute of a row.
+fn has_texts(alloc: Global, value: &Value, row: &Rule) -> Result<bool, Fail> {
     let shown = value.text_of(alloc)?;
     let found = value.attr_of(alloc)?;
-    let copies = value.copy()?.same(&value) && value.data_of()?.same(&value);
-    Ok(value.truthy() == truth && shown.is(text) && is_shown(&found, attribute) && copies)
+    Ok(shown.is(row.2) && is_shown(&found, &row.3))
+}
+
+fn check_rule(rt: &impl Abort, alloc: Global, row: &Rule) -> Result<(), Fail> {
+    let value = value_of(alloc, row.0)?;
+    assert_eq!(rt; value.truthy(), row.1, "{}", row.0);
+    let has_texts = has_texts(alloc, &value, row)?;
+    let is_its_copies = is_its_copies(&value)?;
+    assert!(rt; has_texts && is_its_copies, "{}", row.0);
+    Ok(())
 }
 
 #[test]
 fn rules(rt: HostRuntime) -> Result<(), Fail> {
-    for (json, truth, text, attribute) in &RULES {
-        assert!(rt;
-            has_rules(rt.alloc(), json, *truth, text, attribute)?,
-            "{json}"
-        );
+    for row in &RULES {
+        check_rule(&rt, rt.alloc(), row)?;
     }
+    Ok(())
+}
+
+fn check_pair(rt: &impl Abort, alloc: Global, row: &(&str, &str, bool)) -> Result<(), Fail> {
+    let one = value_of(alloc, row.0)?;
+    let with = value_of(alloc, row.1)?;
+    assert_eq!(rt; one.same(&with), row.2, "{}", row.1);
     Ok(())
 }
 
 #[test]
 fn pairs(rt: HostRuntime) -> Result<(), Fail> {
-    let alloc = rt.alloc();
-    for (one, with, wanted) in &PAIRS {
-        let one = value_of(alloc, one)?;
-        assert_eq!(rt; one.same(&value_of(alloc, with)?), *wanted, "{with}");
+    for row in &PAIRS {
+        check_pair(&rt, rt.alloc(), row)?;
     }
     Ok(())
 }
 
-// Whether a JSON text's value has that property.
-fn has_property(
-    alloc: Global,
-    json: &str,
-    name: &str,
-    wanted: &Option<&str>,
-) -> Result<bool, Fail> {
-    let value = value_of(alloc, json)?;
-    let found = value.property(name)?;
+fn check_property(rt: &impl Abort, alloc: Global, row: &Property) -> Result<(), Fail> {
+    let value = value_of(alloc, row.0)?;
+    let found = value.property(row.1)?;
     let text = shown(alloc, &found)?;
-    Ok(is_shown(&text, wanted) && value.find(name).same(&found))
+    assert!(rt; is_shown(&text, &row.2), "{} of {}", row.1, row.0);
+    assert!(rt; value.find(row.1).same(&found), "{} of {}", row.1, row.0);
+    Ok(())
 }
 
 #[test]
 fn properties(rt: HostRuntime) -> Result<(), Fail> {
-    for (json, name, wanted) in &PROPERTIES {
-        assert!(rt;
-            has_property(rt.alloc(), json, name, wanted)?,
-            "{name} of {json}"
-        );
+    for row in &PROPERTIES {
+        check_property(&rt, rt.alloc(), row)?;
     }
     Ok(())
 }
 
-// Whether a JSON text's value has that key.
-fn has_key(
-    alloc: Global,
-    json: &str,
-    index: u64,
-    key: &str,
-    wanted: &Option<&str>,
-) -> Result<bool, Fail> {
-    let found = key_of(&value_of(alloc, json)?, index, key)?;
+fn check_key(rt: &impl Abort, alloc: Global, row: &Key) -> Result<(), Fail> {
+    let value = value_of(alloc, row.0)?;
+    let found = key_of(&value, row.1, row.2)?;
     let text = shown(alloc, &found)?;
-    Ok(is_shown(&text, wanted))
+    assert!(rt; is_shown(&text, &row.3), "{} of {}", row.2, row.0);
+    Ok(())
 }
 
 #[test]
 fn keys(rt: HostRuntime) -> Result<(), Fail> {
-    for (json, index, key, wanted) in &KEYS {
-        assert!(rt;
-            has_key(rt.alloc(), json, *index, key, wanted)?,
-            "{key} of {json}"
-        );
+    for row in &KEYS {
+        check_key(&rt, rt.alloc(), row)?;
     }
     Ok(())
 }
 
+// Why a JSON text is no value, and none where it is one.
+fn fault_of(alloc: Global, text: &str) -> Result<Option<JsonFault>, Fail> {
+    let json = serde_json::Value::from_str(alloc, text)?;
+    Ok(Value::from_json(alloc, &json).err())
+}
+
+fn check_fault(rt: &impl Abort, alloc: Global, row: &(&str, JsonFault)) -> Result<(), Fail> {
+    let found = fault_of(alloc, row.0)?;
+    assert_eq!(rt; found, Some(row.1), "{}", row.0);
+    Ok(())
+}
+
 #[test]
-fn json(rt: HostRuntime) -> Result<(), Fail> {
-    let alloc = rt.alloc();
-    for (text, wanted) in &FAULTS {
-        let json = serde_json::Value::from_str(alloc, text)?;
-        match Value::from_json(alloc, &json) {
-            Ok(_) => assert!(rt; false, "{text} is read"),
-            Err(fault) => assert_eq!(rt; fault, *wanted, "{text}"),
-        }
+fn faults(rt: HostRuntime) -> Result<(), Fail> {
+    for row in &FAULTS {
+        check_fault(&rt, rt.alloc(), row)?;
     }
-    for (depth, inside, wanted) in [
-        (100, "", None),
-        (101, "", Some(JsonFault::TooDeep)),
-        (127, "", Some(JsonFault::TooDeep)),
-        (101, "1.5", Some(JsonFault::NotWhole)),
-        (100, "{}", Some(JsonFault::TooDeep)),
-        (100, "0", None),
-    ] {
-        let json = serde_json::Value::from_str(alloc, nested(alloc, depth, inside)?.as_str())?;
-        assert_eq!(rt;
-            Value::from_json(alloc, &json).err(),
-            wanted,
-            "{depth} round {inside}"
-        );
+    Ok(())
+}
+
+fn check_depth(rt: &impl Abort, alloc: Global, row: &Depth) -> Result<(), Fail> {
+    let text = nested(alloc, row.0, row.1)?;
+    let found = fault_of(alloc, text.as_str())?;
+    assert_eq!(rt; found, row.2, "{} round {}", row.0, row.1);
+    Ok(())
+}
+
+#[test]
+fn depths(rt: HostRuntime) -> Result<(), Fail> {
+    for row in &DEPTHS {
+        check_depth(&rt, rt.alloc(), row)?;
     }
     Ok(())
 }
@@ -336,15 +391,32 @@ fn action(alloc: Global) -> Result<Value, Fail> {
     }))
 }
 
+// The text of an action, which is no attribute.
+fn check_texts(rt: &impl Abort, alloc: Global, action: &Value) -> Result<(), Fail> {
+    let text = action.text_of(alloc)?;
+    let attribute = action.attr_of(alloc)?;
+    assert_eq!(rt; text.as_str(), "[action go]");
+    assert!(rt; attribute.is_none());
+    Ok(())
+}
+
+// An action is no data and no key.
+fn check_data(rt: &impl Abort, action: &Value) -> Result<(), Fail> {
+    let data = action.data_of()?;
+    let key = key_of(action, 0, "@identity")?;
+    assert!(rt; matches!(data, Value::Undefined));
+    assert!(rt; matches!(key, Value::Undefined));
+    Ok(())
+}
+
 #[test]
 fn actions(rt: HostRuntime) -> Result<(), Fail> {
     let alloc = rt.alloc();
     let go = action(alloc)?;
-    assert!(rt; go.truthy() && go.attr_of(alloc)?.is_none() && go.same(&go.copy()?));
-    assert_eq!(rt; go.text_of(alloc)?.as_str(), "[action go]");
-    assert!(rt; matches!(go.data_of()?, Value::Undefined));
-    assert!(rt; matches!(key_of(&go, 0, "@identity")?, Value::Undefined));
-    Ok(())
+    let copy = go.copy()?;
+    assert!(rt; go.truthy() && go.same(&copy));
+    check_texts(&rt, alloc, &go)?;
+    check_data(&rt, &go)
 }
 
 // A record with an action at `a` and an empty list at `b`.
@@ -355,16 +427,30 @@ fn record(alloc: Global) -> Result<Record, Fail> {
     Ok(record)
 }
 
+// What is found in the record: the action itself, and no data at `a`; the length of the list at `b`.
+fn check_found(rt: &impl Abort, value: &Value) -> Result<(), Fail> {
+    assert!(rt; matches!(value.find("a"), Found::Lent(Value::Act(_))));
+    let data = value.data_of()?;
+    let property = data.property("a")?;
+    assert!(rt; matches!(property, Value::Undefined));
+    Ok(())
+}
+
+fn check_keys(rt: &impl Abort, value: &Value) -> Result<(), Fail> {
+    let key = key_of(value, 0, "a")?;
+    let length = value.find_path("b.length").copy()?;
+    assert!(rt; matches!(key, Value::Undefined));
+    assert!(rt; matches!(length, Value::Int(0)));
+    Ok(())
+}
+
 #[test]
 fn records(rt: HostRuntime) -> Result<(), Fail> {
     let record = record(rt.alloc())?;
     assert!(rt; record.len() == 2 && record.as_slice().len() == 2 && record.get("c").is_none());
     let value = Value::Record(record);
-    assert!(rt; matches!(value.find("a"), Found::Lent(Value::Act(_))));
-    assert!(rt; matches!(value.data_of()?.property("a")?, Value::Undefined));
-    assert!(rt; matches!(key_of(&value, 0, "a")?, Value::Undefined));
-    assert!(rt; matches!(value.find_path("b.length").copy()?, Value::Int(0)));
-    Ok(())
+    check_found(&rt, &value)?;
+    check_keys(&rt, &value)
 }
 
 #[test]
