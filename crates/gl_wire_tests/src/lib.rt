@@ -1,4 +1,4 @@
-//! Tests of wires, opcodes and programs, as callers meet them.
+//! Tests of opcodes and of programs as data, as callers meet them.
 //!
 //! They stand above the crates that they test, so that a check of them proves the tests alone.
 #![tactic(auto)]
