@@ -8,8 +8,6 @@ pub mod laws;
 mod spelled;
 mod statement;
 mod tag;
-#[cfg(test)]
-mod tests;
 mod value;
 
 pub use gl_exprs::ParseFault;

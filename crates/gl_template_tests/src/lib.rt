@@ -10,6 +10,8 @@ mod decode;
 #[cfg(test)]
 mod lex;
 #[cfg(test)]
+mod parse;
+#[cfg(test)]
 mod show;
 #[cfg(test)]
 mod white_space;

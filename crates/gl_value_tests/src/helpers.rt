@@ -9,7 +9,7 @@ use std::test::Fail;
 // A helper's number, the positional arguments, and what it gives.
 type Row = (u16, &'static str, &'static str);
 
-const ROWS: [Row; 123] = [
+static ROWS: [Row; 123] = [
     // if c a b, unless c a b
     (0, r#"[true,1,2]"#, "1"),
     (0, r#"[0,1,2]"#, "2"),
@@ -248,7 +248,7 @@ fn rows(rt: HostRuntime) -> Result<(), Fail> {
 // The names of a `hash` with the values 0, 1, 2, .., and what it gives.
 type Hash = (&'static [&'static str], &'static str);
 
-const HASHES: [Hash; 5] = [
+static HASHES: [Hash; 5] = [
     (&[], "{}"),
     (&["b", "a"], r#"{"a":1,"b":0}"#),
     (&["a", "b", "a"], r#"{"a":2,"b":1}"#),
@@ -280,7 +280,7 @@ fn hashes(rt: HostRuntime) -> Result<(), Fail> {
 // `k` as well, and what it gives: the empty text where that is only to be defined.
 type Deep = (u16, &'static str, u32, &'static str);
 
-const DEEP: [Deep; 15] = [
+static DEEP: [Deep; 15] = [
     (3, "[]", 99, ""),
     (3, "[]", 100, r#""?""#),
     (4, "[]", 99, ""),

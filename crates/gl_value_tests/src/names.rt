@@ -1,10 +1,10 @@
 use gl_names::{
     HELPERS, MNEMONICS, NameTable, REFERENCES, Row, VOID, helpers, mnemonics, references, void,
 };
-use std::test::Fail;
+use std::process::Abort;
 
 // The opcodes' names with their codes.
-const CODES: [(&str, u16); 45] = [
+static CODES: [(&str, u16); 45] = [
     ("Text", 1),
     ("Comment", 2),
     ("Open", 3),
@@ -53,7 +53,7 @@ const CODES: [(&str, u16); 45] = [
 ];
 
 // Texts that name no opcode.
-const NO_NAMES: [&str; 8] = [
+static NO_NAMES: [&str; 8] = [
     "",
     "text",
     "Tex",
@@ -84,23 +84,52 @@ const ROWS: [Row; 4] = [
     },
 ];
 
+fn check_number<const N: usize>(
+    rt: &impl Abort,
+    table: &NameTable<N>,
+    name: &str,
+    number: Option<u16>,
+) {
+    assert_eq!(rt; table.find(name), number);
+}
+
+fn check_name<const N: usize>(
+    rt: &impl Abort,
+    table: &NameTable<N>,
+    number: u16,
+    name: Option<&str>,
+) {
+    assert_eq!(rt; table.name(number), name);
+}
+
+fn check_none<const N: usize>(rt: &impl Abort, table: &NameTable<N>, names: &[&str]) {
+    for name in names {
+        check_number(rt, table, name, None);
+    }
+}
+
 #[test]
 fn opcodes(rt: HostRuntime) {
     let table = mnemonics();
-    for (name, code) in CODES.iter() {
-        assert_eq!(rt; table.find(*name), Some(*code));
-        assert_eq!(rt; MNEMONICS.find(*name), Some(*code));
-        assert_eq!(rt; table.name(*code), Some(*name));
+    for (name, code) in &CODES {
+        check_number(&rt, &table, name, Some(*code));
+        check_name(&rt, &table, *code, Some(*name));
     }
-    for name in NO_NAMES.iter() {
-        assert_eq!(rt; table.find(*name), None);
+    check_none(&rt, &table, &NO_NAMES);
+    check_name(&rt, &table, 0, None);
+    check_name(&rt, &table, 46, None);
+}
+
+#[test]
+fn constant_of_opcodes(rt: HostRuntime) {
+    let table = MNEMONICS;
+    for (name, code) in &CODES {
+        check_number(&rt, &table, name, Some(*code));
     }
-    assert_eq!(rt; table.name(0), None);
-    assert_eq!(rt; table.name(46), None);
 }
 
 // Character references of each part of the table, with their code points.
-const POINTS: [(&str, u16); 12] = [
+static POINTS: [(&str, u16); 12] = [
     ("amp", 38),
     ("lt", 60),
     ("gt", 62),
@@ -116,56 +145,68 @@ const POINTS: [(&str, u16); 12] = [
 ];
 
 // Texts that name no character.
-const NO_POINTS: [&str; 6] = ["", "AMP", "am", "amp;", "eacut", "zwj"];
+static NO_POINTS: [&str; 6] = ["", "AMP", "am", "amp;", "eacut", "zwj"];
 
 // The elements that have no end tag.
-const VOID_NAMES: [&str; 14] = [
+static VOID_NAMES: [&str; 14] = [
     "area", "base", "br", "col", "embed", "hr", "img", "input", "link", "meta", "param", "source",
     "track", "wbr",
 ];
 
 // Names of elements that have one, and other texts.
-const NO_VOID: [&str; 5] = ["p", "b", "BR", "brs", ""];
+static NO_VOID: [&str; 5] = ["p", "b", "BR", "brs", ""];
 
 #[test]
 fn points(rt: HostRuntime) {
     let table = references();
-    for (name, point) in POINTS.iter() {
-        assert_eq!(rt; table.find(*name), Some(*point));
-        assert_eq!(rt; REFERENCES.find(*name), Some(*point));
+    for (name, point) in &POINTS {
+        check_number(&rt, &table, name, Some(*point));
     }
-    for name in NO_POINTS.iter() {
-        assert_eq!(rt; table.find(*name), None);
+    check_none(&rt, &table, &NO_POINTS);
+}
+
+#[test]
+fn constant_of_points(rt: HostRuntime) {
+    let table = REFERENCES;
+    for (name, point) in &POINTS {
+        check_number(&rt, &table, name, Some(*point));
+    }
+}
+
+// Whether the names stand in the table with the numbers 0, 1, 2, ..
+fn check_places<const N: usize>(rt: &impl Abort, table: &NameTable<N>, names: &[&str]) {
+    for (place, name) in (0u16..).zip(names.iter()) {
+        check_number(rt, table, *name, Some(place));
     }
 }
 
 #[test]
 fn elements(rt: HostRuntime) {
     let table = void();
-    for (place, name) in (0u16..).zip(VOID_NAMES.iter()) {
-        assert_eq!(rt; table.find(*name), Some(place));
-        assert_eq!(rt; VOID.find(*name), Some(place));
-    }
-    for name in NO_VOID.iter() {
-        assert_eq!(rt; table.find(*name), None);
-    }
+    check_places(&rt, &table, &VOID_NAMES);
+    check_none(&rt, &table, &NO_VOID);
+}
+
+#[test]
+fn constant_of_elements(rt: HostRuntime) {
+    check_places(&rt, &VOID, &VOID_NAMES);
 }
 
 #[test]
 fn rows(rt: HostRuntime) {
     let table = NameTable::new("ababc", &ROWS);
-    assert_eq!(rt; table.find("ab"), Some(7));
-    assert_eq!(rt; table.find(""), Some(9));
-    assert_eq!(rt; table.find("c"), Some(7));
-    assert_eq!(rt; table.find("b"), None);
-    assert_eq!(rt; table.name(7), Some("ab"));
-    assert_eq!(rt; table.name(8), Some("ab"));
-    assert_eq!(rt; table.name(9), Some(""));
-    assert_eq!(rt; table.name(1), None);
+    check_number(&rt, &table, "ab", Some(7));
+    check_number(&rt, &table, "", Some(9));
+    check_number(&rt, &table, "c", Some(7));
+    check_number(&rt, &table, "b", None);
+    check_name(&rt, &table, 7, Some("ab"));
+    check_name(&rt, &table, 8, Some("ab"));
+    check_name(&rt, &table, 9, Some(""));
+    check_name(&rt, &table, 1, None);
 }
 
 // The names of the helpers, in the order of their numbers.
-const HELPER_NAMES: [&str; 33] = [
+static HELPER_NAMES: [&str; 33] = [
     "if",
     "unless",
     "concat",
@@ -202,16 +243,16 @@ const HELPER_NAMES: [&str; 33] = [
 ];
 
 // Texts that name no helper.
-const NO_HELPERS: [&str; 6] = ["", "If", "removeat", "remove", "joins", "outlet"];
+static NO_HELPERS: [&str; 6] = ["", "If", "removeat", "remove", "joins", "outlet"];
 
 #[test]
 fn helper_names(rt: HostRuntime) {
     let table = helpers();
-    for (place, name) in (0u16..).zip(HELPER_NAMES.iter()) {
-        assert_eq!(rt; table.find(*name), Some(place));
-        assert_eq!(rt; HELPERS.find(*name), Some(place));
-    }
-    for name in NO_HELPERS.iter() {
-        assert_eq!(rt; table.find(*name), None);
-    }
+    check_places(&rt, &table, &HELPER_NAMES);
+    check_none(&rt, &table, &NO_HELPERS);
+}
+
+#[test]
+fn constant_of_helpers(rt: HostRuntime) {
+    check_places(&rt, &HELPERS, &HELPER_NAMES);
 }

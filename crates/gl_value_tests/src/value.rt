@@ -9,7 +9,7 @@ use std::test::Fail;
 // A JSON text; the truth, the text and the attribute of its value.
 type Rule = (&'static str, bool, &'static str, Option<&'static str>);
 
-const RULES: [Rule; 14] = [
+static RULES: [Rule; 14] = [
     ("null", false, "", None),
     ("true", true, "true", Some("")),
     ("false", false, "false", None),
@@ -37,7 +37,7 @@ const RULES: [Rule; 14] = [
 ];
 
 // Two JSON texts, and whether their values are the same.
-const PAIRS: [(&str, &str, bool); 12] = [
+static PAIRS: [(&str, &str, bool); 12] = [
     ("1", "1", true),
     ("1", "\"1\"", false),
     ("0", "false", false),
@@ -55,7 +55,7 @@ const PAIRS: [(&str, &str, bool); 12] = [
 // A JSON text, a name, and the text of the value's property of that name, or none where it is undefined.
 type Property = (&'static str, &'static str, Option<&'static str>);
 
-const PROPERTIES: [Property; 16] = [
+static PROPERTIES: [Property; 16] = [
     ("{\"a\":1,\"length\":5}", "length", Some("5")),
     ("{\"a\":1,\"b\":2}", "b", Some("2")),
     ("{\"a\":1}", "length", None),
@@ -77,7 +77,7 @@ const PROPERTIES: [Property; 16] = [
 // A JSON text, an index, a key text, and the text of the key, or none where it is undefined.
 type Key = (&'static str, u64, &'static str, Option<&'static str>);
 
-const KEYS: [Key; 8] = [
+static KEYS: [Key; 8] = [
     ("[7]", 3, "@index", Some("3")),
     (
         "null",
@@ -94,7 +94,7 @@ const KEYS: [Key; 8] = [
 ];
 
 // A JSON text, and why it is no value.
-const FAULTS: [(&str, JsonFault); 14] = [
+static FAULTS: [(&str, JsonFault); 14] = [
     ("1.5", JsonFault::NotWhole),
     ("1.0", JsonFault::NotWhole),
     ("-0", JsonFault::NotWhole),
@@ -118,7 +118,7 @@ const FAULTS: [(&str, JsonFault); 14] = [
 ];
 
 // A JSON text, and the text of the scalar that it is.
-const SCALARS: [(&str, Option<&str>); 11] = [
+static SCALARS: [(&str, Option<&str>); 11] = [
     ("null", Some("")),
     ("true", Some("true")),
     ("false", Some("false")),
@@ -135,7 +135,7 @@ const SCALARS: [(&str, Option<&str>); 11] = [
 // How many arrays stand round a JSON text, that text, and why this is no value.
 type Depth = (u32, &'static str, Option<JsonFault>);
 
-const DEPTHS: [Depth; 6] = [
+static DEPTHS: [Depth; 6] = [
     (100, "", None),
     (101, "", Some(JsonFault::TooDeep)),
     (127, "", Some(JsonFault::TooDeep)),
@@ -144,7 +144,7 @@ const DEPTHS: [Depth; 6] = [
     (100, "0", None),
 ];
 
-const QUOTED: [(&str, &str); 4] = [
+static QUOTED: [(&str, &str); 4] = [
     ("", "\"\""),
     ("a\"b\\c", "\"a\\\"b\\\\c\""),
     (

@@ -2,7 +2,7 @@
 ghost use Rattle.std.specs.Prelude.{IfOk, IsSome, ◌≡◌, ◌≢◌, true};
 ghost use Rattle.gl_tags.specs.Tags.{tag_at, is_dirtyable};
 
-use super::*;
+use gl_tags::{TagId, Tags};
 use std::alloc::{AllocError, Global};
 use std::process::Abort;
 use std::test::Fail;

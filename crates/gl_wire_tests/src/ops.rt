@@ -1,10 +1,12 @@
-use super::*;
+// Opcodes as words and as lines.
+use gl_ops::{Op, decode, encode, list};
 use gl_value::Text;
 use std::alloc::{AllocError, Global};
+use std::process::Abort;
 use std::test::Fail;
 
 // Each kind with its word and its line.
-const KINDS: [(u64, Op, &str); 45] = [
+static KINDS: [(u64, Op, &str); 45] = [
     (0x01_000000_00000009, Op::Text { b: 9 }, "0 Text 9\n"),
     (
         0x02_000000_FFFFFFFF,
@@ -116,7 +118,7 @@ const KINDS: [(u64, Op, &str); 45] = [
 ];
 
 // Words of no opcode: no such code, or an operand that the kind doesn't use.
-const UNUSED: [u64; 14] = [
+static UNUSED: [u64; 14] = [
     0,
     1,
     0x00_000001_00000001,
@@ -141,14 +143,19 @@ fn listed(alloc: Global, word: u64) -> Result<Option<Text>, AllocError> {
     }
 }
 
+fn check_kind(rt: &impl Abort, alloc: Global, row: &(u64, Op, &str)) -> Result<(), Fail> {
+    let op = decode(row.0).ok_or("an opcode")?;
+    assert_eq!(rt; op, row.1, "{}", row.2);
+    assert_eq!(rt; encode(&op), row.0, "{}", row.2);
+    let text = listed(alloc, row.0)?.ok_or("an opcode")?;
+    assert_eq!(rt; text.as_str(), row.2);
+    Ok(())
+}
+
 #[test]
 fn kinds(rt: HostRuntime) -> Result<(), Fail> {
-    for (word, kind, line) in KINDS.iter() {
-        let op = decode(*word).ok_or("an opcode")?;
-        assert_eq!(rt; op, *kind, "{line}");
-        assert_eq!(rt; encode(&op), *word, "{line}");
-        let text = listed(rt.alloc(), *word)?.ok_or("an opcode")?;
-        assert_eq!(rt; text.as_str(), *line);
+    for row in &KINDS {
+        check_kind(&rt, rt.alloc(), row)?;
     }
     Ok(())
 }
@@ -163,9 +170,13 @@ fn addresses(rt: HostRuntime) -> Result<(), Fail> {
     Ok(())
 }
 
+fn check_unused(rt: &impl Abort, word: u64) {
+    assert_eq!(rt; decode(word), None, "{word}");
+}
+
 #[test]
 fn unused_words(rt: HostRuntime) {
-    for word in UNUSED.iter() {
-        assert_eq!(rt; decode(*word), None, "{word}");
+    for word in &UNUSED {
+        check_unused(&rt, *word);
     }
 }

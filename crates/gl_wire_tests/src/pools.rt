@@ -1,5 +1,5 @@
 // The lists of programs, as callers meet them.
-use super::*;
+use gl_program::{ClassProgram, Ints, Program, ProgramList, Programs, Words};
 use std::test::Fail;
 
 #[test]

@@ -1,11 +1,12 @@
-use super::*;
+// What is in the grammar, and a tree.
 use gl_ast::{Body, Expr, Stmt};
+use gl_parse::{ParseFault, expression, template};
 use std::alloc::{AllocError, Global};
 use std::process::Abort;
 use std::test::Fail;
 
 // Templates, and whether each is in the grammar.
-const TEMPLATES: [(&str, bool); 116] = [
+static TEMPLATES: [(&str, bool); 116] = [
     ("", true),
     ("a b\n", true),
     ("a } b }} c", true),
@@ -128,7 +129,7 @@ const TEMPLATES: [(&str, bool); 116] = [
 ];
 
 // Expressions, and whether each is one.
-const EXPRESSIONS: [(&str, bool); 14] = [
+static EXPRESSIONS: [(&str, bool); 14] = [
     ("a", true),
     (" this.a.b \n", true),
     ("@a", true),
@@ -156,7 +157,7 @@ struct Tower {
     is_in: bool,
 }
 
-const TOWERS: [Tower; 18] = [
+static TOWERS: [Tower; 18] = [
     Tower {
         first: "",
         front: "<p>",
