@@ -1,5 +1,5 @@
 -- The arena and the list of trees are the forest after each call.
-use Rattle.std.proofs.Common.{◌≡◌, ◌≢◌, ℕ, zero, suc, ◌+◌, ◌<◌, ◌≤◌, List, [], ◌∷◌, ◌++◌, map, filter, Option, Some, None, option_map, refl, sym, ap, subst, ◌∙◌, arith, IsSome, is_some, get_or, ◌==◌, inl, inr, true, false, Bool}
+use Rattle.std.proofs.Common.{◌≡◌, ℕ, zero, suc, ◌+◌, ◌<◌, ◌≤◌, List, [], ◌∷◌, map, filter, Option, Some, None, option_map, refl, sym, ap, subst, ◌∙◌, arith, IsSome, is_some, get_or, ◌==◌, inl, inr, true, false, Bool}
 use Rattle.std.specs.Prelude.{if◌then◌else◌}
 use Rattle.gl_arena.proofs.Ids.{id_cases}
 use Rattle.gl_arena.specs.Id.{Id}
@@ -7,7 +7,7 @@ use Rattle.gl_arena.specs.Arena.{Arena, named, stamped, IsStamped, Ends}
 use Rattle.gl_destroy.specs.What as w
 use Rattle.gl_destroy.specs.What.{is_logged}
 use Rattle.gl_destroy.specs.Forest.{Forest, end, leaf, times, put_last, tree_at, without, children_first, destroy_lines, IsParent, IsSound}
-use Rattle.gl_destroy.specs.Links.{Look, read, size, Linked, forest_in, IsForest, listed_in, ids_with, ended, times_in, tree_in}
+use Rattle.gl_destroy.specs.Links.{Look, read, size, forest_in, IsForest, listed_in, ids_with, ended, times_in, tree_in}
 use Rattle.gl_destroy.specs.View.{seen_what, seen_pairs, seen_entry, look_in, AddsEntry, IsListed}
 use Rattle.gl_destroy.specs.declared.what.What.{What}
 use Rattle.gl_destroy.specs.declared.entries.Entry.{Entry}

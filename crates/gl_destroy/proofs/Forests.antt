@@ -1,11 +1,11 @@
 -- Forests: how often an id stands, the tree of an id, and what is left without it.
-use Rattle.std.proofs.Common.{◌≡◌, ◌≢◌, ℕ, zero, suc, ◌+◌, ◌<◌, ◌≤◌, ◌==◌, Bool, true, false, cond, List, [], ◌∷◌, ◌++◌, filter, Option, Some, None, refl, sym, ap, subst, ◌∙◌, inl, inr, arith, append_assoc}
-use Rattle.std.specs.Prelude.{if◌then◌else◌, ◌⊎◌}
+use Rattle.std.proofs.Common.{◌≡◌, ◌≢◌, ℕ, suc, ◌+◌, ◌<◌, ◌≤◌, ◌==◌, true, false, cond, List, [], ◌∷◌, ◌++◌, filter, refl, sym, ap, subst, ◌∙◌, inl, inr, arith, append_assoc}
+use Rattle.std.specs.Prelude.{if◌then◌else◌}
 use Rattle.std.proofs.lemmas.Bool.{cases_eq, cases_lt, ne_eqb}
 use Rattle.gl_arena.specs.Id.{Id, same_id}
 use Rattle.gl_arena.proofs.Ids.{same_id-refl, same_id-other, id_cases}
 use Rattle.gl_destroy.specs.What.{What}
-use Rattle.gl_destroy.specs.Forest.{Forest, end, tree, joined, leaf, hit, times, with_children, put_last, tree_at, without, children_first}
+use Rattle.gl_destroy.specs.Forest.{Forest, end, tree, joined, leaf, hit, times, with_children, tree_at, without, children_first}
 use Rattle.gl_destroy.specs.Links.{tops, size, times_in}
 
 pub hit-same : (x : Id) → hit x x ≡ 1

@@ -5,11 +5,11 @@ use Rattle.std.proofs.lemmas.List.{reverse-append, map-append}
 use Rattle.std.proofs.lemmas.Grind.{reverse_onto}
 use Rattle.std.proofs.lemmas.List.Elements.{filter-append}
 use Rattle.gl_arena.specs.Id.{Id, same_id}
-use Rattle.gl_arena.proofs.Ids.{same_id-refl, same_id-other, id_cases}
+use Rattle.gl_arena.proofs.Ids.{same_id-other, id_cases}
 use Rattle.gl_destroy.specs.What.{What}
-use Rattle.gl_destroy.specs.Forest.{Forest, end, tree, joined, leaf, hit, times, with_children, put_last, tree_at, without, children_first, IsParent}
-use Rattle.gl_destroy.specs.Links.{Look, living, tops, size, AreGiven, Shows, Linked, read, read_at, forest_in, IsForest, IsWhole, one_if, more_children, listed, listed_in, ids_with, ended, tree_in, IsTree, IsLeft}
-use Rattle.gl_destroy.proofs.Forests.{hit-same, hit-other, hit-is, times-joined, size-joined, times-with, size-with, times-without, size-without, size-tree_at, tops-joined, tops-with, children_first-joined, cut_last, tops-tree_at, pruned, remaining, tops-pruned, pruned-without}
+use Rattle.gl_destroy.specs.Forest.{Forest, end, tree, joined, leaf, times, with_children, put_last, tree_at, without, children_first, IsParent}
+use Rattle.gl_destroy.specs.Links.{Look, living, tops, size, AreGiven, Linked, read, read_at, forest_in, IsForest, IsWhole, one_if, more_children, listed, listed_in, ids_with, ended, tree_in, IsTree, IsLeft}
+use Rattle.gl_destroy.proofs.Forests.{hit-other, hit-is, times-joined, size-joined, times-with, size-with, times-without, size-without, size-tree_at, tops-joined, tops-with, children_first-joined, cut_last, tops-tree_at, pruned, remaining, tops-pruned, pruned-without}
 
 -- the forest is read back
 pub read-is : (l : Look) (n : ℕ) (f : Forest) → size f ≤ n → Linked l f → read l n (tops f) ≡ f

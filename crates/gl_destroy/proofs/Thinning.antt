@@ -1,13 +1,13 @@
 -- Lists that have lost what lives no more: the forest is the same.
-use Rattle.std.proofs.Common.{◌≡◌, ◌≢◌, ℕ, zero, suc, ◌<◌, Bool, true, false, cond, List, [], ◌∷◌, Option, Some, None, option_map, refl, sym, ap, subst, ◌∙◌, inl, inr, is_some, IsSome}
-use Rattle.std.specs.Prelude.{unwrap_or, ◌⊎◌}
+use Rattle.std.proofs.Common.{◌≡◌, ℕ, zero, suc, Bool, true, false, cond, List, [], ◌∷◌, Option, Some, None, option_map, refl, sym, ap, subst, ◌∙◌, inl, inr, is_some}
+use Rattle.std.specs.Prelude.{unwrap_or}
 use Rattle.gl_arena.specs.Id.{Id}
 use Rattle.gl_arena.specs.Arena.{Arena, named, with_value}
 use Rattle.gl_arena.proofs.Ids.{id_cases}
 use Rattle.gl_arena.proofs.Values.{with_value-writes}
 use Rattle.gl_destroy.specs.What.{What}
-use Rattle.gl_destroy.specs.Forest.{Forest, end, tree, times}
-use Rattle.gl_destroy.specs.Links.{Look, living, tops, AreGiven, Shows, Linked, read, read_at, forest_in, IsForest, IsWhole, Lost, IsThinned}
+use Rattle.gl_destroy.specs.Forest.{Forest, end, tree}
+use Rattle.gl_destroy.specs.Links.{Look, living, tops, AreGiven, Shows, Linked, read, read_at, forest_in, IsForest, IsWhole, IsThinned}
 use Rattle.gl_destroy.specs.View.{seen_what, seen_entry, look_in}
 use Rattle.gl_destroy.specs.declared.entries.Entry.{Entry}
 

@@ -1,5 +1,5 @@
 -- What the code's destroyables and logs stand for.
-use Rattle.std.specs.Prelude.{◌≡◌, ℕ, List, [], map, Option, Some, None, option_map, IsSome}
+use Rattle.std.specs.Prelude.{◌≡◌, List, [], map, Option, Some, None, option_map, IsSome}
 use Rattle.gl_arena.specs.Id.{Id}
 use Rattle.gl_arena.specs.Arena.{Arena, named, Gives}
 use Rattle.gl_destroy.specs.What as w

@@ -1,11 +1,11 @@
 -- The ids of each node, after each call of the map that has them.
-use Rattle.std.proofs.Common.{◌≡◌, ◌≢◌, ℕ, Bool, true, false, cond, List, [], ◌∷◌, ◌++◌, map, Option, Some, None, OnErr, Result, Ok, Err, refl, sym, ap, ◌∙◌, inl, inr}
+use Rattle.std.proofs.Common.{◌≡◌, Bool, true, false, cond, List, [], ◌∷◌, ◌++◌, map, Option, Some, None, OnErr, Result, Ok, Err, refl, sym, ap, ◌∙◌, inl, inr}
 use Rattle.std.specs.Prelude.{Vec, if◌then◌else◌, unwrap_or}
 use Rattle.std.specs.BTreeMap.{BTreeMap, is_at, get}
 use Rattle.std.specs.Map.{lookup}
 use Rattle.gl_arena.specs.Id.{Id, same_id, id_cmp, id_cmp_ties}
 use Rattle.gl_arena.proofs.Ids.{same_id-refl, same_id-other, id_cases}
-use Rattle.gl_mods.specs.Mods.{ids_at, with_id, without_node}
+use Rattle.gl_mods.specs.Mods.{ids_at, with_id}
 use Rattle.gl_mods.specs.View.{seen_list, lists_in}
 
 pub same_id-sym : (i k : Id) → same_id i k ≡ same_id k i

@@ -1,13 +1,12 @@
 -- What is kept of modifiers, after each call.
-use Rattle.std.proofs.Common.{◌≡◌, ◌≢◌, ℕ, ◌+◌, ◌<◌, ◌≤◌, ◌==◌, Bool, true, false, cond, List, [], ◌∷◌, ◌++◌, filter, Option, Some, None, option_map, refl, sym, ap, subst, ◌∙◌, inl, inr, arith, is_some, IsSome}
+use Rattle.std.proofs.Common.{◌≡◌, ◌≢◌, ℕ, ◌<◌, ◌≤◌, ◌==◌, Bool, true, false, List, [], ◌∷◌, ◌++◌, Option, Some, None, option_map, refl, sym, ap, subst, ◌∙◌, inl, inr, arith, is_some, IsSome}
 use Rattle.std.specs.Prelude.{if◌then◌else◌, slice_index_or, ◌⊎◌}
-use Rattle.std.proofs.lemmas.Bool.{cases_eq, ne_eqb}
 use Rattle.gl_arena.specs.Id.{Id, same_id}
 use Rattle.gl_arena.specs.Arena.{Arena, named, stamped, by_stamp, with_value, IsStamped, IsOwn, Sets, Gives, Ends}
-use Rattle.gl_arena.proofs.Ids.{same_id-refl, same_id-other, same_id-true, id_cases}
+use Rattle.gl_arena.proofs.Ids.{same_id-refl, same_id-other, id_cases}
 use Rattle.gl_arena.proofs.Values.{Writes, with_value-writes}
 use Rattle.gl_arena.proofs.Stamps.{gives-stamped, ends-stamped, fewer-stamped, writes-stamped, gives-sets, writes-sets, by_stamp-same, by_stamp-live, by_stamp-id, own_live, empty-stamped}
-use Rattle.gl_mods.specs.Mods.{Installed, Args, NamedArgs, Mods, ids_at, ids_on, living, with_id, without_node, off_node, with_values, Installs, IsSame, Refreshes, Drops, hit, times, count_at, IsSound}
+use Rattle.gl_mods.specs.Mods.{Installed, Args, NamedArgs, ids_at, living, with_id, without_node, off_node, with_values, Installs, IsSame, Refreshes, Drops, times, count_at, IsSound}
 use Rattle.gl_mods.specs.Kept.{seen, AreGiven, IsKept, IsMaybeMore, ended}
 use Rattle.gl_mods.proofs.Ids.{hit-is, hit-other, none_some, given_later, given_more, living-given, living-same, living-more, living-ended, living_lives, living-off, times-with_id, times-with_other, times-without, times-without_other}
 

@@ -5,7 +5,7 @@ use Rattle.std.proofs.lemmas.List.Elements.{filter-append}
 use Rattle.gl_arena.specs.Id.{Id, same_id}
 use Rattle.gl_arena.specs.Arena.{Arena, named}
 use Rattle.gl_arena.proofs.Ids.{same_id-refl, same_id-other, id_cases}
-use Rattle.gl_mods.specs.Mods.{Installed, hit, times, living, count_at, with_id, without_node, off_node}
+use Rattle.gl_mods.specs.Mods.{Installed, hit, times, living, with_id, without_node, off_node}
 use Rattle.gl_mods.specs.Kept.{AreGiven}
 
 pub hit-is : (x i : Id) → x ≡ i → hit x i ≡ 1

@@ -1,4 +1,4 @@
-use Rattle.std.proofs.Common.{refl, ap, ◌∙◌}
+use Rattle.std.proofs.Common.{refl, ap}
 use Rattle.gl_destroy.proofs.Thinning.{thin_put}
 use Rattle.gl_destroy.proofs.siblings.thin_children.Goals as goal
 

@@ -1,4 +1,4 @@
-use Rattle.std.proofs.Common.{◌≡◌, ◌<◌, ◌++◌, ◌-◌, take, append-nil, [], ◌∷◌, map, option_map, sym, ap, subst, ◌∙◌}
+use Rattle.std.proofs.Common.{◌≡◌, ◌<◌, ◌++◌, ◌-◌, take, append-nil, [], ◌∷◌, option_map, sym, ap, subst, ◌∙◌}
 use Rattle.std.proofs.lemmas.List.{map-append}
 use Rattle.gl_destroy.specs.Forest.{children_first}
 use Rattle.gl_destroy.specs.Links.{IsLeft, living, size, read, tree_in}

@@ -1,6 +1,6 @@
-use Rattle.std.proofs.Common.{◌≡◌, ◌<◌, ◌++◌, sym, ap, subst, ◌∙◌}
-use Rattle.gl_destroy.specs.Forest.{times, tree_at, without, children_first, destroy_lines}
-use Rattle.gl_destroy.specs.Links.{forest_in, tree_in}
+use Rattle.std.proofs.Common.{◌<◌, ◌++◌, sym, ap, subst, ◌∙◌}
+use Rattle.gl_destroy.specs.Forest.{times, tree_at, without, destroy_lines}
+use Rattle.gl_destroy.specs.Links.{forest_in}
 use Rattle.gl_destroy.specs.View.{look_in, seen_pairs}
 use Rattle.gl_destroy.proofs.Links.{shown, whole, is_tree}
 use Rattle.gl_destroy.proofs.Calls.{all_live, all_once, lines, removed, removed_stands}

@@ -1,4 +1,4 @@
-use Rattle.std.proofs.Common.{◌≡◌, ◌<◌, sym, ap, subst, ◌∙◌}
+use Rattle.std.proofs.Common.{◌<◌, sym, subst, ◌∙◌}
 use Rattle.gl_destroy.specs.Forest.{times}
 use Rattle.gl_destroy.specs.Links.{forest_in}
 use Rattle.gl_destroy.specs.View.{look_in}

@@ -1,6 +1,6 @@
-use Rattle.std.proofs.Common.{◌≡◌, ◌<◌, ℕ, sym, ap, subst, ◌∙◌}
-use Rattle.gl_destroy.specs.Forest.{Forest, Destroyables, times, IsParent}
-use Rattle.gl_destroy.specs.Links.{living, read, forest_in, IsWhole}
+use Rattle.std.proofs.Common.{ℕ, sym, ap, subst, ◌∙◌}
+use Rattle.gl_destroy.specs.Forest.{Forest, Destroyables, IsParent}
+use Rattle.gl_destroy.specs.Links.{forest_in, IsWhole}
 use Rattle.gl_destroy.specs.View.{look_in}
 use Rattle.gl_destroy.proofs.Links.{stands_live}
 use Rattle.gl_destroy.proofs.Thinning.{forest-thin, whole_thinned, whole_trees}

@@ -1,4 +1,4 @@
-use Rattle.std.proofs.Common.{Some, None, sym, ◌∙◌}
+use Rattle.std.proofs.Common.{Some, None, sym}
 use Rattle.gl_value.specs.View.{view}
 use Rattle.gl_mods.specs.View.{seen_installed}
 use Rattle.gl_mods.proofs.Arguments.{argument-is, copied}

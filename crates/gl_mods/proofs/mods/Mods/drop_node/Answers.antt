@@ -1,6 +1,6 @@
-use Rattle.std.proofs.Common.{◌≡◌, ◌<◌, ◌≤◌, sym, ap, subst, ◌∙◌}
+use Rattle.std.proofs.Common.{◌<◌, ◌≤◌, sym, ap, subst, ◌∙◌}
 use Rattle.gl_arena.proofs.Mapped.{live_of_mapped}
-use Rattle.gl_mods.specs.Mods.{times, Drops, ids_at}
+use Rattle.gl_mods.specs.Mods.{times, Drops}
 use Rattle.gl_mods.specs.Kept.{seen, ended}
 use Rattle.gl_arena.specs.Arena.{named}
 use Rattle.gl_mods.specs.View.{seen_installed, seen_table, lists_in}

@@ -1,6 +1,5 @@
-use Rattle.std.proofs.Common.{◌≡◌, subst}
+use Rattle.std.proofs.Common.{subst}
 use Rattle.gl_arena.proofs.Mapped.{gives-mapped, ends-mapped}
-use Rattle.gl_mods.specs.Mods as m
 use Rattle.gl_mods.specs.Mods.{Installs, IsSame}
 use Rattle.gl_mods.specs.Kept.{seen}
 use Rattle.gl_mods.specs.View.{seen_installed, seen_table, lists_in}
