@@ -8,6 +8,7 @@ mod events;
 mod exprs;
 mod fault;
 mod file;
+pub mod laws;
 mod programs;
 mod templates;
 mod whole;
