@@ -25,6 +25,8 @@ pub mod Ending
 pub mod Root
 pub mod Nesting
 pub mod Pages
+pub mod Appended
+pub mod Standing
 pub mod Nests
 pub mod Sits
 pub mod RowsOf

@@ -10,6 +10,7 @@ pub mod Step
 pub mod Root
 pub mod Shape
 pub mod Nesting
+pub mod Appended
 pub mod Rows
 pub mod Gone
 pub mod UpdateLaws
