@@ -37,3 +37,4 @@ pub mod GoneLines
 pub mod Freed
 pub mod PageGone
 pub mod Cases
+pub mod Named

@@ -13,5 +13,6 @@ pub mod Nesting
 pub mod Appended
 pub mod Rows
 pub mod Gone
+pub mod Scopes
 pub mod UpdateLaws
 pub mod Laws

@@ -1,6 +1,7 @@
 //! The laws of an update. Each function does nothing: its contract is the law.
 
 ghost use Rattle.gl_machine.specs.Placed.{RenewsRight};
+ghost use Rattle.gl_machine.specs.Scopes.{PageNamesOwn, SightsNameOwn};
 ghost use Rattle.gl_machine.specs.UpdateLaws.{FreedIsGone, FreedIsLogged, IdsByPath, IdsStandOnce, NestHasNodes, NestIsDrawn, NestIsOrdered, NestIsPlaced, PageFollows, PlacesStandOnce, RowsAreDrawn};
 
 /// An update of the recorded program does what one of the tree does, and leaves it recorded well.
@@ -29,4 +30,10 @@ pub fn by_path()
 pub fn destroyed()
     ensures gone { FreedIsGone }
     ensures logged { FreedIsLogged }
+{}
+
+/// The scopes that are recorded name blocks and instances that the page has.
+pub fn scopes()
+    ensures parts { SightsNameOwn }
+    ensures page { PageNamesOwn }
 {}
