@@ -16,6 +16,7 @@ pub mod Layers
 pub mod Right
 pub mod Fitting
 pub mod Lowered
+pub mod More
 pub mod SyncsCode
 pub mod ItemsCode
 pub mod RenewsCode
