@@ -32,3 +32,5 @@ pub mod GoneLines
 pub mod Freed
 pub mod PageGone
 pub mod Named
+pub mod Makes
+pub mod MarkGrows

@@ -12,5 +12,6 @@ pub mod Shape
 pub mod Rows
 pub mod Gone
 pub mod Scopes
+pub mod Marks
 pub mod UpdateLaws
 pub mod Laws
