@@ -34,3 +34,4 @@ pub mod PageGone
 pub mod Named
 pub mod Makes
 pub mod MarkGrows
+pub mod MarkRenews

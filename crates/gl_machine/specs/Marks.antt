@@ -106,4 +106,5 @@ abbrev mutual
 abbrev pub BlocksRise : Type 0
 BlocksRise =
     ((app : App) (τ : Store) (st : State) → let r = grow_app app τ st in Rises (st.next a_block) (r.1.next a_block) r.0)
-    × ((app : App) (τ : Store) (b : ℕ) (st : State) (l : Live) → b ≤ st.next a_block → Rises b (st.next a_block) l → let r = renew_app app τ l st in Rises b (r.1.next a_block) r.0)
+    × ((app : App) (σ τ : Store) (b : ℕ) (st : State) (l : Live) → StandsFor app σ τ st l → b ≤ st.next a_block → Rises b (st.next a_block) l
+    → let r = renew_app app τ l st in Rises b (r.1.next a_block) r.0)
