@@ -6,21 +6,19 @@
 -- row.hbs: <div ...attributes>{{yield @x}}</div>
 --
 -- The getter `some` is `(not this.on)`.
-use Rattle.std.proofs.Common.{◌≡◌, ℕ, List, [], ◌∷◌, length, true, false, Option, Some, None, refl}
+use Rattle.std.proofs.Common.{◌≡◌, ℕ, List, [], ◌∷◌, true, false, Option, Some, None, refl}
 use Rattle.std.specs.Prelude.{pos, codes, ⊤}
 use Rattle.gl_value.specs.Value.{boolean, integer, list, values_of}
-use Rattle.gl_ast.specs.Template.{Plain, Expr, this, bare, argument, call, no_exprs, expr, no_named, fixed, live, attribute, modifier, spread, Body, put, element, component_stmt, each, yield, end, stmt, no_slots, block}
+use Rattle.gl_ast.specs.Template.{Expr, this, bare, argument, call, no_exprs, expr, no_named, fixed, live, attribute, modifier, spread, Body, put, element, component_stmt, each, yield, end, stmt, no_slots, block}
 use Rattle.gl_names.specs.Helpers.{helper_rows}
 use Rattle.gl_ops.specs.Finding.{op_of}
 use Rattle.gl_ops.specs.Words.{decoded}
 use Rattle.gl_meaning.specs.App.{App}
-use Rattle.gl_meaning.specs.Path.{V}
 use Rattle.gl_meaning.specs.Scope.{cell}
 use Rattle.gl_meaning.specs.Eval.{Store}
-use Rattle.gl_meaning.specs.Manifest.{Manifest, ClassEntry, app_of}
+use Rattle.gl_meaning.specs.Manifest.{Manifest, app_of}
 use Rattle.gl_meaning.specs.Render.{Forest, draw}
 use Rattle.gl_program.specs.ClassProgram.{ClassProgram}
-use Rattle.gl_program.specs.Program.{Program}
 use Rattle.gl_plain.specs.Ids.{a_node, hit}
 use Rattle.gl_plain.specs.State.{State, touch}
 use Rattle.gl_plain.specs.Live.{Live}

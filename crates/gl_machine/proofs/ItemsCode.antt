@@ -1,7 +1,6 @@
 -- An item that is appended.
 use Rattle.std.proofs.Common.{◌≡◌, ℕ, List, [], ◌∷◌, ◌++◌, map, refl, sym, ◌∙◌, ap, subst}
 use Rattle.std.specs.Prelude.{slice_get}
-use Rattle.std.proofs.lemmas.List.{map-append}
 use Rattle.gl_base.specs.Texts.{Text}
 use Rattle.gl_ast.specs.Template.{Body}
 use Rattle.gl_meaning.specs.Path.{item, Path}
@@ -13,30 +12,18 @@ use Rattle.gl_plain.specs.State as s
 use Rattle.gl_plain.specs.Live.{ItemSpot}
 use Rattle.gl_plain.specs.Grow.{or_comment, item_spot}
 use Rattle.gl_plain.specs.Renew.{fresh_body, fresh_items}
-use Rattle.gl_machine.specs.Sight.{sight, Passing, with_locals}
+use Rattle.gl_machine.specs.Sight.{Passing, with_locals}
 use Rattle.gl_machine.specs.Code.{Listing}
 use Rattle.gl_machine.specs.Outcome.{ok, on_ok}
 use Rattle.gl_machine.specs.RenewCode.{Runs, start, commented, item_done, fresh_item}
 use Rattle.gl_machine.specs.Env.{Env, symbols_at, by_symbol, texts_of, seen}
 use Rattle.gl_machine.specs.Params.{Known, TwoKnown}
 use Rattle.gl_machine.specs.Placed.{Fits, BodyThere, PlacedIn, FollowsIn, RunsRight}
-use Rattle.gl_machine.proofs.Symbols.{known_both, known_two}
+use Rattle.gl_machine.proofs.Symbols.{known_two}
+use Rattle.gl_machine.proofs.More.{seen_more, names_more, fits_more}
 use Rattle.gl_machine.proofs.SyncsCode.{FollowsItem, fresh_follows}
 
 module _ (env : Env) (store : Store) (run : Runs) (runs : RunsRight env store run) (m c : ℕ) (w : Passing) (pp : Path) (a : Body) (key : Text) (body other : ℕ) where
-  seen_more : (ms : MScope) (names : Names) → with_locals (map (by_symbol (symbols_at env c)) names) (seen env c ms w) ≡ seen env c (with_names names ms) w
-  seen_more (mscope i args l v) names = ap (λ t. sight c i args t w) (sym (map-append (by_symbol (symbols_at env c)) l names))
-
-  names_more : (ms : MScope) (names : Names) → texts_of (s.locals_in (with_names names ms)) ≡ texts_of (s.locals_in ms) ++ texts_of names
-  names_more (mscope i args l v) names = map-append (λ n. n.0) l names
-
-  fits_more : (ms : MScope) (names : Names) → Fits env c ms w → Known (symbols_at env c) (texts_of names) → Fits env c (with_names names ms) w
-  fits_more (mscope i args l v) names fits known = record {
-    known = subst (Known (symbols_at env c)) (sym (names_more (mscope i args l v) names)) (known_both (symbols_at env c) (texts_of l) (texts_of names) fits.known known);
-    is = fits.is;
-    passes = fits.passes;
-  }
-
   module _ (ms : MScope) (fits : Fits env c ms w) where
     abbrev pub listing : List Text → Listing
     listing ns = record { key = key; value = parameter_symbol (symbols_at env c) (slice_get ns 0); index = parameter_symbol (symbols_at env c) (slice_get ns 1); body = body; other = other; sight = seen env c ms w }
@@ -52,8 +39,8 @@ module _ (env : Env) (store : Store) (run : Runs) (runs : RunsRight env store ru
         let more = named_as ns z.params in
         let ms' = with_names more ms in
         fresh_follows env store run runs m c ms w pp ns a z (run (start (with_locals (map (by_symbol (symbols_at env c)) more) (seen env c ms w)) body q m) st) (fresh_body env.app store m ms' q a st)
-        (subst (λ v. FollowsIn (PlacedIn env c ms' w q 0 a) (run (start v body q m) st) (fresh_body env.app store m ms' q a st)) (sym (seen_more ms more))
-        (runs c ms' w (fits_more ms more fits (subst (Known (symbols_at env c)) (sym names) known)) body a
+        (subst (λ v. FollowsIn (PlacedIn env c ms' w q 0 a) (run (start v body q m) st) (fresh_body env.app store m ms' q a st)) (sym (seen_more env c ms w more))
+        (runs c ms' w (fits_more env c ms w more fits (subst (Known (symbols_at env c)) (sym names) known)) body a
         (subst (λ ts. BodyThere env c ts body a) (sym (names_more ms more ∙ ap (λ ts. texts_of (s.locals_in ms) ++ ts) names)) there) q m st))
 
     pub ones : (ns : List Text) → TwoKnown (symbols_at env c) ns → BodyThere env c (texts_of (s.locals_in ms) ++ ns) body a → (x : Entry) (st : State)

@@ -16,6 +16,7 @@ pub mod Layers
 pub mod Right
 pub mod Fitting
 pub mod Lowered
+pub mod More
 pub mod SyncsCode
 pub mod ItemsCode
 pub mod RenewsCode
@@ -25,6 +26,8 @@ pub mod Ending
 pub mod Root
 pub mod Nesting
 pub mod Pages
+pub mod Appended
+pub mod Standing
 pub mod Nests
 pub mod Sits
 pub mod RowsOf
@@ -34,5 +37,8 @@ pub mod PlacesOnce
 pub mod GoneLines
 pub mod Freed
 pub mod PageGone
-pub mod Named
 pub mod Cases
+pub mod Named
+pub mod Makes
+pub mod MarkGrows
+pub mod MarkRenews

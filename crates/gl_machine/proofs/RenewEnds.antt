@@ -2,7 +2,6 @@
 use Rattle.std.proofs.Common.{◌≡◌, ℕ, zero, suc, ◌+◌, List, [], ◌∷◌, ◌++◌, map, Bool, true, false, ◌&&◌, cond, if◌then◌else◌, Option, Some, None, option_map, refl, sym, ◌∙◌, ap, subst}
 use Rattle.std.specs.Prelude.{nat_eq, slice_get}
 use mathlib.Core.Path.{fun_ext}
-use Rattle.std.proofs.lemmas.List.{map-append}
 use Rattle.gl_base.specs.Texts.{Text}
 use Rattle.gl_value.specs.Value.{Values, no_values, value, same, count_value}
 use Rattle.gl_ast.specs.Template.{Stmt, text_stmt, comment_stmt, put, element, component_stmt, if_stmt, each, let_stmt, yield, Body, end, stmt}
@@ -17,7 +16,7 @@ use Rattle.gl_plain.specs.State as s
 use Rattle.gl_plain.specs.Binding.{first_value}
 use Rattle.gl_plain.specs.Live.{ItemSpot, item_made, times_in, times_items, times_comment}
 use Rattle.gl_plain.specs.Renew.{spot_pairs, reread, renew_attrs, renew_mods, give}
-use Rattle.gl_machine.specs.Sight.{Sight, sight, Passing, not_passed, with_locals}
+use Rattle.gl_machine.specs.Sight.{Sight, Passing, not_passed, with_locals}
 use Rattle.gl_machine.specs.Code.{Listing, ItemCodes, no_item_codes, item_code, items_of, Code, still_code, put_code, element_code, branch_code, listed_code, unlisted_code, let_code, component_code, yield_code, Codes, no_codes, code_and, live_of, lives_of}
 use Rattle.gl_machine.specs.Outcome.{Outcome, ok, on_ok, Ends}
 use Rattle.gl_machine.specs.RenewCode.{Runs, start, kept, commented, branch_with, unlisted_with, ItemDone, item_done, CodeHandle, times_code_handles, with_code_front, taken_code, renew_item_code, with_left, sync_one_code, item_with, sync_codes, fresh_codes, by_values, fresh_branch, fresh_other, fresh_item, renew_code, renew_codes, code_handles}
@@ -27,7 +26,8 @@ use Rattle.gl_machine.specs.Env.{Env, symbols_at, by_symbol, texts_of, seen}
 use Rattle.gl_machine.specs.Placed.{Fits, BodyThere, ListingAt, WhereFound, Placed, PlacedIn, PlacedItems, RunsEnd}
 use Rattle.gl_machine.specs.Root.{PlacedRoot, renew_root_code}
 use Rattle.gl_machine.proofs.Following.{either}
-use Rattle.gl_machine.proofs.Symbols.{known_both, known_two}
+use Rattle.gl_machine.proofs.Symbols.{known_two}
+use Rattle.gl_machine.proofs.More.{seen_more, names_more, fits_more}
 use Rattle.gl_machine.proofs.Ending.{ends_at, ends_then, ends_on, ends_as, on_ok_twice}
 
 -- Lists: old items whose updates end
@@ -119,19 +119,6 @@ module _ where
         (λ d. ends_on (λ n. fresh_codes (one n) pp es d.arm.state) (item_with d) (news_end es d.arm.state))
 
 -- Items that are appended
-
-seen_more : (env : Env) (c : ℕ) (ms : MScope) (w : Passing) (names : Names) → with_locals (map (by_symbol (symbols_at env c)) names) (seen env c ms w) ≡ seen env c (with_names names ms) w
-seen_more env c (mscope i args l v) w names = ap (λ t. sight c i args t w) (sym (map-append (by_symbol (symbols_at env c)) l names))
-
-names_more : (ms : MScope) (names : Names) → texts_of (s.locals_in (with_names names ms)) ≡ texts_of (s.locals_in ms) ++ texts_of names
-names_more (mscope i args l v) names = map-append (λ n. n.0) l names
-
-fits_more : (env : Env) (c : ℕ) (ms : MScope) (w : Passing) (names : Names) → Fits env c ms w → Known (symbols_at env c) (texts_of names) → Fits env c (with_names names ms) w
-fits_more env c (mscope i args l v) w names fits known = record {
-  known = subst (Known (symbols_at env c)) (sym (names_more (mscope i args l v) names)) (known_both (symbols_at env c) (texts_of l) (texts_of names) fits.known known);
-  is = fits.is;
-  passes = fits.passes;
-}
 
 module _ (env : Env) (store : Store) (run : ℕ → Runs) (runs : RunsEnd env store run) where
   module _ (m c : ℕ) (ms : MScope) (w : Passing) (key : Text) (body other : ℕ) (a : Body) (fits : Fits env c ms w) where

@@ -10,8 +10,10 @@ pub mod Step
 pub mod Root
 pub mod Shape
 pub mod Nesting
+pub mod Appended
 pub mod Rows
 pub mod Gone
 pub mod Scopes
+pub mod Marks
 pub mod UpdateLaws
 pub mod Laws
