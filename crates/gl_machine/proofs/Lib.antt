@@ -39,3 +39,6 @@ pub mod Freed
 pub mod PageGone
 pub mod Cases
 pub mod Named
+pub mod Makes
+pub mod MarkGrows
+pub mod MarkRenews

@@ -14,5 +14,6 @@ pub mod Appended
 pub mod Rows
 pub mod Gone
 pub mod Scopes
+pub mod Marks
 pub mod UpdateLaws
 pub mod Laws
