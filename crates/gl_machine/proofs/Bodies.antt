@@ -12,11 +12,6 @@ use Rattle.gl_meaning.specs.Path as pt
 use Rattle.gl_meaning.specs.Render as r
 use Rattle.gl_meaning.specs.Eval.{Store, takes_first}
 use Rattle.std.specs.Prelude.{slice_get}
-use Rattle.std.specs.Str.{bytes_eq}
-use Rattle.std.proofs.Common.{inl, inr}
-use Rattle.std.proofs.lemmas.Bool.{or_cases, both_ways}
-use Rattle.std.proofs.lemmas.Slice.Eq.{bytes_eq-Decides}
-use Rattle.gl_base.specs.Names.{has_text}
 use Rattle.gl_opc.specs.Numbers.{class_number, parameter_symbol, item_op}
 use Rattle.gl_opc.specs.Spans.{StmtAt, BodyAt, BlocksAt, BareAt, ExprAt, if_op, count_exprs}
 use Rattle.gl_plain.specs.Ids.{a_ref, a_node, a_block, Id, block_id}
@@ -38,10 +33,11 @@ use Rattle.gl_machine.specs.Step.{operands, each_into, next_item, given, popped,
 use Rattle.gl_machine.proofs.Following.{either, or_first, or_second, or_none}
 use Rattle.gl_machine.proofs.Runs.{adds, closed_codes, on, at_op, Goes, ends, first, onto, starts}
 use Rattle.gl_machine.proofs.Stacks.{popped-last, unnamed, lower_is, upper_is, positional_all}
+use Rattle.gl_machine.proofs.Symbols.{known_both, known_two}
 use Rattle.gl_machine.proofs.Words.{pushed, counted}
 use Rattle.gl_machine.proofs.Sound.{Sound}
 use Rattle.gl_machine.proofs.Getters.{room, expr_comes, exprs_come}
-use Rattle.gl_machine.proofs.Tags.{with_parts, with_args, with_slots, unused, names_more, known_both, bound_are, params_come, SpreadGoes, parts_come, arguments_come, slots_come, bare_comes}
+use Rattle.gl_machine.proofs.Tags.{with_parts, with_args, with_slots, unused, names_more, bound_are, params_come, SpreadGoes, parts_come, arguments_come, slots_come, bare_comes}
 
 abbrev pub resting : Sight → List ℕ → Here → Making → ℕ → List Frame → Rest
 resting seen_there pending h k left fs = record { getter = None; sight = seen_there; pending = pending; here = h; making = k; left = left; frames = fs }
@@ -213,19 +209,6 @@ module _ (env : Env) (store : Store) (sound : Sound env)
     item_names (n ∷ m ∷ []) t y zt = map-append (λ x. x.0) l ((n, zt.next a_ref) ∷ (m, suc (zt.next a_ref)) ∷ [])
     item_names (n ∷ m ∷ k ∷ xs) t y zt = absurd t
 
-    one_known : (n : Text) (xs : List Text) → has_text n symbols ≡ true → Known symbols xs → Known symbols (n ∷ xs)
-    one_known n xs e f m h =
-        elim (or_cases (bytes_eq m n) (has_text m xs) h) [
-          | inl g ↦ subst (λ x. has_text x symbols ≡ true) (sym ((bytes_eq-Decides m n).0 g)) e
-          | inr g ↦ f m g
-        ]
-
-    two_known : (xs : List Text) → TwoKnown symbols xs → Known symbols xs
-    two_known [] t m e = absurd (both_ways _ refl e)
-    two_known (n ∷ []) t m e = one_known n [] t (λ k f. absurd (both_ways _ refl f)) m e
-    two_known (n ∷ k ∷ []) t m e = one_known n (k ∷ []) t.0 (one_known k [] t.1 (λ i f. absurd (both_ways _ refl f))) m e
-    two_known (n ∷ k ∷ i ∷ xs) t m e = absurd t
-
     abbrev pushes : ItemCodes → List Item → List Item
     pushes no_item_codes done = done
     pushes (item_code s k cs is) done = pushes is (done ++ record { spot = s; comment = k; codes = cs } ∷ [])
@@ -273,7 +256,7 @@ module _ (env : Env) (store : Store) (sound : Sound env)
         (go s.1 stk [] body (space m pending inner (fs ++ frame ∷ []))) (grow_body env.app components yields (with m) q 0 b s.1)
         (λ r. go r.1 stk [] over (space m pending (adds r.0 inner) (fs ++ frame ∷ [])))
         (λ r. let a = or_comment r in let rest = grow_entries one (items ∷ next_at h) es a.state in (item_live s.0 a.comment a.lives rest.0, rest.1)) E
-        (step m (subst (Known symbols) (sym names) (known_both symbols (texts_of l) ns known (two_known ns two)))
+        (step m (subst (Known symbols) (sym names) (known_both symbols (texts_of l) ns known (known_two symbols ns two)))
         pending s.1 stk inner (fs ++ frame ∷ []) (λ m r. ap (λ o. unless_parts m o r) (popped-last fs frame)) body over
         (subst (λ ts. BodyAt (program_no env c) env.manifest (class_no env c) symbols ts body b over) (sym names) at_body) fit)
         (λ r d. either (have_node r.0)

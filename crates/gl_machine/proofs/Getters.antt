@@ -1,7 +1,6 @@
 -- The words of an expression of a template push the reference that stands for it. A getter's program is run in a frame of its own.
 use Rattle.std.proofs.Common.{◌≡◌, ℕ, zero, suc, List, [], ◌∷◌, ◌++◌, map, length, Bool, false, Option, Some, None, refl}
 use Rattle.std.specs.Prelude.{slice_get}
-use Rattle.std.proofs.lemmas.Bool.{both_ways}
 use Rattle.gl_base.specs.Texts.{Text}
 use Rattle.gl_value.specs.Value as va
 use Rattle.gl_ast.specs.Template as t
@@ -24,11 +23,9 @@ use Rattle.gl_machine.specs.Step.{do_getter, Comes}
 use Rattle.gl_machine.proofs.Sound.{Sound}
 use Rattle.gl_machine.proofs.Runs.{on, at_op}
 use Rattle.gl_machine.proofs.Stacks.{popped-last, unnamed, with_name}
+use Rattle.gl_machine.proofs.Symbols.{known_none}
 use Rattle.gl_machine.proofs.Levels.{Settles, settles}
 use Rattle.gl_machine.proofs.Words.{within, pushed, IsGood, literal_pushes, expr_pushes, exprs_push, named_push}
-
-pub known_none : (symbols : List Text) → Known symbols []
-known_none symbols n h = absurd (both_ways _ refl h)
 
 module _ (env : Env) (store : Store) (sound : Sound env) (c : ℕ) (i : Inst) (a : Names) (is : IsOf env c i) where
   abbrev gs : List (Text × Expr)

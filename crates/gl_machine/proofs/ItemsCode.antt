@@ -1,12 +1,7 @@
 -- An item that is appended.
-use Rattle.std.proofs.Common.{◌≡◌, ℕ, List, [], ◌∷◌, ◌++◌, map, true, refl, sym, ◌∙◌, ap, subst, inl, inr}
+use Rattle.std.proofs.Common.{◌≡◌, ℕ, List, [], ◌∷◌, ◌++◌, map, refl, sym, ◌∙◌, ap, subst}
 use Rattle.std.specs.Prelude.{slice_get}
-use Rattle.std.specs.Str.{bytes_eq}
-use Rattle.std.proofs.lemmas.List.{map-append}
-use Rattle.std.proofs.lemmas.Bool.{or_cases, both_ways}
-use Rattle.std.proofs.lemmas.Slice.Eq.{bytes_eq-Decides}
 use Rattle.gl_base.specs.Texts.{Text}
-use Rattle.gl_base.specs.Names.{has_text}
 use Rattle.gl_ast.specs.Template.{Body}
 use Rattle.gl_meaning.specs.Path.{item, Path}
 use Rattle.gl_meaning.specs.Eval.{Store}
@@ -17,40 +12,18 @@ use Rattle.gl_plain.specs.State as s
 use Rattle.gl_plain.specs.Live.{ItemSpot}
 use Rattle.gl_plain.specs.Grow.{or_comment, item_spot}
 use Rattle.gl_plain.specs.Renew.{fresh_body, fresh_items}
-use Rattle.gl_machine.specs.Sight.{sight, Passing, with_locals}
+use Rattle.gl_machine.specs.Sight.{Passing, with_locals}
 use Rattle.gl_machine.specs.Code.{Listing}
 use Rattle.gl_machine.specs.Outcome.{ok, on_ok}
 use Rattle.gl_machine.specs.RenewCode.{Runs, start, commented, item_done, fresh_item}
 use Rattle.gl_machine.specs.Env.{Env, symbols_at, by_symbol, texts_of, seen}
 use Rattle.gl_machine.specs.Params.{Known, TwoKnown}
 use Rattle.gl_machine.specs.Placed.{Fits, BodyThere, PlacedIn, FollowsIn, RunsRight}
+use Rattle.gl_machine.proofs.Symbols.{known_two}
+use Rattle.gl_machine.proofs.More.{seen_more, names_more, fits_more}
 use Rattle.gl_machine.proofs.SyncsCode.{FollowsItem, fresh_follows}
-use Rattle.gl_machine.proofs.Tags.{known_both}
-
-one_known : (symbols : List Text) (n : Text) (xs : List Text) → has_text n symbols ≡ true → Known symbols xs → Known symbols (n ∷ xs)
-one_known symbols n xs e f m h =
-    elim (or_cases (bytes_eq m n) (has_text m xs) h) [
-      | inl g ↦ subst (λ x. has_text x symbols ≡ true) (sym ((bytes_eq-Decides m n).0 g)) e
-      | inr g ↦ f m g
-    ]
-
-none_known : (symbols : List Text) → Known symbols []
-none_known symbols m e = absurd (both_ways _ refl e)
 
 module _ (env : Env) (store : Store) (run : Runs) (runs : RunsRight env store run) (m c : ℕ) (w : Passing) (pp : Path) (a : Body) (key : Text) (body other : ℕ) where
-  seen_more : (ms : MScope) (names : Names) → with_locals (map (by_symbol (symbols_at env c)) names) (seen env c ms w) ≡ seen env c (with_names names ms) w
-  seen_more (mscope i args l v) names = ap (λ t. sight c i args t w) (sym (map-append (by_symbol (symbols_at env c)) l names))
-
-  names_more : (ms : MScope) (names : Names) → texts_of (s.locals_in (with_names names ms)) ≡ texts_of (s.locals_in ms) ++ texts_of names
-  names_more (mscope i args l v) names = map-append (λ n. n.0) l names
-
-  fits_more : (ms : MScope) (names : Names) → Fits env c ms w → Known (symbols_at env c) (texts_of names) → Fits env c (with_names names ms) w
-  fits_more (mscope i args l v) names fits known = record {
-    known = subst (Known (symbols_at env c)) (sym (names_more (mscope i args l v) names)) (known_both (symbols_at env c) (texts_of l) (texts_of names) fits.known known);
-    is = fits.is;
-    passes = fits.passes;
-  }
-
   module _ (ms : MScope) (fits : Fits env c ms w) where
     abbrev pub listing : List Text → Listing
     listing ns = record { key = key; value = parameter_symbol (symbols_at env c) (slice_get ns 0); index = parameter_symbol (symbols_at env c) (slice_get ns 1); body = body; other = other; sight = seen env c ms w }
@@ -66,16 +39,16 @@ module _ (env : Env) (store : Store) (run : Runs) (runs : RunsRight env store ru
         let more = named_as ns z.params in
         let ms' = with_names more ms in
         fresh_follows env store run runs m c ms w pp ns a z (run (start (with_locals (map (by_symbol (symbols_at env c)) more) (seen env c ms w)) body q m) st) (fresh_body env.app store m ms' q a st)
-        (subst (λ v. FollowsIn (PlacedIn env c ms' w q 0 a) (run (start v body q m) st) (fresh_body env.app store m ms' q a st)) (sym (seen_more ms more))
-        (runs c ms' w (fits_more ms more fits (subst (Known (symbols_at env c)) (sym names) known)) body a
+        (subst (λ v. FollowsIn (PlacedIn env c ms' w q 0 a) (run (start v body q m) st) (fresh_body env.app store m ms' q a st)) (sym (seen_more env c ms w more))
+        (runs c ms' w (fits_more env c ms w more fits (subst (Known (symbols_at env c)) (sym names) known)) body a
         (subst (λ ts. BodyThere env c ts body a) (sym (names_more ms more ∙ ap (λ ts. texts_of (s.locals_in ms) ++ ts) names)) there) q m st))
 
     pub ones : (ns : List Text) → TwoKnown (symbols_at env c) ns → BodyThere env c (texts_of (s.locals_in ms) ++ ns) body a → (x : Entry) (st : State)
         → FollowsItem env store run runs m c ms w pp ns a (fresh_item run (listing ns) m (item x.key x.occurrence ∷ pp) x st) (fresh_items env.app store m ms ns a (item x.key x.occurrence ∷ pp) x st)
-    ones [] t there x st = let y = item_spot [] (item x.key x.occurrence ∷ pp) x st in core [] y.0 y.1 refl (none_known (symbols_at env c)) there
+    ones [] t there x st = let y = item_spot [] (item x.key x.occurrence ∷ pp) x st in core [] y.0 y.1 refl (known_two (symbols_at env c) [] t) there
     ones (n ∷ []) t there x st =
-        let y = item_spot (n ∷ []) (item x.key x.occurrence ∷ pp) x st in core (n ∷ []) y.0 y.1 refl (one_known (symbols_at env c) n [] t (none_known (symbols_at env c))) there
+        let y = item_spot (n ∷ []) (item x.key x.occurrence ∷ pp) x st in core (n ∷ []) y.0 y.1 refl (known_two (symbols_at env c) (n ∷ []) t) there
     ones (n ∷ k ∷ []) t there x st =
         let y = item_spot (n ∷ k ∷ []) (item x.key x.occurrence ∷ pp) x st in
-        core (n ∷ k ∷ []) y.0 y.1 refl (one_known (symbols_at env c) n (k ∷ []) t.0 (one_known (symbols_at env c) k [] t.1 (none_known (symbols_at env c)))) there
+        core (n ∷ k ∷ []) y.0 y.1 refl (known_two (symbols_at env c) (n ∷ k ∷ []) t) there
     ones (n ∷ k ∷ j ∷ ns) t there x st = absurd t

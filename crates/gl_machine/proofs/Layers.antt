@@ -27,9 +27,10 @@ use Rattle.gl_machine.specs.Mach.{Pushed, Here, Back, Making, idle, Kind, in_blo
 use Rattle.gl_machine.specs.Step.{yield_slot, yield_to, unless_parts, here}
 use Rattle.gl_machine.proofs.Runs.{adds, closed_codes, at_op, Goes, stops, ends, first, onto}
 use Rattle.gl_machine.proofs.Stacks.{popped-last}
+use Rattle.gl_machine.proofs.Symbols.{known_none, known_both}
 use Rattle.gl_machine.proofs.Sound.{Sound}
-use Rattle.gl_machine.proofs.Getters.{known_none, room}
-use Rattle.gl_machine.proofs.Tags.{unused, names_more, known_both, bound_are, params_come}
+use Rattle.gl_machine.proofs.Getters.{room}
+use Rattle.gl_machine.proofs.Tags.{unused, names_more, bound_are, params_come}
 use Rattle.gl_machine.proofs.Spreads.{spreads_go}
 use Rattle.gl_machine.proofs.Bodies.{resting, InvokeGoes, YieldGoes, named_back, body_goes}
 

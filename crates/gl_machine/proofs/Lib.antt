@@ -1,8 +1,8 @@
 pub mod Following
 pub mod Runs
 pub mod Stacks
-pub mod Symbols
 pub mod Numbered
+pub mod Symbols
 pub mod Helpers
 pub mod Members
 pub mod Words
@@ -16,12 +16,18 @@ pub mod Layers
 pub mod Right
 pub mod Fitting
 pub mod Lowered
+pub mod More
 pub mod SyncsCode
 pub mod ItemsCode
 pub mod RenewsCode
 pub mod PageRenews
+pub mod RenewEnds
+pub mod Ending
 pub mod Root
+pub mod Nesting
 pub mod Pages
+pub mod Appended
+pub mod Standing
 pub mod Nests
 pub mod Sits
 pub mod RowsOf
@@ -31,6 +37,7 @@ pub mod PlacesOnce
 pub mod GoneLines
 pub mod Freed
 pub mod PageGone
+pub mod Cases
 pub mod Named
 pub mod Makes
 pub mod MarkGrows

@@ -14,7 +14,7 @@ use Rattle.gl_plain.specs.Grow.{grow_cells, grow_components}
 use Rattle.gl_plain.specs.Renew.{fresh_body}
 use Rattle.gl_machine.specs.Sight.{sight, not_passed}
 use Rattle.gl_machine.specs.Code.{Code, component_code, live_of, lives_of}
-use Rattle.gl_machine.specs.Outcome.{Outcome, ok, deep, lost, on_ok, Ends}
+use Rattle.gl_machine.specs.Outcome.{Outcome, ok, on_ok, Ends}
 use Rattle.gl_machine.specs.RenewCode.{Runs, start}
 use Rattle.gl_machine.specs.Params.{HasParamsIn}
 use Rattle.gl_machine.specs.Env.{Env, class_no, program_no, symbols_at}
@@ -22,18 +22,9 @@ use Rattle.gl_machine.specs.Placed.{Fits, BodyThere, PlacedIn, Follows, RunsRigh
 use Rattle.gl_machine.specs.Root.{PlacedRoot, append_page}
 use Rattle.gl_machine.proofs.Following.{follow_on}
 use Rattle.gl_machine.proofs.Sound.{Sound}
-use Rattle.gl_machine.proofs.Getters.{known_none}
+use Rattle.gl_machine.proofs.Symbols.{known_none}
 use Rattle.gl_machine.proofs.Layers.{cells_named}
-use Rattle.gl_machine.proofs.Right.{deep_told, ok_told}
-
-known_so : {A B : Type 0} (o : Outcome A) (g : A → B) → (o ≡ lost → ⊥) → on_ok o (λ r. ok (g r)) ≡ lost → ⊥
-known_so (ok x) g told e = ok_told (g x) e
-known_so deep g told e = deep_told e
-known_so lost g told e = told refl
-
--- what is done with an answer ends where the answer does
-ends_on : {A B : Type 0} (f : ℕ → Outcome A) (g : A → B) → Ends f → Ends (λ n. on_ok (f n) (λ r. ok (g r)))
-ends_on f g (n, o, told, same) = (n, on_ok o (λ r. ok (g r)), known_so o g told, λ k less. ap (λ x. on_ok x (λ r. ok (g r))) (same k less))
+use Rattle.gl_machine.proofs.Ending.{ends_deep, ends_on}
 
 -- where the root's class begins
 module _ (env : Env) (store : Store) (sound : Sound env) (q : ℕ) (number : class_number env.manifest env.app.root ≡ Some q) (st : State) where
@@ -92,7 +83,7 @@ module _ (env : Env) (store : Store) (sound : Sound env) (q : ℕ) (number : cla
       (runs q ms not_passed root_fits 0 template root_there [] m st1) (λ r d. d) (λ r fine placed. (refl, fine, (q, placed))))
 
   pub page_ends : (run : ℕ → Runs) → RunsEnd env store run → (m : ℕ) → Ends (λ n. append_page m env store (run n) q st)
-  page_ends run runs zero = (0, deep, deep_told, λ k less. refl)
+  page_ends run runs zero = ends_deep
   page_ends run runs (suc m) =
       let c = grow_cells env.app store [] fs st in
       let i = root_inst fs in

@@ -1,18 +1,15 @@
--- Parameters by their symbols.
-use Rattle.std.proofs.Common.{◌≡◌, ℕ, suc, ◌==◌, List, [], ◌∷◌, map, Bool, true, false, ◌||◌, cond, Option, Some, None, refl, sym, ◌∙◌, ap, subst, arith}
+-- Parameters by their symbols, and names that all have one.
+use Rattle.std.proofs.Common.{◌≡◌, ℕ, suc, ◌==◌, List, [], ◌∷◌, map, Bool, true, false, ◌||◌, cond, Option, Some, None, refl, sym, ◌∙◌, ap, subst, arith, ◌++◌, inl, inr}
 use Rattle.std.specs.Str.{bytes_eq}
-use Rattle.std.proofs.lemmas.Bool.{eqb-true, eq-eqb, both_ways}
+use Rattle.std.proofs.lemmas.Bool.{eqb-true, eq-eqb, both_ways, or_cases, or_left, or_right}
 use Rattle.std.proofs.lemmas.Slice.Eq.{bytes_eq-Decides}
 use Rattle.gl_base.specs.Texts.{Text}
 use Rattle.gl_base.specs.Names.{last_named, or_else, has_text}
 use Rattle.gl_wire.specs.Symbols.{place_of}
 use Rattle.gl_machine.specs.Step.{last_symbol}
+use Rattle.gl_machine.specs.Params.{Known, TwoKnown}
 use Rattle.gl_machine.specs.Env.{by_symbol, texts_of}
-
-same_if : (b c : Bool) → (b ≡ true → c ≡ true) → (c ≡ true → b ≡ true) → b ≡ c
-same_if true c f g = sym (f refl)
-same_if false true f g = g refl
-same_if false false f g = refl
+use Rattle.gl_machine.proofs.Numbered.{same_if}
 
 at_head : (n m y : Text) (ys : List Text) (b c : Bool) → bytes_eq n y ≡ b → bytes_eq m y ≡ c
     → (has_text n ys ≡ true → place_of ys n ≡ place_of ys m → n ≡ m)
@@ -56,3 +53,29 @@ named_there n xs h = subst (λ b. Found b (last_named n xs)) h (found_as n xs)
 
 pub none_there : (n : Text) (xs : List (Text × ℕ)) → has_text n (texts_of xs) ≡ false → last_named n xs ≡ None
 none_there n xs h = subst (λ b. Found b (last_named n xs)) h (found_as n xs)
+
+-- names that have symbols, together
+
+pub known_none : (symbols : List Text) → Known symbols []
+known_none symbols n h = absurd (both_ways _ refl h)
+
+pub known_both : (symbols xs ys : List Text) → Known symbols xs → Known symbols ys → Known symbols (xs ++ ys)
+known_both symbols [] ys f g n h = g n h
+known_both symbols (x ∷ xs) ys f g n h =
+    elim (or_cases (bytes_eq n x) (has_text n (xs ++ ys)) h) [
+      | inl e ↦ f n (or_left (bytes_eq n x) (has_text n xs) e)
+      | inr e ↦ known_both symbols xs ys (λ m k. f m (or_right (bytes_eq m x) (has_text m xs) k)) g n e
+    ]
+
+known_more : (symbols : List Text) (n : Text) (xs : List Text) → has_text n symbols ≡ true → Known symbols xs → Known symbols (n ∷ xs)
+known_more symbols n xs e f m h =
+    elim (or_cases (bytes_eq m n) (has_text m xs) h) [
+      | inl g ↦ subst (λ x. has_text x symbols ≡ true) (sym ((bytes_eq-Decides m n).0 g)) e
+      | inr g ↦ f m g
+    ]
+
+pub known_two : (symbols xs : List Text) → TwoKnown symbols xs → Known symbols xs
+known_two symbols [] t = known_none symbols
+known_two symbols (n ∷ []) t = known_more symbols n [] t (known_none symbols)
+known_two symbols (n ∷ k ∷ []) t = known_more symbols n (k ∷ []) t.0 (known_more symbols k [] t.1 (known_none symbols))
+known_two symbols (n ∷ k ∷ i ∷ xs) t = absurd t

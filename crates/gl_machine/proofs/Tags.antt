@@ -1,11 +1,8 @@
 -- The words of a tag: parts, arguments, parameters, blocks.
-use Rattle.std.proofs.Common.{◌≡◌, ℕ, suc, List, [], ◌∷◌, ◌++◌, map, length, drop, true, false, None, refl, ◌∙◌, ap, subst, append_assoc, inl, inr}
+use Rattle.std.proofs.Common.{◌≡◌, ℕ, suc, List, [], ◌∷◌, ◌++◌, map, length, drop, true, false, None, refl, ◌∙◌, ap, subst, append_assoc}
 use Rattle.std.specs.Prelude.{codes}
-use Rattle.std.specs.Str.{bytes_eq}
 use Rattle.std.proofs.lemmas.List.{append-nil, map-append}
-use Rattle.std.proofs.lemmas.Bool.{or_cases, or_left, or_right}
 use Rattle.gl_base.specs.Texts.{Text}
-use Rattle.gl_base.specs.Names.{has_text}
 use Rattle.gl_value.specs.Value as va
 use Rattle.gl_ast.specs.Template.{AttrValue, fixed, live, Part, attribute, modifier, spread, Slots, no_slots, block}
 use Rattle.gl_ops.specs.declared.op.Op.{Op}
@@ -56,14 +53,6 @@ names_bound (n ∷ ns) (r ∷ rs) st = ap (λ xs. n ∷ xs) (names_bound ns rs s
 
 pub names_more : (l : Names) (ns : List Text) (rs : List ℕ) (st : State) → texts_of (l ++ (bind_params ns rs st).names) ≡ texts_of l ++ ns
 names_more l ns rs st = map-append (λ x. x.0) l (bind_params ns rs st).names ∙ ap (λ xs. texts_of l ++ xs) (names_bound ns rs st)
-
-pub known_both : (symbols xs ys : List Text) → Known symbols xs → Known symbols ys → Known symbols (xs ++ ys)
-known_both symbols [] ys f g n h = g n h
-known_both symbols (x ∷ xs) ys f g n h =
-    elim (or_cases (bytes_eq n x) (has_text n (xs ++ ys)) h) [
-      | inl e ↦ f n (or_left (bytes_eq n x) (has_text n xs) e)
-      | inr e ↦ known_both symbols xs ys (λ m k. f m (or_right (bytes_eq m x) (has_text m xs) k)) g n e
-    ]
 
 refs_same : (symbols : List Text) (xs : Names) → refs_in (map (by_symbol symbols) xs) ≡ refs_of xs
 refs_same symbols [] = refl

@@ -9,6 +9,8 @@ pub mod Mach
 pub mod Step
 pub mod Root
 pub mod Shape
+pub mod Nesting
+pub mod Appended
 pub mod Rows
 pub mod Gone
 pub mod Scopes
