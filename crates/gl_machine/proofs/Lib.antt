@@ -42,3 +42,4 @@ pub mod Named
 pub mod Makes
 pub mod MarkGrows
 pub mod MarkRenews
+pub mod MarkRoots

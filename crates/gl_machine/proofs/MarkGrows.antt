@@ -1,5 +1,5 @@
 -- What is appended installs its modifiers in order, and its blocks rise.
-use Rattle.std.proofs.Common.{◌≡◌, ◌<◌, ◌≤◌, ℕ, zero, suc, List, [], ◌∷◌, ◌++◌, map, Bool, true, false, Option, Some, None, cond, refl, sym, ◌∙◌, ap, ap₂, subst, arith}
+use Rattle.std.proofs.Common.{◌≡◌, ◌≤◌, ℕ, zero, suc, List, [], ◌∷◌, ◌++◌, map, Bool, true, false, Option, Some, None, cond, refl, sym, ◌∙◌, ap, subst, arith}
 use Rattle.std.specs.Prelude.{if◌then◌else◌, length}
 use Rattle.std.proofs.lemmas.List.{append-nil, append_assoc, map-append}
 use Rattle.gl_base.specs.Texts.{Text}
@@ -12,10 +12,10 @@ use Rattle.gl_meaning.specs.Eval.{Store, class_at, takes_first, values_in}
 use Rattle.gl_meaning.specs.Parts.{attribute_value}
 use Rattle.gl_meaning.specs.Render.{Entry, entries, values_listed, Block, block_named}
 use Rattle.gl_meaning.proofs.Pieces.{filter_map_append}
-use Rattle.gl_plain.specs.Ids.{a_ref, a_node, an_instance, a_block, a_modifier, Kind, Id, ref, block_id, modifier_id}
+use Rattle.gl_plain.specs.Ids.{a_ref, a_node, an_instance, a_block, a_modifier, Kind, Id, block_id, modifier_id}
 use Rattle.gl_plain.specs.State.{Form, all_form, any_of, row, modifier_row, Names, Inst, MScope, mscope, MPassed, mnothing, mpassed, with_names, Content, comment_content, text_content, element_content, content, instance_row, block_row, Thing, State, make}
 use Rattle.gl_plain.specs.Binding.{BoundAll, Spot, made_row, bind_exprs, bind_args, bind_params, place, first_value}
-use Rattle.gl_plain.specs.Tags.{bind_written, flush_parts, first_values, named_with, values_from, install, install_all, install_parts, WaitingModifier, modifiers_waiting, Waiting, Given, AttrsGiven, give_attrs, given_refs, given_pairs, taken_waiting, some_waiting_live, attributes_waiting, names_waiting}
+use Rattle.gl_plain.specs.Tags.{bind_written, flush_parts, first_values, named_with, values_from, install, install_all, install_parts, WaitingModifier, modifiers_waiting, Given, AttrsGiven, give_attrs, given_refs, given_pairs, taken_waiting, some_waiting_live, attributes_waiting, names_waiting}
 use Rattle.gl_plain.specs.Parts.{mwritten_parts}
 use Rattle.gl_plain.specs.Live.{Live, Lives, Items, have_node, item_names}
 use Rattle.gl_plain.specs.Live
@@ -59,8 +59,12 @@ then_marks st st1 st2 ms ns h g = record {
 -- something else is made
 make_marks : (k : Kind) (x : Thing) (st : State) → Marks st (make k x st) []
 make_marks k x st = record {
-  evaluated = sym (append-nil st.evaluated); installs = sym (append-nil st.installs); updates = refl; late = tt;
-  more = make_more k x st (modifier_id 0); blocks = make_more k x st (block_id 0);
+  evaluated = sym (append-nil st.evaluated);
+  installs = sym (append-nil st.installs);
+  updates = refl;
+  late = tt;
+  more = make_more k x st (modifier_id 0);
+  blocks = make_more k x st (block_id 0);
 }
 
 abbrev NoMarks : State → State → Type 0

@@ -1,9 +1,8 @@
 -- What an update installs and updates, and that blocks rise still.
-use Rattle.std.proofs.Common.{◌≡◌, ◌<◌, ◌≤◌, ℕ, zero, suc, ◌+◌, List, [], ◌∷◌, ◌++◌, map, Bool, true, false, true≢false, Option, Some, None, cond, refl, sym, ◌∙◌, ap, ap₂, subst, arith, inl, inr, ◌⊎◌}
-use Rattle.std.specs.Prelude.{if◌then◌else◌, filter_map, filter, nat_le}
+use Rattle.std.proofs.Common.{◌≡◌, ◌≤◌, ℕ, suc, ◌+◌, List, [], ◌∷◌, ◌++◌, map, Bool, true, false, Option, Some, None, cond, refl, sym, ◌∙◌, ap, ap₂, subst, arith, inl, inr, ◌⊎◌}
+use Rattle.std.specs.Prelude.{if◌then◌else◌, filter_map, nat_le}
 use Rattle.std.specs.List.{cons_option}
-use Rattle.std.proofs.lemmas.List.{append-nil, append_assoc, append_cancel_left, map-append}
-use Rattle.std.proofs.lemmas.Bool.Decides.{leb_tells}
+use Rattle.std.proofs.lemmas.List.{append-nil, append_assoc, map-append}
 use Rattle.std.proofs.lemmas.Bool.{le-leb}
 use Rattle.gl_base.specs.Texts.{Text}
 use Rattle.gl_value.specs.Value.{Values, no_values, value, same, count_value, text_of}
@@ -15,16 +14,16 @@ use Rattle.gl_meaning.specs.Eval.{Store, class_at, takes_first, values_in}
 use Rattle.gl_meaning.specs.Parts.{attribute_value}
 use Rattle.gl_meaning.specs.Render.{Entry, entries, values_listed, Block, block_named}
 use Rattle.gl_meaning.proofs.Pieces.{filter_map_append}
-use Rattle.gl_plain.specs.Ids.{a_ref, a_block, a_modifier, Id, ref, node, modifier_id, occurs}
-use Rattle.gl_plain.specs.State.{MScope, mscope, mnothing, mpassed, passed_in, mslots, mwriter, named_as, with_names, text_content, content, modifier_row, State, put_thing, note_updated, dropped, touch, held_value}
+use Rattle.gl_plain.specs.Ids.{a_block, a_modifier, Id, ref, node, modifier_id}
+use Rattle.gl_plain.specs.State.{MScope, mscope, mpassed, passed_in, mslots, mwriter, named_as, with_names, text_content, content, modifier_row, State, put_thing, note_updated, dropped, touch, held_value}
 use Rattle.gl_plain.specs.Binding.{Spot, first_value}
 use Rattle.gl_plain.specs.Live
 use Rattle.gl_plain.specs.Live.{Live, Lives, Items, AttrSpot, ModSpot, ItemSpot, times_in, times_items, times_comment}
 use Rattle.gl_plain.specs.Grow.{Arm, or_comment, ItemGrown, grow_entries, grow_components, grow_yields}
-use Rattle.gl_plain.specs.Renew.{spot_pairs, is_stale, evaluate, reread, renew_text, renew_attrs, changed_attr, refreshed, renew_mods, give, Handle, times_handles, is_of, with_front, taken, renew_item, sync_one, sync, where_values, where_block, fresh_body, fresh_items, renew, renew_body, handles, renew_root}
+use Rattle.gl_plain.specs.Renew.{spot_pairs, is_stale, evaluate, reread, renew_text, renew_attrs, changed_attr, refreshed, renew_mods, give, Handle, times_handles, is_of, with_front, taken, renew_item, sync_one, sync, where_values, where_block, fresh_body, fresh_items, renew, renew_body, handles}
 use Rattle.gl_plain.proofs.Counts.{AllFrom}
 use Rattle.gl_machine.specs.Marks.{Mark, attr_marks, mod_marks, marked, marked_items, marked_in, modifiers_among, new_from, old_below, Rises, RisesItems, RisesIn}
-use Rattle.gl_machine.proofs.MarkGrows.{Marks, Grown, GrownIn, GrownItems, GrownArm, rises_more, rises_more_in, rises_more_items, arm_grown, entries_grown, item_grown, body_grown, yields_grown, components_grown}
+use Rattle.gl_machine.proofs.MarkGrows.{Marks, GrownIn, GrownItems, GrownArm, rises_more, rises_more_in, rises_more_items, arm_grown, entries_grown, item_grown, body_grown, yields_grown, components_grown}
 
 -- the state once an attribute, or a modifier, was read again
 abbrev attr_put : ℕ → AttrSpot → State → State
@@ -102,7 +101,13 @@ module _ (n0 : ℕ) where
 
   idle_turns : (st : State) (ms : List Mark) → AllOld ms → Turns st st ms
   idle_turns st ms h = record {
-    reads = []; evaluated = sym (append-nil st.evaluated); installs = sym (append-nil st.installs); updates = sym (append-nil st.updates); sub = sub_none ms h; more = omega arith; blocks = omega arith;
+    reads = [];
+    evaluated = sym (append-nil st.evaluated);
+    installs = sym (append-nil st.installs);
+    updates = sym (append-nil st.updates);
+    sub = sub_none ms h;
+    more = omega arith;
+    blocks = omega arith;
   }
 
   then_turns : (st st1 st2 : State) (ms ns : List Mark) → Turns st st1 ms → Turns st1 st2 ns → Turns st st2 (ms ++ ns)
@@ -346,7 +351,7 @@ module _ (n0 : ℕ) where
     new_list z count st was r le h =
         let g = gone_then z count st in anew_items st (dropped count (reread z.ref st)) ((z.ref, None) ∷ []) was r (later st (dropped count (reread z.ref st)) ((z.ref, None) ∷ []) le g) g h
 
-    nothing_renewed : (st : State) (l : Live) → AllOld (marked l) → RenewedOf st l (l, st)
+    pub nothing_renewed : (st : State) (l : Live) → AllOld (marked l) → RenewedOf st l (l, st)
     nothing_renewed st l o = record { turns = idle_turns st (marked l) o; rises = λ b le w. w }
 
     idle_in : (st : State) (ls : Lives) → AllOld (marked_in ls) → RenewedIn st ls (ls, st)
@@ -358,8 +363,8 @@ module _ (n0 : ℕ) where
 
     listed_by : (m : ℕ) (ms : MScope) (p : Path) (key : Text) (ns : List Text) (c d : t.Body) (z : Spot) (is : Items) (st : State) → n0 ≤ st.next a_modifier → AllHandles GoesOn (handles app τ m c is) → (vs : Values Path)
         → RenewedOf st (Live.listed z is)
-          (where_values vs (λ vs. Rattle.gl_plain.specs.Grow.listed_from z (sync (fresh_items app τ m ms ns c) ns ms (items ∷ p) (entries key 0 [] vs) (handles app τ m c is) (reread z.ref st)))
-            (Rattle.gl_plain.specs.Grow.unlisted_from z (or_comment (fresh_body app τ m ms (otherwise ∷ p) d (dropped (λ q. times_items q is) (reread z.ref st))))))
+        (where_values vs (λ vs. Rattle.gl_plain.specs.Grow.listed_from z (sync (fresh_items app τ m ms ns c) ns ms (items ∷ p) (entries key 0 [] vs) (handles app τ m c is) (reread z.ref st)))
+        (Rattle.gl_plain.specs.Grow.unlisted_from z (or_comment (fresh_body app τ m ms (otherwise ∷ p) d (dropped (λ q. times_items q is) (reread z.ref st))))))
     listed_by m ms p key ns c d z is st le a no_values =
         let st2 = dropped (λ q. times_items q is) (reread z.ref st) in
         let h = new_branch z (λ q. times_items q is) st (λ b n. RisesItems b n is) (or_comment (fresh_body app τ m ms (otherwise ∷ p) d st2)) le (fresh_arm m ms (otherwise ∷ p) d st2) in
@@ -377,15 +382,15 @@ module _ (n0 : ℕ) where
     unlisted_by : (m : ℕ) (ms : MScope) (p : Path) (key : Text) (ns : List Text) (c d : t.Body) (z : Spot) (k : Option ℕ) (ls : Lives) (st : State) → n0 ≤ st.next a_modifier
         → RenewedIn (reread z.ref st) ls (renew_body app τ m ms (otherwise ∷ p) 0 d ls (reread z.ref st)) → (vs : Values Path)
         → RenewedOf st (Live.unlisted z k ls)
-          (where_values vs (λ vs. Rattle.gl_plain.specs.Grow.listed_from z (grow_entries (fresh_items app τ m ms ns c) (items ∷ p) (entries key 0 [] vs) (dropped (λ q. times_in q ls + times_comment q k) (reread z.ref st))))
-            (Rattle.gl_plain.specs.Grow.unlisted_from z (let r = renew_body app τ m ms (otherwise ∷ p) 0 d ls (reread z.ref st) in record { comment = k; lives = r.0; state = r.1 })))
+        (where_values vs (λ vs. Rattle.gl_plain.specs.Grow.listed_from z (grow_entries (fresh_items app τ m ms ns c) (items ∷ p) (entries key 0 [] vs) (dropped (λ q. times_in q ls + times_comment q k) (reread z.ref st))))
+        (Rattle.gl_plain.specs.Grow.unlisted_from z (let r = renew_body app τ m ms (otherwise ∷ p) 0 d ls (reread z.ref st) in record { comment = k; lives = r.0; state = r.1 })))
     unlisted_by m ms p key ns c d z k ls st le h no_values =
         let g = kept_branch z false k st ls (renew_body app τ m ms (otherwise ∷ p) 0 d ls (reread z.ref st)) h in record { turns = g.turns; rises = g.rises }
     unlisted_by m ms p key ns c d z k ls st le h (value v vs) =
         let count : Id → ℕ = λ q. times_in q ls + times_comment q k in
         let st2 = dropped count (reread z.ref st) in
         let g = new_list z count st (λ b n. RisesIn b n ls) (grow_entries (fresh_items app τ m ms ns c) (items ∷ p) (entries key 0 [] (value v vs)) st2) le
-          (entries_grown (fresh_items app τ m ms ns c) (λ q x st'. fresh_ones m ms ns c q x st') (items ∷ p) (entries key 0 [] (value v vs)) st2) in
+        (entries_grown (fresh_items app τ m ms ns c) (λ q x st'. fresh_ones m ms ns c q x st') (items ∷ p) (entries key 0 [] (value v vs)) st2) in
         record { turns = g.turns; rises = g.rises }
 
     branch_by : (z : Spot) (v u w : Bool) (k : Option ℕ) (ls : Lives) (st st2 : State) (r : Lives × State) (a : Arm) → Renewed st r.1 ((z.ref, None) ∷ marked_in r.0) (λ b n. RisesIn b n ls) (λ b n. RisesIn b n r.0)

@@ -1,5 +1,6 @@
 //! The laws of an update. Each function does nothing: its contract is the law.
 
+ghost use Rattle.gl_machine.specs.Marks.{AppendedInstalls, BlocksRise, UpdatedInstalls, UpdatedUpdates};
 ghost use Rattle.gl_machine.specs.Placed.{RenewsRight};
 ghost use Rattle.gl_machine.specs.Scopes.{PageNamesOwn, SightsNameOwn};
 ghost use Rattle.gl_machine.specs.UpdateLaws.{FreedIsGone, FreedIsLogged, IdsByPath, IdsStandOnce, NestHasNodes, NestIsDrawn, NestIsOrdered, NestIsPlaced, PageFollows, PlacesStandOnce, RowsAreDrawn};
@@ -32,8 +33,16 @@ pub fn destroyed()
     ensures logged { FreedIsLogged }
 {}
 
+/// What a turn hands out of modifiers: those that were installed and those that were updated, in the order of the log.
+pub fn handed_out()
+    ensures appended { AppendedInstalls }
+    ensures installed { UpdatedInstalls }
+    ensures updated { UpdatedUpdates }
+{}
+
 /// The scopes that are recorded name blocks and instances that the page has.
 pub fn scopes()
     ensures parts { SightsNameOwn }
     ensures page { PageNamesOwn }
+    ensures rise { BlocksRise }
 {}
