@@ -11,5 +11,7 @@ pub mod Evaluated
 pub mod Held
 pub mod Setting
 pub mod Resettled
+pub mod Calm
+pub mod LogGrows
 pub mod Turning
 mod Cases
