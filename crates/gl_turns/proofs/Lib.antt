@@ -13,5 +13,6 @@ pub mod Setting
 pub mod Resettled
 pub mod Calm
 pub mod LogGrows
+pub mod LogRenews
 pub mod Turning
 mod Cases
