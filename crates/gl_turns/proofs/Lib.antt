@@ -14,5 +14,6 @@ pub mod Resettled
 pub mod Calm
 pub mod LogGrows
 pub mod LogRenews
+pub mod Tagged
 pub mod Turning
 mod Cases

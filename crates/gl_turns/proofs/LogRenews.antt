@@ -30,11 +30,11 @@ use Rattle.gl_turns.proofs.LogGrows.{Grown, GrownIn, GrownArm, arm_grown, entrie
 abbrev pub Tag : Type 0
 Tag = ℕ × Option ℕ
 
-abbrev attr_tags : List AttrSpot → List Tag
+abbrev pub attr_tags : List AttrSpot → List Tag
 attr_tags [] = []
 attr_tags (a ∷ xs) = (a.spot.ref, None) ∷ attr_tags xs
 
-abbrev mod_tags : List ModSpot → List Tag
+abbrev pub mod_tags : List ModSpot → List Tag
 mod_tags [] = []
 mod_tags (z ∷ zs) = (z.spot.ref, Some z.id) ∷ mod_tags zs
 
