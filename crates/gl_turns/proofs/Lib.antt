@@ -15,5 +15,6 @@ pub mod Calm
 pub mod LogGrows
 pub mod LogRenews
 pub mod Tagged
+pub mod Logged
 pub mod Turning
 mod Cases
