@@ -1,6 +1,6 @@
 -- The places of a tree that stands are those of the rendering: its nodes, instances and items in order, and its positions.
 use Rattle.std.proofs.Common.{◌≡◌, ◌+◌, ℕ, zero, suc, List, [], ◌∷◌, ◌++◌, map, Bool, true, false, Option, Some, None, refl, sym, ap, ap₂, ◌∙◌, subst, arith, inl, inr}
-use Rattle.std.specs.Prelude.{if◌then◌else◌, filter_map, ◌||◌}
+use Rattle.std.specs.Prelude.{flat_map, if◌then◌else◌, filter_map, ◌||◌}
 use Rattle.std.proofs.lemmas.List.{append-nil, append_assoc}
 use Rattle.gl_base.specs.Texts.{Text}
 use Rattle.gl_value.specs.Value.{Values, no_values, value, count_value}
@@ -25,7 +25,7 @@ use Rattle.gl_plain.specs.Renew.{last_of}
 use Rattle.gl_plain.specs.Stands.{SpottedIn, one_expr, attrs_by, mods_by, tail_of, modifier_pairs, WhereValues, WhereBlock, AttrsStand, ModsStand, CommentStands, Stands, StandIn, ItemsStand, BlockStands, ListStands, ElseStands}
 use Rattle.gl_plain.specs.Machine.{no_place, RootStands}
 use Rattle.gl_plain.proofs.Apart.{StepsOf, later_apart}
-use Rattle.gl_turns.specs.Places.{Place, node_place, position_place, item_place, instance_place, node_in, position_in, item_in, instance_in, comment_places, attr_places, mod_places, places, places_items, places_in}
+use Rattle.gl_turns.specs.Places.{Place, node_place, position_place, item_place, instance_place, node_in, position_in, item_in, instance_in, modifier_in, comment_places, attr_places, mod_places, places, places_items, places_in}
 use Rattle.gl_turns.specs.Fits.{StepsIn, AttrsOwn, ModsOwn, Fits, FitsItems, FitsIn, FitsRoot}
 
 -- Scopes
@@ -144,6 +144,28 @@ read_join : (f : Path → ((Source → Bool) → Bool) → ℕ) (xs ys : List c.
 read_join f [] ys = omega arith
 read_join f (x ∷ xs) ys = let h = read_join f xs ys in omega (arith, h)
 
+-- the sum of what f gives for paths
+abbrev pub path_sum : (Path → ℕ) → List Path → ℕ
+path_sum f [] = 0
+path_sum f (p ∷ ps) = f p + path_sum f ps
+
+path_sums : (f : Path → ℕ) (xs ys : List Path) → path_sum f (xs ++ ys) ≡ path_sum f xs + path_sum f ys
+path_sums f [] ys = omega arith
+path_sums f (x ∷ xs) ys = let h = path_sums f xs ys in omega (arith, h)
+
+abbrev pub mod_paths : List Piece → List Path
+mod_paths qs = map (λ m. m.path) (flat_map c.modifiers_on qs)
+
+mods_join : (xs ys : List Piece) → flat_map c.modifiers_on (xs ++ ys) ≡ flat_map c.modifiers_on xs ++ flat_map c.modifiers_on ys
+mods_join [] ys = refl
+mods_join (x ∷ xs) ys = ap (λ a. c.modifiers_on x ++ a) (mods_join xs ys) ∙ sym (append_assoc (c.modifiers_on x) (flat_map c.modifiers_on xs) (flat_map c.modifiers_on ys))
+
+mod_sums : (f : Path → ℕ) (xs ys : List Piece) → path_sum f (mod_paths (xs ++ ys)) ≡ path_sum f (mod_paths xs) + path_sum f (mod_paths ys)
+mod_sums f xs ys = ap (λ ms. path_sum f (map (λ (m : Modifier). m.path) ms)) (mods_join xs ys) ∙ (ap (path_sum f) (map_join (λ (m : Modifier). m.path) (flat_map c.modifiers_on xs) (flat_map c.modifiers_on ys)) ∙ path_sums f (mod_paths xs) (mod_paths ys))
+
+place_sums : (f : Path → ℕ) (xs ys : List Place) → path_sum f (Firsts modifier_in (xs ++ ys)) ≡ path_sum f (Firsts modifier_in xs) + path_sum f (Firsts modifier_in ys)
+place_sums f xs ys = ap (path_sum f) (firsts_join modifier_in xs ys) ∙ path_sums f (Firsts modifier_in xs) (Firsts modifier_in ys)
+
 module _ (look : Id → Option Thing) where
   abbrev Read : Type 0
   Read = Path → ((Source → Bool) → Bool) → ℕ
@@ -154,9 +176,10 @@ module _ (look : Id → Option Thing) where
     pub instances : Firsts instance_in xs ≡ filter_map c.instance_path qs
     pub items : ItemsShown look (filter_map item_in xs) (filter_map c.item_in qs)
     pub positions : (f : Read) → kept_sum look f (filter_map position_in xs) ≡ read_sum f (filter_map c.position_in qs)
+    pub modifiers : (f : Path → ℕ) → path_sum f (Firsts modifier_in xs) ≡ path_sum f (mod_paths qs)
 
   agree_none : Agree [] []
-  agree_none = record { nodes = refl; instances = refl; items = tt; positions = λ f. refl }
+  agree_none = record { nodes = refl; instances = refl; items = tt; positions = λ f. refl; modifiers = λ f. refl }
 
   sums_join : (f : Read) (xs ys : List Place) → kept_sum look f (filter_map position_in (xs ++ ys)) ≡ kept_sum look f (filter_map position_in xs) + kept_sum look f (filter_map position_in ys)
   sums_join f xs ys = ap (kept_sum look f) (filter_map_append position_in xs ys) ∙ kept_join look f (filter_map position_in xs) (filter_map position_in ys)
@@ -173,6 +196,7 @@ module _ (look : Id → Option Thing) where
         (subst (λ a. ItemsShown look (filter_map item_in xs ++ filter_map item_in ys) a) (sym (filter_map_append c.item_in qs rs))
         (items_join look (filter_map item_in xs) (filter_map item_in ys) (filter_map c.item_in qs) (filter_map c.item_in rs) h.items g.items));
     positions = λ f. sums_join f xs ys ∙ (ap₂ (λ a b. a + b) (h.positions f) (g.positions f) ∙ sym (reads_join f qs rs));
+    modifiers = λ f. place_sums f xs ys ∙ (ap₂ (λ a b. a + b) (h.modifiers f) (g.modifiers f) ∙ sym (mod_sums f qs rs));
   }
 
   agree_forests : (xs ys : List Place) (f g : Forest) → Agree xs (c.pieces f) → Agree ys (c.pieces g) → Agree (xs ++ ys) (c.pieces (join f g))
@@ -182,12 +206,12 @@ module _ (look : Id → Option Thing) where
   at_end xs qs h = subst (Agree xs) (sym (append-nil qs)) h
 
   agree_branch : (xs : List Place) (p : Path) (f : Forest) → Agree xs (c.pieces f) → Agree xs (c.pieces (single (r.branch p f)))
-  agree_branch xs p f h = let k = at_end xs (c.pieces f) h in record { nodes = k.nodes; instances = k.instances; items = k.items; positions = k.positions }
+  agree_branch xs p f h = let k = at_end xs (c.pieces f) h in record { nodes = k.nodes; instances = k.instances; items = k.items; positions = k.positions; modifiers = k.modifiers }
 
   agree_component : (xs : List Place) (p : Path) (i : Rattle.gl_plain.specs.State.Inst) (s : Scope) (f : Forest) → i.path ≡ p → Agree xs (c.pieces f) → Agree (instance_place i.path i ∷ xs) (c.pieces (single (r.component p s f)))
   agree_component xs p i s f e h =
       let k = at_end xs (c.pieces f) h in
-      record { nodes = k.nodes; instances = ap₂ (λ a b. a ∷ b) e k.instances; items = k.items; positions = k.positions }
+      record { nodes = k.nodes; instances = ap₂ (λ a b. a ∷ b) e k.instances; items = k.items; positions = k.positions; modifiers = k.modifiers }
 
   agree_position : (p : Path) (n : ℕ) (vs : List Pair) (xs : List Place) (qs : List Piece) → last_of (look (ref n)) ≡ any_of (sources_of vs) → Agree xs qs → Agree (position_place p n ∷ xs) (position p vs ∷ qs)
   agree_position p n vs xs qs e h = record {
@@ -195,6 +219,7 @@ module _ (look : Id → Option Thing) where
     instances = h.instances;
     items = h.items;
     positions = λ f. ap₂ (λ a b. f p a + b) e (h.positions f);
+    modifiers = h.modifiers;
   }
 
   -- a comment where no node is
@@ -208,7 +233,7 @@ module _ (look : Id → Option Thing) where
   agree_arm p (Some n) xs ls f app σ τ e s h =
       let b = e ∙ s.0 in let g = single (r.comment_node (empty ∷ p) []) in (
         subst (λ d. Agree (xs ++ node_place (empty ∷ p) n ∷ []) (c.pieces (join f (if d then no_pieces else g)))) (sym b)
-            (agree_forests xs (node_place (empty ∷ p) n ∷ []) f g h (record { nodes = refl; instances = refl; items = tt; positions = λ f. refl })),
+            (agree_forests xs (node_place (empty ∷ p) n ∷ []) f g h (record { nodes = refl; instances = refl; items = tt; positions = λ f. refl; modifiers = λ f. refl })),
         ap (λ d. r.has_node (join f (if d then no_pieces else g))) b ∙ (join_nodes f g ∙ or_true (r.has_node f)),
       )
 
@@ -220,11 +245,12 @@ module _ (look : Id → Option Thing) where
     pub instances' : filter_map c.instance_path qs ≡ []
     pub items : filter_map item_in xs ≡ []
     pub items' : filter_map c.item_in qs ≡ []
+    pub modifiers' : flat_map c.modifiers_on qs ≡ []
     pub positions : (f : Read) → kept_sum look f (filter_map position_in xs) ≡ read_sum f (filter_map c.position_in qs)
 
-  agree_element : (p : Path) (n : ℕ) (xs ys zs : List Place) (qs rs : List Piece) (tag : Text) (attrs : Attrs) (mods : List Modifier) (f : Forest) → Parts xs (c.pieces (forest_of qs)) → Parts zs (c.pieces (forest_of rs)) → Agree ys (c.pieces f)
+  agree_element : (p : Path) (n : ℕ) (xs ys zs : List Place) (qs rs : List Piece) (tag : Text) (attrs : Attrs) (mods : List Modifier) (f : Forest) → Parts xs (c.pieces (forest_of qs)) → Parts zs (c.pieces (forest_of rs)) → filter_map modifier_in xs ≡ [] → Firsts modifier_in zs ≡ map (λ m. m.path) mods → Agree ys (c.pieces f)
       → Agree (node_place p n ∷ (xs ++ (ys ++ zs))) (c.pieces (join (forest_of (qs ++ rs)) (single (r.element_node p tag attrs mods f))))
-  agree_element p n xs ys zs qs rs tag attrs mods f hx hz hy =
+  agree_element p n xs ys zs qs rs tag attrs mods f hx hz ha hm hy =
       let as' = c.pieces (forest_of qs) in
       let ms' = c.pieces (forest_of rs) in
       let el = r.element_node p tag attrs mods f in
@@ -244,6 +270,16 @@ module _ (look : Id → Option Thing) where
             let x = hx.positions g in
             let y = k.positions g in
             let z = hz.positions g in omega (arith, a, b, u, v, x, y, z);
+        modifiers = λ g.
+            let a = place_sums g xs (ys ++ zs) in
+            let b = place_sums g ys zs in
+            let d = ap (λ ms. path_sum g (map (λ z. z.0) ms)) ha in
+            let e = ap (path_sum g) hm in
+            let u = mod_sums g (as' ++ ms') (el ∷ (c.pieces f ++ [])) in
+            let v = ap (λ ms. path_sum g (map (λ (m : Modifier). m.path) ms)) (mods_join as' ms' ∙ ap₂ (λ x y. x ++ y) hx.modifiers' hz.modifiers') in
+            let w = ap (path_sum g) (map_join (λ (m : Modifier). m.path) mods (flat_map c.modifiers_on (c.pieces f ++ []))) in
+            let x = path_sums g (map (λ (m : Modifier). m.path) mods) (mod_paths (c.pieces f ++ [])) in
+            let y = k.modifiers g in omega (arith, a, b, d, e, u, v, w, x, y);
       })
 
   module _ (app : App) (σ τ : Store) where
@@ -258,11 +294,12 @@ module _ (look : Id → Option Thing) where
       instances' = h.instances';
       items = h.items;
       items' = h.items';
+      modifiers' = h.modifiers';
       positions = λ f. ap₂ (λ a b. f p a + b) e (h.positions f);
     }
 
     parts_none : Parts [] []
-    parts_none = record { nodes = refl; nodes' = refl; instances = refl; instances' = refl; items = refl; items' = refl; positions = λ f. refl }
+    parts_none = record { nodes = refl; nodes' = refl; instances = refl; instances' = refl; items = refl; items' = refl; modifiers' = refl; positions = λ f. refl }
 
     attrs_agree : (p : Path) (made : List Id) (s : Scope) (ms : MScope) (ws : Scope → List (WrittenValue Scope)) (ns : List Text) (xs : List AttrSpot) → AttrsStand app σ τ look made s ms ws ns xs
         → Parts (attr_places p xs) (c.pieces (forest_of (map (λ n. position (attribute_at n ∷ p) (taken_pairs app σ (ws s) n)) ns))) × AttrsOwn xs
@@ -277,7 +314,7 @@ module _ (look : Id → Option Thing) where
     attrs_agree p made s ms ws _ _ h = absurd h
 
     modifier_cons : (p : Path) (m : ℕ) (xs : List Place) (qs : List Piece) → Parts xs qs → Parts (Rattle.gl_turns.specs.Places.modifier_place p m ∷ xs) qs
-    modifier_cons p m xs qs h = record { nodes = h.nodes; nodes' = h.nodes'; instances = h.instances; instances' = h.instances'; items = h.items; items' = h.items'; positions = h.positions }
+    modifier_cons p m xs qs h = record { nodes = h.nodes; nodes' = h.nodes'; instances = h.instances; instances' = h.instances'; items = h.items; items' = h.items'; modifiers' = h.modifiers'; positions = h.positions }
 
     mods_agree : (p : Path) (made : List Id) (n : ℕ) (s : Scope) (ms : MScope) (ws : Scope → List (WrittenModifier Scope)) (i : ℕ) (ds : List (WrittenModifier Scope)) (zs : List ModSpot) → ModsStand app σ τ look made n s ms ws i ds zs
         → Parts (mod_places p i zs) (c.pieces (forest_of (r.modifier_positions (modifiers_of app σ p i ds)))) × ModsOwn zs
@@ -329,6 +366,17 @@ module _ (look : Id → Option Thing) where
     steps_of m b s ms p ns c [] (Live.item_live z k ls is) h l w = absurd h
     steps_of m b s ms p ns c (x ∷ xs) Live.no_items h l w = absurd h
 
+    attr_modifiers : (p : Path) (xs : List AttrSpot) → filter_map modifier_in (attr_places p xs) ≡ []
+    attr_modifiers p [] = refl
+    attr_modifiers p (a ∷ xs) = attr_modifiers p xs
+
+    mod_modifiers : (p : Path) (made : List Id) (n : ℕ) (s : Scope) (ms : MScope) (ws : Scope → List (WrittenModifier Scope)) (i : ℕ) (ds : List (WrittenModifier Scope)) (zs : List ModSpot) → ModsStand app σ τ look made n s ms ws i ds zs
+        → Firsts modifier_in (mod_places p i zs) ≡ map (λ m. m.path) (modifiers_of app σ p i ds)
+    mod_modifiers p made n s ms ws i [] [] h = refl
+    mod_modifiers p made n s ms ws i (d ∷ ds) (z ∷ zs) h = ap (λ a. (modifier_at i ∷ p) ∷ a) (mod_modifiers p made n s ms (λ s'. tail_of (ws s')) (suc i) ds zs h.4)
+    mod_modifiers p made n s ms ws i [] (z ∷ zs) h = absurd h
+    mod_modifiers p made n s ms ws i (d ∷ ds) [] h = absurd h
+
     if_part : (p : Path) (unless u : Bool) (v : Pair) (F G A : Forest) (l : Live) → takes_first unless v.value ≡ u → Part p l (piece (position p (v ∷ [])) (if u then r.region_at (main ∷ p) F else r.region_at (otherwise ∷ p) G))
         → Part p l (r.if_of p unless v F G)
     if_part p unless u v F G A l e h = subst (λ b. Part p l (piece (position p (v ∷ [])) (if b then r.region_at (main ∷ p) F else r.region_at (otherwise ∷ p) G))) (sym e) h
@@ -350,10 +398,10 @@ module _ (look : Id → Option Thing) where
     mutual
       pub shown : (m b : ℕ) (w : Scope) (ms : MScope) (u : Passed) (p : Path) (x : t.Stmt) (l : Live) → passed_of w ≡ u → SameScope ms w → Stands app σ τ look m b w ms p x l
           → Part p l (render_stmt app σ (inner m) (yields_of app σ (inner m) u) w p x)
-      shown m b w ms u p (t.text_stmt z) (Live.still n) e s h = record { agree = record { nodes = refl; instances = refl; items = tt; positions = λ f. refl }; there = refl; fits = tt }
-      shown m b w ms u p (t.comment_stmt z) (Live.still n) e s h = record { agree = record { nodes = refl; instances = refl; items = tt; positions = λ f. refl }; there = refl; fits = tt }
+      shown m b w ms u p (t.text_stmt z) (Live.still n) e s h = record { agree = record { nodes = refl; instances = refl; items = tt; positions = λ f. refl; modifiers = λ f. refl }; there = refl; fits = tt }
+      shown m b w ms u p (t.comment_stmt z) (Live.still n) e s h = record { agree = record { nodes = refl; instances = refl; items = tt; positions = λ f. refl; modifiers = λ f. refl }; there = refl; fits = tt }
       shown m b w ms u p (t.put z) (Live.put_live n k) e s h = record {
-        agree = agree_position p k.ref (eval_all app σ w (one_expr z)) (node_place p n ∷ []) _ (spot_last ms [] k _ _ h.1) (record { nodes = refl; instances = refl; items = tt; positions = λ f. refl });
+        agree = agree_position p k.ref (eval_all app σ w (one_expr z)) (node_place p n ∷ []) _ (spot_last ms [] k _ _ h.1) (record { nodes = refl; instances = refl; items = tt; positions = λ f. refl; modifiers = λ f. refl });
         there = refl;
         fits = h.1.own;
       }
@@ -362,7 +410,7 @@ module _ (look : Id → Option Thing) where
           let a = attrs_agree p made w ms (attrs_by ps) _ xs h.1 in
           let k = mods_agree p made n w ms (mods_by ps) 0 (mods_by ps w) zs h.2 in
           record {
-            agree = agree_element p n (attr_places p xs) (places_in p 0 ls) (mod_places p 0 zs) _ _ tag _ _ (body_of m u w p 0 d) a.0 k.0 g.agree;
+            agree = agree_element p n (attr_places p xs) (places_in p 0 ls) (mod_places p 0 zs) _ _ tag _ _ (body_of m u w p 0 d) a.0 k.0 (attr_modifiers p xs) (mod_modifiers p made n w ms (mods_by ps) 0 (mods_by ps w) zs h.2) g.agree;
             there = let vs = attrs_by ps w in node_behind (forest_of (r.attr_positions p vs (taken_pairs app σ vs) ++ r.modifier_positions (modifiers_of app σ p 0 (mods_by ps w)))) p tag _ _ (body_of m u w p 0 d);
             fits = (a.1, k.1, g.fits);
           }
@@ -418,7 +466,7 @@ module _ (look : Id → Option Thing) where
             there = or_false (r.has_node f) ∙ g.there;
             fits = (c, h.2, h.1.0, subst (λ j. FitsIn j 0 ls) (sym h.2) g.fits);
           }
-      shown zero b w ms u p (t.component_stmt c ps given bs) (Live.deep_live q) e s h = record { agree = record { nodes = refl; instances = refl; items = tt; positions = λ f. refl }; there = refl; fits = tt }
+      shown zero b w ms u p (t.component_stmt c ps given bs) (Live.deep_live q) e s h = record { agree = record { nodes = refl; instances = refl; items = tt; positions = λ f. refl; modifiers = λ f. refl }; there = refl; fits = tt }
       shown m b w ms u p (t.yield es n) (Live.yield_live k made rs ls) e s h =
           let v = passed_of w in
           let sp = same_in ms w s in
@@ -465,7 +513,7 @@ module _ (look : Id → Option Thing) where
           let a = agree_arm q k (places_in q 0 ls) ls f app σ τ g.there h.3 g.agree in
           let region = r.item_region q v i (r.or_comment q f) in
           let arm = places_in q 0 ls ++ comment_places q k in
-          let y : Agree (item_place q z ∷ arm) (region ∷ Rattle.gl_meaning.specs.Changes.pieces (r.or_comment q f)) = record { nodes = a.0.nodes; instances = a.0.instances; items = (refl, h.0.2, h.0.3, a.0.items); positions = a.0.positions } in
+          let y : Agree (item_place q z ∷ arm) (region ∷ Rattle.gl_meaning.specs.Changes.pieces (r.or_comment q f)) = record { nodes = a.0.nodes; instances = a.0.instances; items = (refl, h.0.2, h.0.3, a.0.items); positions = a.0.positions; modifiers = a.0.modifiers } in
           record {
             agree = subst (λ j. Agree (item_place j z ∷ ((places_in j 0 ls ++ comment_places j k) ++ places_items p is)) (Rattle.gl_meaning.specs.Changes.pieces (piece region (r.render_entries (λ q x. body_of m u (with_locals (bind ns (entry_pairs q x)) w) q 0 c) p (entries key (suc i) (x.key ∷ before) vs))))) (sym here)
                 (agree_join (item_place q z ∷ arm) (places_items p is) (region ∷ Rattle.gl_meaning.specs.Changes.pieces (r.or_comment q f)) _ y rest.agree);
@@ -485,5 +533,5 @@ module _ (look : Id → Option Thing) where
           agree_component (places_in i.path 0 ls) [] i no_place f h.1 (subst (λ j. Agree (places_in j 0 ls) (Rattle.gl_meaning.specs.Changes.pieces f)) (sym h.1) g.agree),
           (h.1, h.0.0, g.fits),
         )
-    root_shown zero (Live.deep_live q) h = (record { nodes = refl; instances = refl; items = tt; positions = λ f. refl }, tt)
+    root_shown zero (Live.deep_live q) h = (record { nodes = refl; instances = refl; items = tt; positions = λ f. refl; modifiers = λ f. refl }, tt)
     root_shown _ _ h = absurd h

@@ -59,7 +59,7 @@ any_alike : (f g : Source → Bool) → ((x : Source) → f x ≡ g x) → (xs :
 any_alike f g h [] = refl
 any_alike f g h (x ∷ xs) = ap₂ (λ b d. b || d) (h x) (any_alike f g h xs)
 
-any_not : {A : Type 0} (test : A → Bool) (xs : List A) → ((x : A) → Among x xs → test x ≡ false) → list_any test xs ≡ false
+pub any_not : {A : Type 0} (test : A → Bool) (xs : List A) → ((x : A) → Among x xs → test x ≡ false) → list_any test xs ≡ false
 any_not test [] h = refl
 any_not test (x ∷ xs) h = ap₂ (λ b d. b || d) (h x (inl refl)) (any_not test xs (λ y m. h y (inr m)))
 
@@ -170,7 +170,7 @@ module _ (app : App) (σ τ : Store) (sets : Sets) (st : State) (l : Live) (h : 
   new_sums : (test : Test) → kept_sum (renew_app app τ l st).1.look (counts test) news ≡ read_sum (counts test) (positions new)
   new_sums test = (tree_agrees app τ τ (renew_app app τ l st).1 (renew_app app τ l st).0 (updated_stands app σ τ st l h cells)).0.positions (counts test)
 
-  kept : (a : Place) → Among a (places [] (renew_app app τ l st).0) → KeptOne st.next (places [] l) a
+  pub kept : (a : Place) → Among a (places [] (renew_app app τ l st).0) → KeptOne st.next (places [] l) a
   kept = root_kept st.next l (renew_app app τ l st).0 (tree_agrees app σ τ st l h).1 (tree_agrees app τ τ (renew_app app τ l st).1 (renew_app app τ l st).0 (updated_stands app σ τ st l h cells)).1 (ids_are_kept app σ τ st l h cells)
 
   abbrev at_path : Path → Test
@@ -184,14 +184,14 @@ module _ (app : App) (σ τ : Store) (sets : Sets) (st : State) (l : Live) (h : 
       let o = read_from (at_path z.0) (positions new) (omega (arith, w, e)) in
       any_true (λ o. path_eq z.0 o.path) o.0 (positions new) o.1 o.2
 
-  in_old : (z : Path × ℕ) → Among z olds → list_any (λ o. path_eq z.0 o.path) (positions old) ≡ true
+  pub in_old : (z : Path × ℕ) → Among z olds → list_any (λ o. path_eq z.0 o.path) (positions old) ≡ true
   in_old z m =
       let w = kept_has st.look (at_path z.0) z olds m (path_itself z.0) in
       let e = old_sums (at_path z.0) in
       let o = read_from (at_path z.0) (positions old) (omega (arith, w, e)) in
       any_true (λ o. path_eq z.0 o.path) o.0 (positions old) o.1 o.2
 
-  not_in_old : (p : Path) → ((z : Path × ℕ) → Among z olds → p ≡ z.0 → ⊥) → list_any (λ o. path_eq p o.path) (positions old) ≡ false
+  pub not_in_old : (p : Path) → ((z : Path × ℕ) → Among z olds → p ≡ z.0 → ⊥) → list_any (λ o. path_eq p o.path) (positions old) ≡ false
   not_in_old p d = by (list_any (λ o. path_eq p o.path) (positions old)) refl where
     by : (b : Bool) → list_any (λ o. path_eq p o.path) (positions old) ≡ b → list_any (λ o. path_eq p o.path) (positions old) ≡ false
     by false e = e
@@ -244,7 +244,7 @@ module _ (app : App) (σ τ : Store) (sets : Sets) (st : State) (l : Live) (h : 
         e ∙ sym (any_not (λ q. path_eq z.0 q.path && some_touched old new sets q.pairs) (positions old) (cold_all o.0 o.1 o.2))
 
   -- a position is due where it is new or stale
-  due_is : (z : Path × ℕ) → Among z news → is_due st at_end z.1 ≡ new_or_stale old new sets z.0
+  pub due_is : (z : Path × ℕ) → Among z news → is_due st at_end z.1 ≡ new_or_stale old new sets z.0
   due_is z m = let f = found_from position_in z (places [] (renew_app app τ l st).0) m in by f.0 (is_position f.0 z f.2) (kept f.0 f.1) where
     absent : (a : Place) → a ≡ position_place z.0 z.1 → ((b : Place) → Among b (places [] l) → path_of a ≡ path_of b → ⊥) → (y : Path × ℕ) → Among y olds → z.0 ≡ y.0 → ⊥
     absent a e other y n q = let f = found_from position_in y (places [] l) n in other f.0 f.1 (ap path_of e ∙ (q ∙ sym (ap path_of (is_position f.0 y f.2))))

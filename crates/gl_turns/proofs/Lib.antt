@@ -11,5 +11,10 @@ pub mod Evaluated
 pub mod Held
 pub mod Setting
 pub mod Resettled
+pub mod Calm
+pub mod LogGrows
+pub mod LogRenews
+pub mod Tagged
+pub mod Logged
 pub mod Turning
 mod Cases

@@ -1,10 +1,12 @@
 -- The laws of the machine's turns.
-use Rattle.std.specs.Prelude.{◌≡◌, ◌+◌, [], ◌++◌, map, filter, filter_map, length, Some, None}
+use Rattle.std.specs.Prelude.{◌≡◌, ◌+◌, [], ◌++◌, map, filter, filter_map, length, Some, None, not}
 use Rattle.gl_meaning.specs.App.{App, Event}
 use Rattle.gl_meaning.specs.Scope.{Source}
 use Rattle.gl_meaning.specs.Eval.{Store}
 use Rattle.gl_meaning.specs.Render.{draw}
-use Rattle.gl_meaning.specs.Changes.{number, Sets, touched, settle}
+use Rattle.gl_meaning.specs.Changes.{number, Sets, touched, settle, stale}
+use Rattle.gl_meaning.specs.Path.{has_path}
+use Rattle.gl_meaning.specs.Print.{modifier_paths}
 use Rattle.gl_meaning.specs.Laws.{HoldsNoAction, Reached}
 use Rattle.gl_meaning.specs.Session as session
 use Rattle.gl_meaning.specs.Session.{Turn, first_state, applied, step}
@@ -15,7 +17,7 @@ use Rattle.gl_plain.specs.Live.{Live}
 use Rattle.gl_plain.specs.Grow.{grow_app}
 use Rattle.gl_plain.specs.Renew.{renew_app}
 use Rattle.gl_plain.specs.Machine.{StandsFor, OnlyTouched}
-use Rattle.gl_turns.specs.Places.{position_in, places}
+use Rattle.gl_turns.specs.Places.{position_in, modifier_in, places}
 use Rattle.gl_turns.specs.Numbers.{numbers_of, one_more}
 use Rattle.gl_turns.specs.Evaluated.{TouchedBy, new_or_stale}
 use Rattle.gl_turns.specs.Sets.{set_all}
@@ -98,3 +100,18 @@ NextTurn =
     (app : App) (s : session.State) (e : Event) (t : Turn) (st : State) (l : Live) → Reached app s → step app s (Some e) ≡ Some t → Follows app s st l
     → let sets = (applied app s (Some e)).sets in let r = renew_app app (lay sets s.store) l (set_all app l sets (begin st)) in
     Follows app t.state r.1 r.0 × (length r.1.evaluated ≡ t.work.evaluated) × (r.1.next a_node ≡ st.next a_node + t.work.made)
+
+-- The log
+
+-- An update installs exactly the modifiers whose path is new, in the order in which they stand: those in an element before the element's own.
+abbrev pub InstallsNew : Type 0
+InstallsNew =
+    (app : App) (σ τ : Store) (sets : Sets) (st : State) (l : Live) → StandsFor app σ τ st l → OnlyTouched app σ τ st → TouchedBy sets st → HoldsNoAction σ
+    → let r = renew_app app τ l st in
+    r.1.installs ≡ st.installs ++ map (λ z. z.1) (filter (λ z. not (has_path z.0 (modifier_paths (draw app σ)))) (filter_map modifier_in (places [] r.0)))
+
+-- It updates exactly those that are stale, in the same order.
+abbrev pub UpdatesStale : Type 0
+UpdatesStale =
+    (app : App) (σ τ : Store) (sets : Sets) (st : State) (l : Live) → StandsFor app σ τ st l → OnlyTouched app σ τ st → TouchedBy sets st → HoldsNoAction σ
+    → let r = renew_app app τ l st in r.1.updates ≡ st.updates ++ map (λ z. z.1) (filter (λ z. stale (draw app σ) (draw app τ) sets z.0) (filter_map modifier_in (places [] r.0)))

@@ -3,4 +3,5 @@ pub mod Fits
 pub mod Numbers
 pub mod Evaluated
 pub mod Sets
+pub mod Modifiers
 pub mod Laws

@@ -1,6 +1,6 @@
 //! The laws of the machine's turns. Each function does nothing: its contract is the law.
 
-ghost use Rattle.gl_turns.specs.Laws.{AppendedNumbers, UpdatedNumbers, UpdatedMadeCount, TouchedIsTouched, EvaluatesNewOrStale, EvaluatedCount, SetsAreLaid, SettledStands, FirstTurn, NextTurn};
+ghost use Rattle.gl_turns.specs.Laws.{AppendedNumbers, UpdatedNumbers, UpdatedMadeCount, TouchedIsTouched, EvaluatesNewOrStale, EvaluatedCount, SetsAreLaid, InstallsNew, UpdatesStale, SettledStands, FirstTurn, NextTurn};
 
 /// The ids of nodes are the numbers that the meaning gives to their paths, and as many are made as it counts.
 pub fn numbers()
@@ -27,4 +27,10 @@ pub fn turns()
     ensures settled { SettledStands }
     ensures first { FirstTurn }
     ensures next { NextTurn }
+{}
+
+/// An update installs the modifiers that are new and updates those that are stale, in the order in which they stand.
+pub fn log()
+    ensures installs { InstallsNew }
+    ensures updates { UpdatesStale }
 {}
