@@ -1,7 +1,7 @@
 // Scripts, each with what is read of it.
-use super::*;
 use gl_ast::{Expr, Lit, NamedExpr};
 use gl_meaning::{Actions, Class, Event, Events, Fields, Getters, Script};
+use gl_script::{ScriptFault, read};
 use gl_value::{Text, Value};
 use std::alloc::Global;
 use std::process::Abort;

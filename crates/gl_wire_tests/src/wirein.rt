@@ -1,12 +1,12 @@
 // JSON that is the wire of a template, and JSON that is none.
-use super::*;
 use gl_wire::to_json;
+use gl_wirein::{WireFault, from_json};
 use serde_json::Value;
 use std::alloc::Global;
 use std::process::Abort;
 use std::test::Fail;
 
-const SHAPES: [&str; 8] = [
+static SHAPES: [&str; 8] = [
     r#"null"#,
     r#"[]"#,
     r#"{}"#,
@@ -17,7 +17,7 @@ const SHAPES: [&str; 8] = [
     r#"{"body":[],"symbols":[],"v":1,"w":1}"#,
 ];
 
-const ENDS: [&str; 8] = [
+static ENDS: [&str; 8] = [
     r#"{"body":[["end"]],"symbols":[],"v":1}"#,
     r#"{"body":[["el","p",[]]],"symbols":[],"v":1}"#,
     r#"{"body":[["el","p",[]],["end"],["end"]],"symbols":[],"v":1}"#,
@@ -28,7 +28,7 @@ const ENDS: [&str; 8] = [
     r#"{"body":[["if",["this","a"]],["text","b"],["else"],["text","c"]],"symbols":[],"v":1}"#,
 ];
 
-const SYMBOLS: [&str; 8] = [
+static SYMBOLS: [&str; 8] = [
     r#"{"body":[["put",["sym",0]]],"symbols":[],"v":1}"#,
     r#"{"body":[["put",["sym",1]]],"symbols":["@a"],"v":1}"#,
     r#"{"body":[],"symbols":["@a"],"v":1}"#,
@@ -39,7 +39,7 @@ const SYMBOLS: [&str; 8] = [
     r#"{"body":[["put",["sym",-1]]],"symbols":["@a"],"v":1}"#,
 ];
 
-const EXPRESSIONS: [&str; 8] = [
+static EXPRESSIONS: [&str; 8] = [
     r#"{"body":[["put",["free","a"]]],"symbols":[],"v":1}"#,
     r#"{"body":[["put",["call","f",[["cat",[["lit","a"]]]],[]]]],"symbols":[],"v":1}"#,
     r#"{"body":[["put",["cat",[["lit","a"]]]]],"symbols":[],"v":1}"#,
@@ -50,7 +50,7 @@ const EXPRESSIONS: [&str; 8] = [
     r#"{"body":[["put",["call","f",[]]]],"symbols":[],"v":1}"#,
 ];
 
-const TEXTS: [&str; 8] = [
+static TEXTS: [&str; 8] = [
     r#"{"body":[["text",""]],"symbols":[],"v":1}"#,
     r#"{"body":[["text","a"],["text",""]],"symbols":[],"v":1}"#,
     r#"{"body":[["comment","-->"]],"symbols":[],"v":1}"#,
@@ -61,7 +61,7 @@ const TEXTS: [&str; 8] = [
     r#"{"body":[["el","br",[]],["text","a"],["end"]],"symbols":[],"v":1}"#,
 ];
 
-const BLOCKS: [&str; 8] = [
+static BLOCKS: [&str; 8] = [
     r#"{"body":[["let",[],[]],["end"]],"symbols":[],"v":1}"#,
     r#"{"body":[["comp","C",[],[],[0]],["end"]],"symbols":["@a"],"v":1}"#,
     r#"{"body":[["leaf","c",[],[]]],"symbols":[],"v":1}"#,
@@ -72,7 +72,7 @@ const BLOCKS: [&str; 8] = [
     r#"{"body":[["slot","default",[]],["end"]],"symbols":[],"v":1}"#,
 ];
 
-const WIRES: [&str; 6] = [
+static WIRES: [&str; 6] = [
     r#"{"body":[],"symbols":[],"v":1}"#,
     r#"{"body":[["el","p",[["dyn","title",["sym",0]]]],["text","a"],["end"]],"symbols":["@t"],"v":1}"#,
     r#"{"body":[["put",["call","f",[],[]]]],"symbols":[],"v":1}"#,

@@ -3,8 +3,8 @@ ghost use Rattle.std.specs.Prelude.{IsTrue};
 ghost use Rattle.gl_meaning.specs.ManifestRules.{Each, ClassKeeps, KeepsLimits};
 ghost use Rattle.gl_meaning.specs.View.{manifest_view, seen_classes};
 
-use super::*;
 use gl_ast::{Expr, Exprs, Lit, NamedExpr, Pairs};
+use gl_cycles::cycle;
 use gl_meaning::{Actions, Class, Classes, Fields, Getters, Manifest};
 use gl_value::{Text, Texts};
 use std::alloc::Global;
@@ -159,47 +159,48 @@ fn check_row(
     check(rt, alloc, classes, found)
 }
 
+// The getters of the first class, and the first that reaches itself; that of the second class does so too.
+static IN_THE_FIRST: [(&[Row], &str); 6] = [
+    (&[("a", "this", "b"), ("b", "this", "a")], "a"),
+    (&[("c", "call", "c 1")], "c"),
+    (&[("a", "null", ""), ("b", "nested", "b")], "b"),
+    (&[("a", "this", "b"), ("b", "named", "b")], "b"),
+    (&[("a", "cat", "x c"), ("c", "cat", "a")], "a"),
+    (
+        &[
+            ("a", "this", "c"),
+            ("b", "this", "d"),
+            ("c", "this", "x"),
+            ("d", "call", "a b"),
+        ],
+        "b",
+    ),
+];
+
+const OF_ITSELF: &[Row] = &[("a", "this", "a")];
+
 #[test]
 fn cycles_in_the_first_class(rt: HostRuntime) -> Result<(), Fail> {
-    let rows: [(&[Row], &str); 6] = [
-        (&[("a", "this", "b"), ("b", "this", "a")], "a"),
-        (&[("c", "call", "c 1")], "c"),
-        (&[("a", "null", ""), ("b", "nested", "b")], "b"),
-        (&[("a", "this", "b"), ("b", "named", "b")], "b"),
-        (&[("a", "cat", "x c"), ("c", "cat", "a")], "a"),
-        (
-            &[
-                ("a", "this", "c"),
-                ("b", "this", "d"),
-                ("c", "this", "x"),
-                ("d", "call", "a b"),
-            ],
-            "b",
-        ),
-    ];
-    for row in &rows {
-        check_row(
-            &rt,
-            rt.alloc(),
-            row.0,
-            &[("a", "this", "a")],
-            ("App", row.1),
-        )?;
+    for row in &IN_THE_FIRST {
+        check_row(&rt, rt.alloc(), row.0, OF_ITSELF, ("App", row.1))?;
     }
     Ok(())
 }
 
+// The getters of the second class, and what is found; no getter of the first reaches itself.
+static IN_A_LATER: [(&[Row], &str, &str); 4] = [
+    (&[("a", "this", "b"), ("b", "this", "a")], "Kid", "a"),
+    (&[("a", "this", "b"), ("b", "this", "c")], "", ""),
+    (&[("a", "bare", "a")], "", ""),
+    (&[], "", ""),
+];
+
+const OF_NONE: &[Row] = &[("a", "this", "b"), ("b", "null", "")];
+
 #[test]
 fn cycles_in_a_later_class(rt: HostRuntime) -> Result<(), Fail> {
-    let rows: [(&[Row], &str, &str); 4] = [
-        (&[("a", "this", "b"), ("b", "this", "a")], "Kid", "a"),
-        (&[("a", "this", "b"), ("b", "this", "c")], "", ""),
-        (&[("a", "bare", "a")], "", ""),
-        (&[], "", ""),
-    ];
-    for row in &rows {
-        let app = [("a", "this", "b"), ("b", "null", "")];
-        check_row(&rt, rt.alloc(), &app, row.0, (row.1, row.2))?;
+    for row in &IN_A_LATER {
+        check_row(&rt, rt.alloc(), OF_NONE, row.0, (row.1, row.2))?;
     }
     Ok(())
 }
@@ -230,15 +231,18 @@ fn chain(alloc: Global, closed: bool) -> Result<Getters, Fail> {
     Ok(getters)
 }
 
+fn numbered(alloc: Global, place: u32) -> Result<Class, Fail> {
+    let mut name = Text::new(alloc);
+    name.push_number(u128::from(place))?;
+    class(alloc, name, chain(alloc, place == 1023)?)
+}
+
 // As many classes as there may be.
 #[test]
 fn largest(rt: HostRuntime) -> Result<(), Fail> {
-    let alloc = rt.alloc();
-    let mut classes = Vec::new(alloc);
+    let mut classes = Vec::new(rt.alloc());
     for place in 0..1024u32 {
-        let mut name = Text::new(alloc);
-        name.push_number(u128::from(place))?;
-        classes.push(class(alloc, name, chain(alloc, place == 1023)?)?)?;
+        classes.push(numbered(rt.alloc(), place)?)?;
     }
-    check(&rt, alloc, classes, ("1023", "A"))
+    check(&rt, rt.alloc(), classes, ("1023", "A"))
 }

@@ -1,7 +1,7 @@
 use Rattle.std.proofs.Common.{drop}
 use Rattle.gl_meaning.specs.ManifestRules.{Each, ClassKeeps}
 use Rattle.gl_meaning.specs.View.{seen_classes}
-use Rattle.gl_cycles.proofs.tests.classes_keep.Given as goal
+use Rattle.gl_manifest_tests.proofs.cycles.classes_keep.Given as goal
 
 -- what is left decides
 abbrev pub invariant-loop-class : goal.invariant-loop-class

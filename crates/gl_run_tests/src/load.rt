@@ -1,5 +1,5 @@
 // Applications and scripts, each loaded or with its first refusal.
-use super::*;
+use gl_load::{LoadCause, Loaded, load};
 use gl_meaning::Kind;
 use gl_outside::{CalmShelf, File, Files};
 use std::alloc::{AllocError, Global};
@@ -25,7 +25,7 @@ const CYCLIC: &str =
 
 const SETS: &str = "[{\"set\":\"n\",\"to\":1}]";
 
-const ROWS: [Row; 7] = [
+static ROWS: [Row; 7] = [
     ("all is right", PLAIN, "a", SETS, "", ""),
     ("no template", PLAIN, "-", SETS, "app.hbs", "absent"),
     ("no JSON", "{", "-", SETS, "m.json", "not JSON"),
@@ -75,7 +75,7 @@ const UNKNOWN_FIELD: &str =
 const CYCLIC_AND_UNKNOWN: &str =
     "{\"classes\":{\"App\":{\"getters\":{\"a\":\"this.a\",\"b\":\"this.m\"},\"template\":\"app.hbs\"}},\"root\":\"App\"}";
 
-const NAMES: [Row; 8] = [
+static NAMES: [Row; 8] = [
     (
         "the root before a template",
         NO_ROOT,

@@ -4,7 +4,11 @@ ghost use Rattle.gl_meaning.specs.ManifestOf.{text_found};
 ghost use Rattle.gl_meaning.specs.Walk.{text_check};
 ghost use Rattle.std.specs.Prelude.{true};
 
-use super::*;
+use gl_shape::{
+    ItemReader, ItemRule, MemberReader, MemberRule, PlaceFault, check_array, check_object,
+    check_value, has_inner, has_key, is_class_name, is_free_name, is_name, item_count, json_of,
+    member_count, read_items_at, read_members_at, value_of,
+};
 use gl_value::{Text, Value};
 use std::alloc::Global;
 use std::process::Abort;
@@ -84,14 +88,22 @@ fn is_at(found: &Result<(), PlaceFault>, wanted: &str) -> bool {
     }
 }
 
+fn check_at(rt: &impl Abort, found: Result<(), PlaceFault>, wanted: &str) {
+    assert!(rt; is_at(&found, wanted));
+}
+
+fn check_right(rt: &impl Abort, found: Result<(), PlaceFault>) {
+    assert!(rt; found.is_ok());
+}
+
 #[test]
 fn members(rt: HostRuntime) -> Result<(), Fail> {
     let alloc = rt.alloc();
     let right = json(alloc, r#"{"a":"b"}"#)?;
     let wrong = json(alloc, r#"{"b/~":1,"a":"b","c":2}"#)?;
-    assert!(rt; check_object(alloc, true, &AnyText, &right).is_ok());
-    assert!(rt; is_at(&check_object(alloc, true, &AnyText, &wrong), "/b~1~0"));
-    assert!(rt; is_at(&check_object(alloc, false, &AnyText, &right), ""));
+    check_right(&rt, check_object(alloc, true, &AnyText, &right));
+    check_at(&rt, check_object(alloc, true, &AnyText, &wrong), "/b~1~0");
+    check_at(&rt, check_object(alloc, false, &AnyText, &right), "");
     assert_eq!(rt; member_count(&wrong), 3);
     Ok(())
 }
@@ -101,9 +113,9 @@ fn items(rt: HostRuntime) -> Result<(), Fail> {
     let alloc = rt.alloc();
     let right = json(alloc, r#"["a","b"]"#)?;
     let wrong = json(alloc, r#"["a",1]"#)?;
-    assert!(rt; check_array(alloc, true, &AnyText, &right).is_ok());
-    assert!(rt; is_at(&check_array(alloc, true, &AnyText, &wrong), "/1"));
-    assert!(rt; is_at(&check_array(alloc, false, &AnyText, &right), ""));
+    check_right(&rt, check_array(alloc, true, &AnyText, &right));
+    check_at(&rt, check_array(alloc, true, &AnyText, &wrong), "/1");
+    check_at(&rt, check_array(alloc, false, &AnyText, &right), "");
     assert_eq!(rt; item_count(&wrong), 2);
     Ok(())
 }
@@ -123,20 +135,24 @@ fn read_at_a_key(rt: HostRuntime) -> Result<(), Fail> {
 #[test]
 fn bytes(rt: HostRuntime) -> Result<(), Fail> {
     let alloc = rt.alloc();
-    assert!(rt; json_of(alloc, b"[")?.is_none());
-    match json_of(alloc, b" 1 ")? {
-        Some(one) => {
-            assert!(rt; value_of(alloc, &one)?.same(&Value::Int(1)));
-            assert!(rt; check_value(alloc, &one).is_ok());
-        }
-        None => assert!(rt; false),
-    }
-    assert!(rt; is_at(&check_value(alloc, &json(alloc, "[1.5]")?), ""));
+    let none = json_of(alloc, b"[")?;
+    assert!(rt; none.is_none());
+    let one = json_of(alloc, b" 1 ")?.ok_or("a value")?;
+    check_right(&rt, check_value(alloc, &one));
+    let value = value_of(alloc, &one)?;
+    assert!(rt; matches!(value, Value::Int(1)));
+    Ok(())
+}
+
+#[test]
+fn numbers_that_are_not_whole(rt: HostRuntime) -> Result<(), Fail> {
+    let half = json(rt.alloc(), "[1.5]")?;
+    check_at(&rt, check_value(rt.alloc(), &half), "");
     Ok(())
 }
 
 // Names, and whether each is one, is a free one and is that of a class.
-const NAMES: [(&str, bool, bool, bool); 6] = [
+static NAMES: [(&str, bool, bool, bool); 6] = [
     ("a-1$", true, true, false),
     ("this", true, false, false),
     ("1a", false, false, false),
@@ -145,14 +161,16 @@ const NAMES: [(&str, bool, bool, bool); 6] = [
     ("A:", false, false, false),
 ];
 
+fn check_name(rt: &impl Abort, row: &(&str, bool, bool, bool)) {
+    let bytes = row.0.as_bytes();
+    assert_eq!(rt; is_name(bytes), row.1, "{}", row.0);
+    assert_eq!(rt; is_free_name(bytes), row.2, "{}", row.0);
+    assert_eq!(rt; is_class_name(bytes), row.3, "{}", row.0);
+}
+
 #[test]
-fn names(rt: HostRuntime) -> Result<(), Fail> {
-    for (name, any, free, class) in &NAMES {
-        let bytes = name.as_bytes();
-        let as_wanted = is_name(bytes) == *any
-            && is_free_name(bytes) == *free
-            && is_class_name(bytes) == *class;
-        assert!(rt; as_wanted, "{name}");
+fn names(rt: HostRuntime) {
+    for row in &NAMES {
+        check_name(&rt, row);
     }
-    Ok(())
 }

@@ -1,5 +1,6 @@
-use super::*;
+// Manifests, each with what is read of it or its first fault.
 use gl_ast::Expr;
+use gl_manifest::{ManifestFault, laws, read};
 use gl_meaning::{Class, Manifest, StepKind};
 use std::alloc::Global;
 use std::process::Abort;
@@ -12,7 +13,7 @@ enum Refusal {
     Expression(&'static str),
 }
 
-const FORMS: [(&str, Refusal); 6] = [
+static FORMS: [(&str, Refusal); 6] = [
     (
         r#"{"classes":{"App":{"actions":{"add":{"do":["#,
         Refusal::Json,
@@ -36,7 +37,7 @@ const FORMS: [(&str, Refusal); 6] = [
     ),
 ];
 
-const EXPRESSIONS: [(&str, Refusal); 4] = [
+static EXPRESSIONS: [(&str, Refusal); 4] = [
     (
         r#"{"classes":{"App":{"getters":{"g":"(add 1"},"template":"a"}},"root":"App"}"#,
         Refusal::Expression("/classes/App/getters/g"),
@@ -69,24 +70,23 @@ fn is_refused(found: &Result<Manifest, ManifestFault>, wanted: &Refusal) -> bool
     }
 }
 
-fn check_row(alloc: Global, json: &str, wanted: &Refusal) -> bool {
-    is_refused(&read(alloc, json.as_bytes()), wanted)
+fn check_row(rt: &impl Abort, alloc: Global, row: &(&str, Refusal)) {
+    let found = read(alloc, row.0.as_bytes());
+    assert!(rt; is_refused(&found, &row.1), "{}", row.0);
 }
 
 #[test]
-fn forms(rt: HostRuntime) -> Result<(), Fail> {
-    for (json, wanted) in &FORMS {
-        assert!(rt; check_row(rt.alloc(), json, wanted), "{json}");
+fn forms(rt: HostRuntime) {
+    for row in &FORMS {
+        check_row(&rt, rt.alloc(), row);
     }
-    Ok(())
 }
 
 #[test]
-fn expressions(rt: HostRuntime) -> Result<(), Fail> {
-    for (json, wanted) in &EXPRESSIONS {
-        assert!(rt; check_row(rt.alloc(), json, wanted), "{json}");
+fn expressions(rt: HostRuntime) {
+    for row in &EXPRESSIONS {
+        check_row(&rt, rt.alloc(), row);
     }
-    Ok(())
 }
 
 // Whether the class is the second of the full manifest.
@@ -130,20 +130,26 @@ fn has_getter(class: &Class) -> bool {
     }
 }
 
-#[test]
-fn reads(rt: HostRuntime) -> Result<(), Fail> {
-    let manifest = read(rt.alloc(), FULL.as_bytes())?;
+fn check_head(rt: &impl Abort, manifest: &Manifest) {
     assert!(rt; manifest.root.is("A"));
     assert_eq!(rt; manifest.limit, 64);
     assert_eq!(rt; manifest.modifiers.len(), 1);
     assert_eq!(rt; manifest.classes.len(), 2);
+}
+
+fn check_class(rt: &impl Abort, class: &Class) {
+    assert!(rt; is_full(class));
+    assert!(rt; has_order(class));
+    assert!(rt; has_steps(class));
+    assert!(rt; has_getter(class));
+}
+
+#[test]
+fn reads(rt: HostRuntime) -> Result<(), Fail> {
+    let manifest = read(rt.alloc(), FULL.as_bytes())?;
+    check_head(&rt, &manifest);
     match manifest.classes.get(1) {
-        Some(class) => {
-            assert!(rt; is_full(class));
-            assert!(rt; has_order(class));
-            assert!(rt; has_steps(class));
-            assert!(rt; has_getter(class));
-        }
+        Some(class) => check_class(&rt, class),
         None => assert!(rt; false),
     }
     Ok(())

@@ -8,7 +8,7 @@ use Rattle.gl_meaning.specs.App as a
 use Rattle.gl_meaning.specs.ManifestLimits as most
 use Rattle.gl_meaning.specs.ManifestRules.{Each, ClassKeeps, ActionKeeps}
 use Rattle.gl_meaning.specs.View.{class_view}
-use Rattle.gl_cycles.proofs.tests.classes_keep.Goals as goal
+use Rattle.gl_manifest_tests.proofs.cycles.classes_keep.Goals as goal
 
 -- no actions keep the limits
 abbrev ActionsKeep : List (Text × a.Action) → Type 0

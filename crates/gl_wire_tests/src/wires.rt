@@ -7,7 +7,7 @@ use std::alloc::Global;
 use std::process::Abort;
 use std::test::Fail;
 
-const STATEMENTS: [(&str, &str); 4] = [
+static STATEMENTS: [(&str, &str); 4] = [
     (
         "<p title={{@t}}>a</p>",
         r#"{"body":[["el","p",[["dyn","title",["sym",0]]]],["text","a"],["end"]],"symbols":["@t"],"v":1}"#,
@@ -26,7 +26,7 @@ const STATEMENTS: [(&str, &str); 4] = [
     ),
 ];
 
-const NAMES: [(&str, &str); 4] = [
+static NAMES: [(&str, &str); 4] = [
     (
         r#"<C @a={{@x}} @b="t" class={{@y}} as |p q|>{{p}}{{r}}{{q.n.0}}</C>{{p}}"#,
         r#"{"body":[["comp","C",[["dyn","class",["sym",1]]],[["a",["sym",0]],["b",["lit","t"]]],[2,3]],["put",["sym",2]],["put",["call","r",[],[]]],["put",["get",["sym",3],["n","0"]]],["end"],["put",["call","p",[],[]]]],"symbols":["@x","@y","p","q"],"v":1}"#,

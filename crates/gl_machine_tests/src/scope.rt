@@ -1,6 +1,6 @@
 // Scopes and blocks, step by step.
-use super::*;
 use gl_arena::{Arena, BlockId, Id, InstMark, RefMark};
+use gl_scope::{Args, Block, BlockStack, Locals, Passed, Scope};
 use gl_value::Text;
 use std::alloc::{AllocError, Global};
 use std::test::Fail;

@@ -1,6 +1,9 @@
 // A manifest, a script and a path with each kind of step and event.
-use super::*;
 use gl_ast::{Expr, Lit};
+use gl_meaning::{
+    Action, Actions, Class, Classes, Event, Events, ExprList, Fields, Getters, Kind, Manifest,
+    Path, PathStep, PathSteps, Script, Step, StepKind, Steps,
+};
 use gl_value::{Text, Texts, Value};
 use std::alloc::Global;
 use std::process::Abort;

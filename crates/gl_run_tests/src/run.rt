@@ -1,6 +1,6 @@
 // Worked rows, over shelves and sinks in memory.
-use super::*;
 use gl_outside::{Calls, CalmShelf, CalmSink, Cut, Cuts, File, Files, MemShelf, MemSink};
+use gl_run::{Last, Status, run};
 use std::alloc::{AllocError, Global};
 use std::process::Abort;
 use std::test::Fail;
@@ -29,7 +29,7 @@ const NULL: &str =
 const NESTED: &str =
     "{\"classes\":{\"My::App2\":{\"fields\":{\"n\":\"\\u0007\\\"\"},\"template\":\"app.hbs\"}},\"root\":\"My::App2\"}";
 
-const ROWS: [Row; 16] = [
+static ROWS: [Row; 16] = [
     (
         "an empty page",
         RUN,
@@ -226,7 +226,7 @@ const LISTS: &str =
     "{\"classes\":{\"App\":{\"fields\":{\"n\":[1,{\"a\":2},null]},\"template\":\"app.hbs\"}},\"root\":\"App\"}";
 
 // What is refused of a manifest.
-const MANIFESTS: [Row; 7] = [
+static MANIFESTS: [Row; 7] = [
     (
         "two getters that lead to each other",
         RUN,
@@ -300,7 +300,7 @@ const WHEN: &str =
     "{\"classes\":{\"App\":{\"actions\":{\"a\":{\"do\":[{\"call\":\"@f\",\"when\":\"(neither 1)\",\"with\":[\"this.y\"]}]}},\"template\":\"app.hbs\"}},\"root\":\"App\"}";
 
 // Names that are not known: the first is told, with its file, before any cycle, and no script is fetched.
-const NAMES: [Row; 8] = [
+static NAMES: [Row; 8] = [
     (
         "a helper, without a script",
         &["run", "m.json", "none.json"],
@@ -381,7 +381,7 @@ const TODO: &str =
 const CHECK: &[&str] = &["check", "m.json"];
 
 // An application that is checked; the second class has the third file as its template.
-const CHECKED: [Row; 4] = [
+static CHECKED: [Row; 4] = [
     (
         "two classes",
         CHECK,
@@ -429,7 +429,7 @@ fn checked(rt: HostRuntime) -> Result<(), Fail> {
 }
 
 // What is refused of a script, and values that are lists and records.
-const SCRIPTS: [Row; 5] = [
+static SCRIPTS: [Row; 5] = [
     (
         "a list of values",
         RUN,
@@ -486,7 +486,7 @@ fn scripts(rt: HostRuntime) -> Result<(), Fail> {
 
 const SHOW: &[&str] = &["show", "app.hbs"];
 
-const SHOWN: [Row; 6] = [
+static SHOWN: [Row; 6] = [
     (
         "numbers are spelled plainly",
         SHOW,
@@ -543,7 +543,7 @@ const SHOWN: [Row; 6] = [
 
 const WIRE: &[&str] = &["wire", "app.hbs"];
 
-const WIRES: [Row; 4] = [
+static WIRES: [Row; 4] = [
     (
         "an attribute with an argument",
         WIRE,
@@ -620,7 +620,7 @@ fn too_long(rt: HostRuntime) -> Result<(), Fail> {
 // `err`. A number of 99 stands for none.
 type Failing = (u64, u64, usize, u64, Status, &'static str, &'static str);
 
-const FAILING: [Failing; 6] = [
+static FAILING: [Failing; 6] = [
     (
         0,
         99,

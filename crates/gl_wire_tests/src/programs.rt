@@ -18,7 +18,7 @@ type Row = (
     &'static str,
 );
 
-const TAGS: [Row; 6] = [
+static TAGS: [Row; 6] = [
     (
         r#"<p id="a">hi</p>"#,
         &[
@@ -119,7 +119,7 @@ const TAGS: [Row; 6] = [
     ),
 ];
 
-const BLOCKS: [Row; 6] = [
+static BLOCKS: [Row; 6] = [
     (
         "{{#if this.on}}a{{else}}b{{/if}}",
         &[
@@ -220,7 +220,7 @@ const BLOCKS: [Row; 6] = [
 ];
 
 // A template, its first unknown name, what that was to be, and its statement.
-const UNKNOWN: [(&str, &str, Kind, u64); 5] = [
+static UNKNOWN: [(&str, &str, Kind, u64); 5] = [
     ("{{nope}}", "nope", Kind::Helper, 0),
     ("a<p>b{{this.gone}}</p>", "gone", Kind::Member, 3),
     (

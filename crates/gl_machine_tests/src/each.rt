@@ -1,12 +1,15 @@
 // Plans and keys, as callers meet them.
-use super::*;
-use gl_value::{Text, Value};
+use gl_each::{Key, Plan, PlanStep, keys, plan};
+use gl_value::{List, Text, Value};
 use std::alloc::Global;
+use std::process::Abort;
 use std::test::Fail;
 
 // The items of two lists, the steps of the plan (an old place that is kept, a place that is moved, or `+`), and the
 // old places that are removed. Each item is a character, and is its own key.
-const PLANS: [(&str, &str, &str, &str); 9] = [
+type Planned = (&'static str, &'static str, &'static str, &'static str);
+
+static PLANS: [Planned; 9] = [
     ("abcd", "dxba", "3 + >1 >0 ", "2 "),
     ("", "", "", ""),
     ("abc", "cab", "2 >0 >1 ", ""),
@@ -51,36 +54,39 @@ fn say_places(out: &mut Text, places: &[u64]) -> Result<(), Fail> {
     Ok(())
 }
 
-fn is_planned(
-    alloc: Global,
-    old: &str,
-    new: &str,
-    steps: &str,
-    removed: &str,
-) -> Result<bool, Fail> {
-    let before = keys(alloc, letters(alloc, old)?.as_slice(), "@identity")?;
-    let after = keys(alloc, letters(alloc, new)?.as_slice(), "@identity")?;
-    let plan = plan(&before, &after)?;
+fn planned(alloc: Global, old: &str, new: &str) -> Result<Plan, Fail> {
+    let before = letters(alloc, old)?;
+    let before = keys(alloc, before.as_slice(), "@identity")?;
+    let after = letters(alloc, new)?;
+    let after = keys(alloc, after.as_slice(), "@identity")?;
+    Ok(plan(&before, &after)?)
+}
+
+fn check_plan(rt: &impl Abort, alloc: Global, row: &Planned) -> Result<(), Fail> {
+    let plan = planned(alloc, row.0, row.1)?;
     let mut said = Text::new(alloc);
     say_steps(&mut said, plan.steps.as_slice())?;
     let mut places = Text::new(alloc);
     say_places(&mut places, plan.removed.as_slice())?;
-    Ok(said.is(steps) && places.is(removed))
+    assert!(rt;
+        said.is(row.2) && places.is(row.3),
+        "{} to {}",
+        row.0,
+        row.1
+    );
+    Ok(())
 }
 
 #[test]
 fn plans(rt: HostRuntime) -> Result<(), Fail> {
-    for (old, new, steps, removed) in &PLANS {
-        assert!(rt;
-            is_planned(rt.alloc(), old, new, steps, removed)?,
-            "{old} to {new}"
-        );
+    for row in &PLANS {
+        check_plan(&rt, rt.alloc(), row)?;
     }
     Ok(())
 }
 
 // The JSON of a list, a key text, and the texts of the keys with their occurrences.
-const KEYS: [(&str, &str, &str); 4] = [
+static KEYS: [(&str, &str, &str); 4] = [
     (
         r#"[{"k":"a","t":"1"},{"k":"a","t":"2"},{"k":"b","t":"3"}]"#,
         "k",
@@ -95,25 +101,38 @@ const KEYS: [(&str, &str, &str); 4] = [
     ),
 ];
 
-fn are_keys(alloc: Global, json: &str, key: &str, wanted: &str) -> Result<bool, Fail> {
+fn items(alloc: Global, json: &str) -> Result<List, Fail> {
     let json = serde_json::Value::from_str(alloc, json)?;
-    let Value::List(items) = Value::from_json(alloc, &json)? else {
-        return Ok(false);
-    };
-    let mut said = Text::new(alloc);
-    for found in keys(alloc, items.as_slice(), key)?.as_slice() {
-        said.push_text(&found.value.text_of(alloc)?)?;
-        said.push_str(".")?;
-        said.push_number(u128::from(found.occurrence))?;
-        said.push_str(" ")?;
+    match Value::from_json(alloc, &json)? {
+        Value::List(items) => Ok(items),
+        _ => Err("a list")?,
     }
-    Ok(said.is(wanted))
+}
+
+fn say_key(alloc: Global, out: &mut Text, found: &Key) -> Result<(), Fail> {
+    let text = found.value.text_of(alloc)?;
+    out.push_text(&text)?;
+    out.push_str(".")?;
+    out.push_number(u128::from(found.occurrence))?;
+    out.push_str(" ")?;
+    Ok(())
+}
+
+fn check_keys(rt: &impl Abort, alloc: Global, row: &(&str, &str, &str)) -> Result<(), Fail> {
+    let items = items(alloc, row.0)?;
+    let found = keys(alloc, items.as_slice(), row.1)?;
+    let mut said = Text::new(alloc);
+    for key in found.as_slice() {
+        say_key(alloc, &mut said, key)?;
+    }
+    assert!(rt; said.is(row.2), "{} of {}", row.1, row.0);
+    Ok(())
 }
 
 #[test]
 fn keyed(rt: HostRuntime) -> Result<(), Fail> {
-    for (json, key, wanted) in &KEYS {
-        assert!(rt; are_keys(rt.alloc(), json, key, wanted)?, "{key} of {json}");
+    for row in &KEYS {
+        check_keys(&rt, rt.alloc(), row)?;
     }
     Ok(())
 }
