@@ -16,5 +16,6 @@ pub mod LogGrows
 pub mod LogRenews
 pub mod Tagged
 pub mod Logged
+pub mod Gone
 pub mod Turning
 mod Cases
