@@ -1,9 +1,11 @@
 -- The join of values.
-use Rattle.std.proofs.Common.{◌≡◌, Bool, true, false, not, List, [], ◌∷◌, ◌++◌, filter, flat_map, refl, sym, ap, ◌∙◌}
+use Rattle.std.proofs.Common.{◌≡◌, ℕ, zero, suc, ◌≤◌, Bool, true, false, not, List, [], ◌∷◌, ◌++◌, map, drop, length, filter, flat_map, refl, sym, ap, arith, ◌∙◌}
 use Rattle.std.specs.Prelude.{◌||◌}
 use Rattle.std.specs.List.{list_any}
 use Rattle.std.proofs.lemmas.Bool.{or_parts}
 use Rattle.gl_value.specs.Value.{Value, null, text, undefined, boolean, integer, list, pairs, action, text_of, is_missing, join_kept, join_values}
+use Rattle.gl_base.specs.Texts.{Text}
+use Rattle.gl_arena.specs.Id.{Id}
 use Rattle.gl_refs.specs.Forms.{V}
 
 abbrev pub is_there : V → Bool
@@ -57,3 +59,32 @@ joined-none (v ∷ vs) e =
       was : (b : Bool) → not b ≡ false → b ≡ true
       was true h = refl
       was false h = absurd (let n : true ≡ false = h in cc)
+
+drop_end : {A : Type 0} (xs : List A) (n : ℕ) → length xs ≤ n → drop n xs ≡ []
+drop_end [] zero h = refl
+drop_end [] (suc n) h = refl
+drop_end (x ∷ xs) zero h = absurd (omega (arith, h))
+drop_end (x ∷ xs) (suc n) h = drop_end xs n (omega (arith, h))
+
+append_none : {A : Type 0} (xs : List A) → xs ++ [] ≡ xs
+append_none [] = refl
+append_none (x ∷ xs) = ap (λ ys. x ∷ ys) (append_none xs)
+
+or_false : (b : Bool) → (b || false) ≡ b
+or_false true = refl
+or_false false = refl
+
+-- what is joined when all of a list was gone through
+module _ (f : Id → V) (ids : List Id) (k : ℕ) (done : Text) (some : Bool) (end : length ids ≤ k)
+    (texts : done ++ flat_map text_of (map f (drop k ids)) ≡ flat_map text_of (map f ids)) (any : (some || list_any is_there (map f (drop k ids))) ≡ list_any is_there (map f ids)) where
+  text_is : done ≡ flat_map text_of (map f ids)
+  text_is = sym (append_none done) ∙ (ap (λ xs. done ++ flat_map text_of (map f xs)) (sym (drop_end ids k end)) ∙ texts)
+
+  any_is : list_any is_there (map f ids) ≡ some
+  any_is = sym any ∙ (ap (λ xs. some || list_any is_there (map f xs)) (drop_end ids k end) ∙ or_false some)
+
+  pub join_text : some ≡ true → text done ≡ join_values (map f ids)
+  join_text e = ap (λ t. let x : V = text t in x) text_is ∙ sym (joined-some (map f ids) (any_is ∙ e))
+
+  pub join_null : some ≡ false → null ≡ join_values (map f ids)
+  join_null e = sym (joined-none (map f ids) (any_is ∙ e))

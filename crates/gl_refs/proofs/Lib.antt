@@ -8,3 +8,4 @@ pub mod Freeing
 pub mod Waits
 mod Joined
 mod Seen
+mod Stacks

@@ -122,7 +122,8 @@ impl Refs {
         ensures value { IfOk result (λ v. view v.now ≡ (meaning_of self.old id).value) }
         ensures kept { IsKept self.old.tags (rows_of self.old) id → IsOk result }
     {
-        Err(AllocError)
+        self.refresh(id)?;
+        Ok(self.held(id))
     }
 
     /// The same as [`Refs::read`], where the value is not needed at once: [`Refs::held`] lends it then.
@@ -151,7 +152,8 @@ impl Refs {
         ensures* evaluates { sem 𝓛 (Rests self.entry (λ new. HasEvaluated self.old new id result)) }
         ensures value { IfOk result (λ v. view v.now ≡ (meaning_of self.old id).value) }
     {
-        Err(AllocError)
+        self.renew(id)?;
+        Ok(self.held(id))
     }
 
     /// The same as [`Refs::evaluate`], where the value is not needed at once: [`Refs::held`] lends it then.
@@ -159,8 +161,13 @@ impl Refs {
         requires { IsSome (rows_of self.old id) }
         ensures { HasEvaluated self.old self.new id result }
     {
-        let _ = &self.tags;
-        Err(AllocError)
+        if self.evals == u128::MAX {
+            return Err(AllocError);
+        }
+        prepare(self.alloc, &mut self.tags, &mut self.rows, id)?;
+        self.evaluated.push(id)?;
+        self.evals += 1;
+        Ok(())
     }
 
     /// How many evaluations [`Refs::evaluate`] has done.

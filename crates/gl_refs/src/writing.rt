@@ -4,7 +4,7 @@ ghost use Rattle.gl_value.specs.View.{view};
 ghost use Rattle.gl_arena.specs.Arena.{with_value, Ends};
 ghost use Rattle.gl_tags.specs.Tags as t;
 ghost use Rattle.gl_refs.specs.Forms.{source_form, IsUnread};
-ghost use Rattle.gl_refs.specs.State.{forms, held, own_tag, last_tag, is_source, IsSound};
+ghost use Rattle.gl_refs.specs.State.{forms, held, own_tag, last_tag, is_source, is_combined, IsSound};
 ghost use Rattle.gl_refs.specs.Refs.{EndsTag};
 ghost use Rattle.gl_refs.specs.View.{rows_of, rows_in, seen_row};
 
@@ -51,7 +51,20 @@ fn last_tag(row: &Row) -> Option<TagId>
     }
 }
 
-// Ends a reference that no live one reads, with the tag that it had.
+// Ends the tag of a last evaluation.
+fn free_tag(tags: &mut Tags, tag: Option<TagId>)
+    requires { (u : _) → tag ≡ Some u → is_combined (t.tag_at tags.old u) ≡ true }
+    ensures ends { EndsTag tags.old tags.new tag }
+    ensures sound { t.IsSound tags.new }
+{
+    let _ = tags.constant();
+    if let Some(tag) = tag {
+        tags.free(tag);
+    }
+    let _ = tags.constant();
+}
+
+// Ends a reference that no live one reads, with the tag of its last evaluation.
 pub(crate) fn end(tags: &mut Tags, rows: &mut Rows, id: RefId)
     requires sound { IsSound tags.old (rows_of rows.old) }
     requires live { IsSome (rows_of rows.old id) }
@@ -60,10 +73,6 @@ pub(crate) fn end(tags: &mut Tags, rows: &mut Rows, id: RefId)
     ensures ends { Ends (rows_in rows.old) (rows_in rows.new) id }
     ensures tags { EndsTag tags.old tags.new (own_tag (rows_of rows.old id)) }
 {
-    let _ = tags.constant();
     let row = rows.remove(id);
-    if let Some(tag) = last_tag(&row) {
-        tags.free(tag);
-    }
-    let _ = tags.constant();
+    free_tag(tags, last_tag(&row));
 }
