@@ -9,3 +9,4 @@ pub mod Waits
 mod Joined
 mod Seen
 mod Stacks
+mod Tagging

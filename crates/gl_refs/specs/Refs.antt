@@ -51,12 +51,16 @@ pub record Makes (old new : Refs) (id : Id) (form : Form) : Type 0 where
   pub tags : new.tags ≡ old.tags
   pub counts : SameCounts old new
 
--- A cell, or an item (true), is made, with a tag of its own that counts as touched now.
-pub record MakesSource (old new : Refs) (id : Id) (kind : Bool) (value : V) : Type 0 where
+-- a row of a source is put in, with a tag of its own that counts as touched now
+pub record GivesSource (old new : t.Tags) (was now : Arena Row) (id : Id) (kind : Bool) (value : V) : Type 0 where
   pub tag : Id
-  pub gives : Gives old.rows new.rows id (record { form = source_form kind tag value; last = None })
-  pub tagged : Gives old.tags.tags new.tags.tags tag (t.dirtyable old.tags.clock old.tags.count)
-  pub rest : t.Rest old.tags new.tags
+  pub gives : Gives was now id (record { form = source_form kind tag value; last = None })
+  pub tagged : Gives old.tags new.tags tag (t.dirtyable old.clock old.count)
+  pub rest : t.Rest old new
+
+-- A cell, or an item (true), is made.
+pub record MakesSource (old new : Refs) (id : Id) (kind : Bool) (value : V) : Type 0 where
+  pub gives : GivesSource old.tags new.tags old.rows new.rows id kind value
   pub counts : SameCounts old new
 
 -- Nothing but tags that no reference has, and their count, changes.

@@ -5,6 +5,7 @@ mod evaluation;
 mod form;
 mod ids;
 pub mod laws;
+mod making;
 mod refs;
 mod row;
 mod settling;

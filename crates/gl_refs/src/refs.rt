@@ -11,7 +11,8 @@ ghost use Rattle.gl_refs.specs.View.{seen_form};
 ghost use Rattle.gl_refs.specs.Lends.{Rests};
 
 use crate::evaluation::{is_kept, is_valid};
-use crate::row::{Rows, held, held_tag};
+use crate::making::{make, make_source};
+use crate::row::{Kind, Rows, held, held_tag};
 use crate::settling::prepare;
 use crate::writing::{end, holds, put};
 use crate::{Form, RefId};
@@ -56,7 +57,16 @@ impl Refs {
         ensures clock { IfOk result (λ r. (r.tags.clock ≡ 0) × (r.tags.count ≡ 0)) }
         ensures counts { IfOk result (λ r. (r.evals ≡ 0) × (r.asks ≡ 0) × (r.evaluated ≡ [])) }
     {
-        Err(AllocError)
+        let tags = Tags::new(alloc)?;
+        let _ = tags.constant();
+        Ok(Refs {
+            alloc,
+            rows: Arena::new(alloc)?,
+            tags,
+            evals: 0,
+            asks: 0,
+            evaluated: Vec::new(alloc),
+        })
     }
 
     /// Makes a constant.
@@ -64,7 +74,7 @@ impl Refs {
         ensures ok { IfOk result (λ id. Makes self.old self.new id (constant_form (view value))) }
         ensures err { OnErr result (self.new ≡ self.old) }
     {
-        Err(AllocError)
+        make(&self.tags, &mut self.rows, Kind::Constant(value))
     }
 
     /// Makes a cell. It counts as touched now.
@@ -72,7 +82,7 @@ impl Refs {
         ensures ok { IfOk result (λ id. MakesSource self.old self.new id false (view value)) }
         ensures err { OnErr result (Keeps self.old self.new) }
     {
-        Err(AllocError)
+        make_source(&mut self.tags, &mut self.rows, false, value)
     }
 
     /// Makes an item. It counts as touched now.
@@ -80,7 +90,7 @@ impl Refs {
         ensures ok { IfOk result (λ id. MakesSource self.old self.new id true (view value)) }
         ensures err { OnErr result (Keeps self.old self.new) }
     {
-        Err(AllocError)
+        make_source(&mut self.tags, &mut self.rows, true, value)
     }
 
     /// Makes a reference of that form over live references. The number of a call is in the table of helpers; a call of
@@ -90,7 +100,7 @@ impl Refs {
         ensures ok { IfOk result (λ id. Makes self.old self.new id (seen_form form)) }
         ensures err { OnErr result (self.new ≡ self.old) }
     {
-        Err(AllocError)
+        make(&self.tags, &mut self.rows, Kind::Bound(form))
     }
 
     /// Gives a cell a value, and touches it, whatever the value was.
