@@ -84,7 +84,7 @@ pub record IsOf (kind : Bool) (o : Option s.Row) : Type 0 where
   pub last : Option s.Last
   pub is : o ≡ Some (record { form = source_form kind tag was; last = last })
 
-pub cell_is : (o : Option s.Row) → is_cell o ≡ true → IsOf false o
+pub cell_is : (o : Option s.Row) → is_cell (option_map (λ (q : s.Row). q.form) o) ≡ true → IsOf false o
 cell_is None e = absurd (let n : false ≡ true = e in cc)
 cell_is (Some q) e = by q.form refl e where
   by : (g : Form) → q.form ≡ g → s.cell_form g ≡ true → IsOf false (Some q)
@@ -96,7 +96,7 @@ cell_is (Some q) e = by q.form refl e where
   by (cat_form ids) f e = absurd (let n : false ≡ true = e in cc)
   by (all_form ids) f e = absurd (let n : false ≡ true = e in cc)
 
-pub item_is : (o : Option s.Row) → is_item o ≡ true → IsOf true o
+pub item_is : (o : Option s.Row) → is_item (option_map (λ (q : s.Row). q.form) o) ≡ true → IsOf true o
 item_is None e = absurd (let n : false ≡ true = e in cc)
 item_is (Some q) e = by q.form refl e where
   by : (g : Form) → q.form ≡ g → s.item_form g ≡ true → IsOf true (Some q)

@@ -130,29 +130,25 @@ module _ (tags tags' : t.Tags) (rows : Rows) (sound : IsSound tags rows) (ts : t
     by (inr ne) = e.others k ne ∙ g.others k ne
 
 -- a row is put in
-module _ (tags : t.Tags) (a b : Arena code.Row) (n : Id) (kind : code_kind.Kind) (sound : IsSound tags (rows_of a)) (stamped : IsStamped a) (live : Each (λ q. IsSome (rows_of a q)) (parts (seen_kind kind)))
+module _ (tags : t.Tags) (a b : Arena code.Row) (n : Id) (kind : code_kind.Kind) (sound : IsSound tags (rows_of a)) (stamped : IsStamped a) (live : Each (λ q. IsSome (forms (rows_of a) q)) (parts (seen_kind kind)))
     (fits : RowFits tags (seen_kind kind) None) (fresh : (i u : Id) → own_by (seen_kind kind) None ≡ Some u → own_tag (rows_of a i) ≢ Some u) (g : Gives a b n (record { kind = kind; last = None })) where
-  is_there : (o : Option code.Row) → IsSome (option_map seen_row o) → IsSome o
+  is_there : (o : Option code.Row) → IsSome (option_map (λ (r : Row). r.form) (option_map seen_row o)) → IsSome o
   is_there None h = h
   is_there (Some x) h = refl
-
-  form_there : (o : Option code.Row) → IsSome (option_map seen_row o) → IsSome (option_map (λ (r : Row). r.form) (option_map seen_row o))
-  form_there None h = h
-  form_there (Some x) h = refl
 
   binds : Binds (rows_of a) (rows_of b) n (seen_kind kind)
   binds = record {
     vacant = ap (option_map seen_row) g.vacant;
     given = ap (option_map seen_row) g.given;
     others = λ k ne. ap (option_map seen_row) (g.others k ne);
-    parts = each_map (λ q. IsSome (rows_of a q)) (λ q. (q.1 < n.1) × IsSome (forms (rows_of a) q)) (parts (seen_kind kind))
-        (λ q h. let lt = stamped.below q (is_there (named a q) h) in let e = g.stamp in (omega (arith, lt, e), form_there (named a q) h)) live;
+    parts = each_map (λ q. IsSome (forms (rows_of a) q)) (λ q. (q.1 < n.1) × IsSome (forms (rows_of a) q)) (parts (seen_kind kind))
+        (λ q h. let lt = stamped.below q (is_there (named a q) h) in let e = g.stamp in (omega (arith, lt, e), h)) live;
   }
 
   pub made_row : IsSound tags (rows_of b)
   made_row = made_sound tags (rows_of a) (rows_of b) n (seen_kind kind) sound binds fits fresh
 
-pub made_or_not : {E : Type 0} (q : Result Id E) (tags : t.Tags) (a b : Arena code.Row) (kind : code_kind.Kind) → IsSound tags (rows_of a) → IsStamped a → Each (λ i. IsSome (rows_of a i)) (parts (seen_kind kind))
+pub made_or_not : {E : Type 0} (q : Result Id E) (tags : t.Tags) (a b : Arena code.Row) (kind : code_kind.Kind) → IsSound tags (rows_of a) → IsStamped a → Each (λ i. IsSome (forms (rows_of a) i)) (parts (seen_kind kind))
     → RowFits tags (seen_kind kind) None → ((i u : Id) → own_by (seen_kind kind) None ≡ Some u → own_tag (rows_of a i) ≢ Some u) → IfOk q (λ n. Gives a b n (record { kind = kind; last = None })) → OnErr q (b ≡ a) → IsSound tags (rows_of b)
 made_or_not (Ok n) tags a b kind sound stamped live fits fresh g e = made_row tags a b n kind sound stamped live fits fresh g
 made_or_not (Err x) tags a b kind sound stamped live fits fresh g e = subst (λ y. IsSound tags (rows_of y)) (sym e) sound

@@ -227,13 +227,13 @@ abbrev pub item_form : Form → Bool
 item_form (source_form true s v) = true
 item_form g = false
 
-abbrev pub is_cell : Option Row → Bool
+abbrev pub is_cell : Option Form → Bool
 is_cell None = false
-is_cell (Some r) = cell_form r.form
+is_cell (Some g) = cell_form g
 
-abbrev pub is_item : Option Row → Bool
+abbrev pub is_item : Option Form → Bool
 is_item None = false
-is_item (Some r) = item_form r.form
+is_item (Some g) = item_form g
 
 -- a constant, a cell or an item, or a reference that was evaluated
 abbrev pub form_tagged : Form → Option Last → Bool

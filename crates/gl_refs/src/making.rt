@@ -4,7 +4,7 @@ ghost use Rattle.gl_value.specs.View.{view};
 ghost use Rattle.gl_arena.specs.Arena.{Gives};
 ghost use Rattle.gl_tags.specs.Tags as t;
 ghost use Rattle.gl_refs.specs.Forms.{Each, parts, source_form};
-ghost use Rattle.gl_refs.specs.State.{own_by, own_tag, RowFits, IsSound};
+ghost use Rattle.gl_refs.specs.State.{forms, own_by, own_tag, RowFits, IsSound};
 ghost use Rattle.gl_refs.specs.Refs.{GivesSource};
 ghost use Rattle.gl_refs.specs.View.{rows_of, rows_in, seen_kind};
 
@@ -17,7 +17,7 @@ use std::alloc::AllocError;
 // Puts a row in that was not evaluated yet.
 pub(crate) fn make(tags: &Tags, rows: &mut Rows, kind: Kind) -> Result<RefId, AllocError>
     requires sound { IsSound tags.now (rows_of rows.old) }
-    requires parts { Each (λ q. IsSome (rows_of rows.old q)) (parts (seen_kind kind)) }
+    requires parts { Each (λ q. IsSome (forms (rows_of rows.old) q)) (parts (seen_kind kind)) }
     requires fits { RowFits tags.now (seen_kind kind) None }
     requires fresh { (i : _) (u : _) → own_by (seen_kind kind) None ≡ Some u → own_tag (rows_of rows.old i) ≢ Some u }
     ensures ok { IfOk result (λ id. Gives (rows_in rows.old) (rows_in rows.new) id (record { form = seen_kind kind; last = None })) }

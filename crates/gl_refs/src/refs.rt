@@ -96,7 +96,7 @@ impl Refs {
     /// Makes a reference of that form over live references. The number of a call is in the table of helpers; a call of
     /// any other number is undefined.
     pub fn bind(&mut self, form: Form) -> Result<RefId, AllocError>
-        requires { Each (λ q. IsSome (rows_of self.old q)) (parts (seen_form form)) }
+        requires { Each (λ q. IsSome (forms_of self.old q)) (parts (seen_form form)) }
         ensures ok { IfOk result (λ id. Makes self.old self.new id (seen_form form)) }
         ensures err { OnErr result (self.new ≡ self.old) }
     {
@@ -106,7 +106,7 @@ impl Refs {
     /// Gives a cell a value, and touches it, whatever the value was.
     pub fn set(&mut self, cell: RefId, value: Value)
         requires room { HasRoom self.old }
-        requires cell { is_cell (rows_of self.old cell) ≡ true }
+        requires cell { is_cell (forms_of self.old cell) ≡ true }
         ensures { SetsValue self.old self.new cell false (view value) }
     {
         put(&mut self.tags, &mut self.rows, cell, value);
@@ -115,7 +115,7 @@ impl Refs {
     /// Gives an item a value, and touches it where that isn't the same.
     pub fn give(&mut self, item: RefId, value: Value)
         requires room { HasRoom self.old }
-        requires item { is_item (rows_of self.old item) ≡ true }
+        requires item { is_item (forms_of self.old item) ≡ true }
         ensures same { Holds self.old item true (view value) → self.new ≡ self.old }
         ensures other { (Holds self.old item true (view value) → ⊥) → SetsValue self.old self.new item true (view value) }
     {
@@ -127,7 +127,7 @@ impl Refs {
     /// The value of a reference over the present cells and items, lent. What is kept and of now is used; else the
     /// reference, and what is read for it, is evaluated.
     pub fn read(&mut self, id: RefId) -> Result<&Value, AllocError>
-        requires { IsSome (rows_of self.old id) }
+        requires { IsSome (forms_of self.old id) }
         ensures* reads { sem 𝓛 (Rests self.entry (λ new. HasRead self.old new id result)) }
         ensures value { IfOk result (λ v. view v.now ≡ (meaning_of self.old id).value) }
         ensures kept { IsKept self.old.tags (rows_of self.old) id → IsOk result }
@@ -138,7 +138,7 @@ impl Refs {
 
     /// The same as [`Refs::read`], where the value is not needed at once: [`Refs::held`] lends it then.
     pub fn refresh(&mut self, id: RefId) -> Result<(), AllocError>
-        requires { IsSome (rows_of self.old id) }
+        requires { IsSome (forms_of self.old id) }
         ensures reads { HasRead self.old self.new id result }
         ensures kept { IsKept self.old.tags (rows_of self.old) id → IsOk result }
     {
@@ -158,7 +158,7 @@ impl Refs {
 
     /// The same as [`Refs::read`], and it is counted and put on the list.
     pub fn evaluate(&mut self, id: RefId) -> Result<&Value, AllocError>
-        requires { IsSome (rows_of self.old id) }
+        requires { IsSome (forms_of self.old id) }
         ensures* evaluates { sem 𝓛 (Rests self.entry (λ new. HasEvaluated self.old new id result)) }
         ensures value { IfOk result (λ v. view v.now ≡ (meaning_of self.old id).value) }
     {
@@ -168,7 +168,7 @@ impl Refs {
 
     /// The same as [`Refs::evaluate`], where the value is not needed at once: [`Refs::held`] lends it then.
     pub fn renew(&mut self, id: RefId) -> Result<(), AllocError>
-        requires { IsSome (rows_of self.old id) }
+        requires { IsSome (forms_of self.old id) }
         ensures { HasEvaluated self.old self.new id result }
     {
         if self.evals == u128::MAX {
@@ -231,7 +231,7 @@ impl Refs {
 
     /// The value that [`Refs::read`] would give. Nothing is kept.
     pub fn look(&self, id: RefId) -> Result<Value, AllocError>
-        requires { IsSome (rows_of self.now id) }
+        requires { IsSome (forms_of self.now id) }
         ensures { IfOk result (λ v. view v ≡ (meaning_of self.now id).value) }
     {
         Err(AllocError)
@@ -239,7 +239,7 @@ impl Refs {
 
     /// Ends a reference that no live one reads, and no other.
     pub fn free(&mut self, id: RefId)
-        requires live { IsSome (rows_of self.old id) }
+        requires live { IsSome (forms_of self.old id) }
         requires unread { IsUnread (forms_of self.old) id }
         ensures ends { Ends self.old.rows self.new.rows id }
         ensures tags { EndsTag self.old.tags self.new.tags (own_tag (rows_of self.old id)) }

@@ -67,7 +67,7 @@ fn free_tag(tags: &mut Tags, tag: Option<TagId>)
 // Ends a reference that no live one reads, with the tag of its last evaluation.
 pub(crate) fn end(tags: &mut Tags, rows: &mut Rows, id: RefId)
     requires sound { IsSound tags.old (rows_of rows.old) }
-    requires live { IsSome (rows_of rows.old id) }
+    requires live { IsSome (forms (rows_of rows.old) id) }
     requires unread { IsUnread (forms (rows_of rows.old)) id }
     ensures sound { IsSound tags.new (rows_of rows.new) }
     ensures ends { Ends (rows_in rows.old) (rows_in rows.new) id }
