@@ -10,3 +10,4 @@ mod Joined
 mod Seen
 mod Stacks
 mod Tagging
+mod Found

@@ -1,5 +1,10 @@
 -- What the code's references stand for.
-use Rattle.std.specs.Prelude.{option_map, List, map}
+use Rattle.std.specs.Prelude.{◌≡◌, ℕ, nat_eq, Option, Some, None, option_map, unwrap_or, IsSome, List, map}
+use Rattle.std.specs.HashMap.{get}
+use denote.Ref.{Bor}
+use Rattle.gl_arena.specs.Id.{Id}
+use Rattle.gl_value.specs.Value.{undefined}
+use Rattle.gl_refs.specs.declared.table.Table.{Table}
 use Rattle.gl_arena.specs.Arena.{Arena, named}
 use Rattle.gl_arena.specs.Mapped.{mapped}
 use Rattle.gl_value.specs.View.{view}
@@ -46,6 +51,43 @@ kind_with (Bound g) value = Bound g
 
 abbrev pub row_with : Row → Value → Row
 row_with r value = record r { kind = kind_with r.kind value }
+
+-- what a table has at a stamp
+abbrev pub found_at : Table → ℕ → Option m.V
+found_at t k = option_map view (get nat_eq t.map k)
+
+-- a constant, a cell and an item have their values by themselves; the others have what the table has
+abbrev pub found_by : Option m.V → m.Form → Option m.V
+found_by o (m.constant_form v) = Some v
+found_by o (m.source_form k t v) = Some v
+found_by o g = o
+
+abbrev pub found_row : Option m.V → Option s.Row → Option m.V
+found_row o None = None
+found_row o (Some r) = found_by o r.form
+
+abbrev pub found_in : Table → s.Rows → Id → Option m.V
+found_in t rows i = found_row (found_at t i.1) (rows i)
+
+-- what stands for a reference: what was found, where there is a table, or else what is held
+abbrev pub shown_in : Option (Bor Table) → s.Rows → Id → Option m.V
+shown_in None rows i = s.held (rows i)
+shown_in (Some t) rows i = found_in t.now rows i
+
+abbrev pub value_in : Option (Bor Table) → s.Rows → Id → m.V
+value_in None rows = s.held_value rows
+value_in (Some t) rows = λ i. unwrap_or (found_in t.now rows i) undefined
+
+-- what is read, by what was found
+abbrev pub reads_in : Table → s.Rows → Id → List Id
+reads_in t rows i = m.reads (λ q. unwrap_or (found_in t rows q) undefined) (m.form_at (s.forms rows) i)
+
+abbrev pub IsFound : Table → s.Rows → Id → Type 0
+IsFound t rows i = IsSome (found_in t rows i)
+
+-- what was found is what it means
+abbrev pub IsTable : Table → s.Rows → Type 0
+IsTable t rows = (i : Id) (v : m.V) → found_in t rows i ≡ Some v → v ≡ (m.meaning (s.forms rows) i).value
 
 abbrev pub seen_waiting : Waiting → s.Waiting
 seen_waiting w = record { id = w.id; next = w.next }

@@ -74,7 +74,7 @@ fn tags_of(
 {
     let mut ids = Vec::new(alloc);
     for at in 0..usize::MAX {
-        let Some(part) = part_at(rows, id, at) else {
+        let Some(part) = part_at(rows, None, id, at) else {
             return Ok(ids);
         };
         ids.push(held_tag(tags, rows, part))?;
@@ -116,7 +116,7 @@ fn gather(
     if rows.live(id) {
         match &rows.get(id).kind {
             Kind::Bound(form) => {
-                let value = form_value(alloc, rows, form)?;
+                let value = form_value(alloc, rows, None, form)?;
                 let tags = tags_of(alloc, tags, rows, id)?;
                 let old = own_tag(rows, id);
                 Ok(Some(Found { value, tags, old }))

@@ -5,10 +5,12 @@ mod evaluation;
 mod form;
 mod ids;
 pub mod laws;
+mod looking;
 mod making;
 mod refs;
 mod row;
 mod settling;
+mod table;
 #[cfg(test)]
 mod tests;
 mod values;

@@ -11,6 +11,7 @@ ghost use Rattle.gl_refs.specs.View.{seen_form};
 ghost use Rattle.gl_refs.specs.Lends.{Rests};
 
 use crate::evaluation::{is_kept, is_valid};
+use crate::looking::look;
 use crate::making::{make, make_source};
 use crate::row::{Kind, Rows, held, held_tag};
 use crate::settling::prepare;
@@ -234,7 +235,7 @@ impl Refs {
         requires { IsSome (forms_of self.now id) }
         ensures { IfOk result (λ v. view v ≡ (meaning_of self.now id).value) }
     {
-        Err(AllocError)
+        look(self.alloc, &self.rows, id)
     }
 
     /// Ends a reference that no live one reads, and no other.

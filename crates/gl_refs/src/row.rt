@@ -3,10 +3,11 @@ ghost use Rattle.std.specs.Prelude.{◌≡◌, ◌++◌, Some, IfOk, OnErr, IsSo
 ghost use Rattle.gl_arena.specs.Arena.{named, with_value, Gives};
 ghost use Rattle.gl_value.specs.Value.{truthy};
 ghost use Rattle.gl_value.specs.View.{view};
-ghost use Rattle.gl_refs.specs.Forms.{reads, chosen, ids_of};
-ghost use Rattle.gl_refs.specs.State.{held, held_value, held_tag, own_tag, reads_of, IsSource, is_source, Puts};
-ghost use Rattle.gl_refs.specs.View.{rows_of, seen_form, seen_last, seen_row, row_with, kind_with};
+ghost use Rattle.gl_refs.specs.Forms.{reads, chosen, ids_of, form_at};
+ghost use Rattle.gl_refs.specs.State.{forms, held, held_tag, own_tag, IsSource, is_source, Puts};
+ghost use Rattle.gl_refs.specs.View.{rows_of, found_in, shown_in, value_in, seen_form, seen_last, seen_row, row_with, kind_with};
 
+use crate::table::Table;
 use crate::{Form, Ids, NamedIds, RefId};
 use gl_arena::{Arena, RefMark};
 use gl_tags::{TagId, Tags};
@@ -111,9 +112,42 @@ pub(crate) fn held_tag(tags: &Tags, rows: &Rows, id: RefId) -> TagId
     }
 }
 
+// A table of what was worked out, in the place of what is kept.
+pub(crate) type Found<'a> = Option<&'a Table>;
+
+// What a table has of a reference, or what that has by itself.
+pub(crate) fn found_value<'a>(rows: &'a Rows, table: &'a Table, id: RefId) -> Option<&'a Value>
+    ensures { option_map (λ v. view v.now) result ≡ found_in table.now (rows_of rows.now) id }
+{
+    if rows.live(id) {
+        match &rows.get(id).kind {
+            Kind::Constant(value) => Some(value),
+            Kind::Source { value, .. } => Some(value),
+            Kind::Bound(_) => table.get(rows.stamp(id)),
+        }
+    } else {
+        None
+    }
+}
+
+pub(crate) fn shown<'a>(rows: &'a Rows, found: Found<'a>, id: RefId) -> Option<&'a Value>
+    ensures { option_map (λ v. view v.now) result ≡ shown_in found.entry (rows_of rows.now) id }
+{
+    match found {
+        Some(table) => found_value(rows, table, id),
+        None => held(rows, id),
+    }
+}
+
 // The condition at 0, and the branch that it takes at 1.
-pub(crate) fn chosen_at(rows: &Rows, way: bool, ids: &[RefId], at: usize) -> Option<RefId>
-    ensures { result ≡ slice_get (chosen (held_value (rows_of rows.now)) way ids.now) at }
+pub(crate) fn chosen_at(
+    rows: &Rows,
+    found: Found<'_>,
+    way: bool,
+    ids: &[RefId],
+    at: usize,
+) -> Option<RefId>
+    ensures { result ≡ slice_get (chosen (value_in found.entry (rows_of rows.now)) way ids.now) at }
 {
     match ids.first() {
         None => None,
@@ -121,7 +155,7 @@ pub(crate) fn chosen_at(rows: &Rows, way: bool, ids: &[RefId], at: usize) -> Opt
             if at == 0 {
                 Some(*test)
             } else if at == 1 {
-                if truth(rows, *test) == way {
+                if truth(rows, found, *test) == way {
                     ids.get(1).copied()
                 } else {
                     ids.get(2).copied()
@@ -133,11 +167,11 @@ pub(crate) fn chosen_at(rows: &Rows, way: bool, ids: &[RefId], at: usize) -> Opt
     }
 }
 
-// The truth of what is held of a reference.
-fn truth(rows: &Rows, id: RefId) -> bool
-    ensures { result ≡ truthy (held_value (rows_of rows.now) id) }
+// The truth of what is shown of a reference.
+fn truth(rows: &Rows, found: Found<'_>, id: RefId) -> bool
+    ensures { result ≡ truthy (value_in found.entry (rows_of rows.now) id) }
 {
-    match held(rows, id) {
+    match shown(rows, found, id) {
         Some(value) => value.truthy(),
         None => false,
     }
@@ -157,8 +191,8 @@ fn argument_at(ids: &Ids, named: &NamedIds, at: usize) -> Option<RefId>
     }
 }
 
-fn form_part(rows: &Rows, form: &Form, at: usize) -> Option<RefId>
-    ensures { result ≡ slice_get (reads (held_value (rows_of rows.now)) (seen_form form.now)) at }
+fn form_part(rows: &Rows, found: Found<'_>, form: &Form, at: usize) -> Option<RefId>
+    ensures { result ≡ slice_get (reads (value_in found.entry (rows_of rows.now)) (seen_form form.now)) at }
 {
     match form {
         Form::Prop(part, _) => {
@@ -170,7 +204,7 @@ fn form_part(rows: &Rows, form: &Form, at: usize) -> Option<RefId>
         }
         Form::Call(helper, ids, named) => {
             if *helper < 2 {
-                chosen_at(rows, *helper == 0, ids.as_slice(), at)
+                chosen_at(rows, found, *helper == 0, ids.as_slice(), at)
             } else {
                 argument_at(ids, named, at)
             }
@@ -180,13 +214,13 @@ fn form_part(rows: &Rows, form: &Form, at: usize) -> Option<RefId>
     }
 }
 
-// The reference that is read at a place, by what is held of those before it.
-pub(crate) fn part_at(rows: &Rows, id: RefId, at: usize) -> Option<RefId>
-    ensures { result ≡ slice_get (reads_of (rows_of rows.now) id) at }
+// The reference that is read at a place, by what is shown of those before it.
+pub(crate) fn part_at(rows: &Rows, found: Found<'_>, id: RefId, at: usize) -> Option<RefId>
+    ensures { result ≡ slice_get (reads (value_in found.entry (rows_of rows.now)) (form_at (forms (rows_of rows.now)) id)) at }
 {
     if rows.live(id) {
         match &rows.get(id).kind {
-            Kind::Bound(form) => form_part(rows, form, at),
+            Kind::Bound(form) => form_part(rows, found, form, at),
             _ => None,
         }
     } else {

@@ -20,8 +20,8 @@ pub(crate) struct Waiting {
 // A part that may not be used yet, with its place.
 #[derive(Clone, Copy)]
 pub(crate) struct Stale {
-    at: usize,
-    part: RefId,
+    pub(crate) at: usize,
+    pub(crate) part: RefId,
 }
 
 // The first part from a place on which may not be used, where those before it may.
@@ -39,7 +39,7 @@ fn next_stale(
     ensures stays { tags.new ≡ tags.old }
 {
     for at in next..usize::MAX {
-        let Some(part) = part_at(rows, id, at) else {
+        let Some(part) = part_at(rows, None, id, at) else {
             return Ok(None);
         };
         if !is_kept(tags, rows, part) {
@@ -71,7 +71,7 @@ fn visit(
 }
 
 // Has a reference wait until a part of it is evaluated.
-fn put_off(stack: &mut Vec<Waiting>, id: RefId, stale: Stale) -> Result<(), AllocError>
+pub(crate) fn put_off(stack: &mut Vec<Waiting>, id: RefId, stale: Stale) -> Result<(), AllocError>
     ensures { OnOk result (stack.new.items ≡ (stack.old.items ++ record { id = id; next = stale.at } ∷ []) ++ record { id = stale.part; next = 0 } ∷ []) }
 {
     stack.push(Waiting { id, next: stale.at })?;
