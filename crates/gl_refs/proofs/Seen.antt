@@ -1,6 +1,7 @@
 -- The rows as the code has them, and as contracts see them.
-use Rattle.std.proofs.Common.{◌≡◌, ◌≢◌, ℕ, zero, suc, ◌+◌, ◌≤◌, append_assoc, add-one, Bool, true, false, not, cond, ltb, List, [], ◌∷◌, ◌++◌, map, drop, take, Option, Some, None, Result, Ok, Err, option_map, unwrap_or, length, is_some, IsSome, IsTrue, IsOk, IsErr, nat_eq, arith, OnOk, OnErr, IfOk, refl, sym, ap, subst, ◌∙◌}
-use Rattle.std.specs.Prelude.{slice_get}
+use Rattle.std.proofs.Common.{◌≡◌, ◌≢◌, ℕ, zero, suc, ◌+◌, ◌≤◌, append_assoc, add-one, Bool, true, false, not, cond, ltb, List, [], ◌∷◌, ◌++◌, map, drop, take, Option, Some, None, Result, Ok, Err, option_map, unwrap_or, length, is_some, IsSome, IsTrue, IsOk, IsErr, nat_eq, arith, OnOk, OnErr, IfOk, refl, sym, ap, subst, ◌∙◌, ◌⊎◌, inl, inr}
+use Rattle.std.specs.Prelude.{slice_get, slice_index_or}
+use Rattle.std.specs.List.{list_any}
 use Rattle.std.specs.Bool.{Decides}
 use Rattle.std.proofs.lemmas.Bool.Decides.{Decides-eqb}
 use Rattle.gl_base.specs.Texts.{Text}
@@ -10,12 +11,13 @@ use Rattle.gl_value.specs.Helpers.{helper_table, helper_value, helper_numbered}
 use Rattle.gl_value.specs.View.{view}
 use Rattle.gl_value.specs.declared.value.Value.{Value}
 use Rattle.gl_value.proofs.Sameness.{same-Decides}
-use Rattle.gl_arena.specs.Id.{Id}
-use Rattle.gl_arena.specs.Arena.{Arena, named, with_value, Ends, IsStamped}
+use Rattle.gl_arena.specs.Id.{Id, same_id}
+use Rattle.gl_arena.proofs.Ids.{id_cases}
+use Rattle.gl_arena.specs.Arena.{Arena, named, stamped, with_value, Gives, Ends}
 use Rattle.gl_arena.proofs.Values.{with_value-writes}
 use Rattle.gl_arena.proofs.Mapped.{named-mapped, with_value-mapped, are_stamped-mapped}
 use Rattle.gl_tags.specs.Tags as t
-use Rattle.gl_refs.specs.Forms.{V, Form, constant_form, source_form, prop_form, call_form, cat_form, all_form, called, IsReadFor, IsUnread}
+use Rattle.gl_refs.specs.Forms.{V, Form, constant_form, source_form, prop_form, call_form, cat_form, all_form, called, parts, IsReadFor, IsUnread}
 use Rattle.gl_refs.specs.State as s
 use Rattle.gl_refs.specs.State.{forms, held, is_source, is_cell, is_item, IsKept, IsSound, Settles, Puts}
 use Rattle.gl_refs.specs.Refs as r
@@ -336,3 +338,38 @@ module _ {A E : Type 0} (old new : Refs) (id : Id) (reads : Reads old new id) wh
 
 pub reads_none : (q : Refs) (id : Id) → IsSound q.tags (r.rows_of q) → Reads q q id
 reads_none q id h = record { settles = settles_none (IsReadFor (r.forms_of q) id) q.tags (r.rows_of q) h; made = refl; asks = refl }
+
+-- an item holds a value, as contracts see it
+module _ (a b : Arena Row) (ta tb : t.Tags) (evals asks : ℕ) (done : List Id) (id : Id) (value : V) where
+  pub holds_seen : IsOf true (rows_of a id) → held (rows_of a id) ≡ Some value → r.Holds (before a b ta tb evals asks done id) id true value
+  holds_seen h e = record {
+    tag = h.tag;
+    last = h.last;
+    is = named-mapped seen_row a id ∙ (h.is ∙ ap (λ v. let q : s.Row = record { form = source_form true h.tag v; last = h.last } in Some q) (value_is h.was value (sym (ap held h.is) ∙ e)));
+  } where
+    value_is : (x y : V) → Some x ≡ Some y → x ≡ y
+    value_is x y e = cc
+
+  pub held_seen : r.Holds (before a b ta tb evals asks done id) id true value → held (rows_of a id) ≡ Some value
+  held_seen h = ap held (sym (named-mapped seen_row a id) ∙ h.is)
+
+-- an item stays one, whatever it is given
+pub given_item : (old new : Refs) (id : Id) (v : V) → is_item (r.forms_of old id) ≡ true → (r.Holds old id true v × (new ≡ old)) ⊎ ((r.Holds old id true v → ⊥) × r.SetsValue old new id true v) → is_item (r.forms_of new id) ≡ true
+given_item old new id v h (inl k) = ap (λ q. is_item (r.forms_of q id)) k.1 ∙ h
+given_item old new id v h (inr k) =
+    let x = k.1 in
+    let w = with_value-writes old.rows id (record { form = source_form true x.tag v; last = x.last }) (subst IsSome (sym x.held) refl) in
+    ap (λ (a : Arena s.Row). is_item (forms (λ i. named a i) id)) x.rows ∙ ap (λ o. is_item (option_map (λ (q : s.Row). q.form) o)) w.given
+
+-- a constant that was made alone is read by nothing
+pub alone_unread : (old new : Refs) (k : Id) (v : V) → old.rows.slots ≡ [] → Gives old.rows new.rows k (record { form = constant_form v; last = None }) → IsUnread (r.forms_of new) k
+alone_unread old new k v e g i q h = by (id_cases i k) where
+  form_is : (x y : Form) → Some x ≡ Some y → x ≡ y
+  form_is x y e = cc
+
+  empty : named old.rows i ≡ None
+  empty = ap (λ s. stamped i.1 (slice_index_or s i.0 None)) e
+
+  by : (i ≡ k) ⊎ (i ≢ k) → list_any (same_id k) (parts q) ≡ false
+  by (inl p) = subst (λ x. list_any (same_id k) (parts x) ≡ false) (form_is (constant_form v) q (sym (ap (option_map (λ (x : s.Row). x.form)) (ap (named new.rows) p ∙ g.given)) ∙ h)) refl
+  by (inr ne) = absurd (let n : None ≡ Some q = sym (ap (option_map (λ (x : s.Row). x.form)) (g.others i ne ∙ empty)) ∙ h in cc)

@@ -1,5 +1,5 @@
 // All references.
-ghost use Rattle.std.specs.Prelude.{◌≡◌, ◌≢◌, ℕ, ◌+◌, ◌<◌, ◌^◌, ◌++◌, [], ◌∷◌, IfOk, OnOk, OnErr, IsOk, IsTrue, IsSome, ◌↔◌, None, true, false};
+ghost use Rattle.std.specs.Prelude.{◌≡◌, ◌≢◌, ℕ, ◌+◌, ◌<◌, ◌^◌, ◌++◌, [], ◌∷◌, IfOk, OnOk, OnErr, IsOk, IsTrue, IsSome, ◌↔◌, ◌⊎◌, None, true, false};
 ghost use Rattle.std.specs.Borrow.{sem};
 ghost use Rattle.gl_value.specs.View.{view};
 ghost use Rattle.gl_arena.specs.Arena.{IsStamped, Ends};
@@ -117,8 +117,7 @@ impl Refs {
     pub fn give(&mut self, item: RefId, value: Value)
         requires room { HasRoom self.old }
         requires item { is_item (forms_of self.old item) ≡ true }
-        ensures same { Holds self.old item true (view value) → self.new ≡ self.old }
-        ensures other { (Holds self.old item true (view value) → ⊥) → SetsValue self.old self.new item true (view value) }
+        ensures { (Holds self.old item true (view value) × (self.new ≡ self.old)) ⊎ ((Holds self.old item true (view value) → ⊥) × SetsValue self.old self.new item true (view value)) }
     {
         if !holds(&self.rows, item, &value) {
             put(&mut self.tags, &mut self.rows, item, value);
