@@ -4,7 +4,7 @@ use Rattle.gl_arena.specs.Id.{Id}
 use Rattle.gl_arena.proofs.Ids.{id_cases}
 use Rattle.gl_tags.specs.Tags as t
 use Rattle.gl_refs.specs.Forms.{Form, constant_form, source_form, prop_form, call_form, cat_form, all_form, form_or, form_at, meaning, Like, AreLower, Each, parts}
-use Rattle.gl_refs.specs.State.{Row, Rows, forms, kept_by, kept_row, kept, kept_pair, IsRight, own_tag, own_by, RowFits, is_bound, IsSound, Binds}
+use Rattle.gl_refs.specs.State.{Row, Rows, forms, kept_row, kept, kept_pair, IsRight, own_tag, own_by, RowFits, is_bound, IsSound, Binds}
 use Rattle.gl_refs.proofs.Meanings.{within, each_map}
 use Rattle.gl_refs.proofs.Rows.{fits_bound, row_right}
 

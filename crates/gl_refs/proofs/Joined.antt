@@ -3,7 +3,7 @@ use Rattle.std.proofs.Common.{◌≡◌, ℕ, zero, suc, ◌≤◌, Bool, true, 
 use Rattle.std.specs.Prelude.{◌||◌}
 use Rattle.std.specs.List.{list_any}
 use Rattle.std.proofs.lemmas.Bool.{or_parts}
-use Rattle.gl_value.specs.Value.{Value, null, text, undefined, boolean, integer, list, pairs, action, text_of, is_missing, join_kept, join_values}
+use Rattle.gl_value.specs.Value.{null, text, undefined, boolean, integer, list, pairs, action, text_of, is_missing, join_kept, join_values}
 use Rattle.gl_base.specs.Texts.{Text}
 use Rattle.gl_arena.specs.Id.{Id}
 use Rattle.gl_refs.specs.Forms.{V}

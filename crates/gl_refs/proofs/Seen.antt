@@ -1,5 +1,5 @@
 -- The rows as the code has them, and as contracts see them.
-use Rattle.std.proofs.Common.{◌≡◌, ◌≢◌, ℕ, zero, suc, ◌+◌, ◌≤◌, append_assoc, add-one, Bool, true, false, not, cond, ltb, List, [], ◌∷◌, ◌++◌, map, drop, take, Option, Some, None, Result, Ok, Err, option_map, unwrap_or, length, is_some, IsSome, IsTrue, IsOk, IsErr, nat_eq, arith, OnOk, OnErr, IfOk, refl, sym, ap, subst, ◌∙◌, ◌⊎◌, inl, inr}
+use Rattle.std.proofs.Common.{◌≡◌, ◌≢◌, ℕ, zero, suc, ◌+◌, ◌≤◌, append_assoc, add-one, Bool, true, false, List, [], ◌∷◌, ◌++◌, map, drop, Option, Some, None, Result, Ok, Err, option_map, unwrap_or, length, IsSome, IsTrue, IsOk, IsErr, nat_eq, arith, OnOk, refl, sym, ap, subst, ◌∙◌, ◌⊎◌, inl, inr}
 use Rattle.std.specs.Prelude.{slice_get, slice_index_or}
 use Rattle.std.specs.List.{list_any}
 use Rattle.std.specs.Bool.{Decides}
@@ -15,7 +15,7 @@ use Rattle.gl_arena.specs.Id.{Id, same_id}
 use Rattle.gl_arena.proofs.Ids.{id_cases}
 use Rattle.gl_arena.specs.Arena.{Arena, named, stamped, with_value, Gives, Ends}
 use Rattle.gl_arena.proofs.Values.{with_value-writes}
-use Rattle.gl_arena.proofs.Mapped.{named-mapped, with_value-mapped, are_stamped-mapped}
+use Rattle.gl_arena.proofs.Mapped.{named-mapped, with_value-mapped}
 use Rattle.gl_tags.specs.Tags as t
 use Rattle.gl_refs.specs.Forms.{V, Form, constant_form, source_form, prop_form, call_form, cat_form, all_form, called, parts, IsReadFor, IsUnread}
 use Rattle.gl_refs.specs.State as s

@@ -1,13 +1,13 @@
 -- The list of those that wait, as the code has it.
-use Rattle.std.proofs.Common.{◌≡◌, ℕ, List, [], ◌∷◌, ◌++◌, map, take, Option, Some, None, IfSome, refl, sym, subst, ◌∙◌, ap}
+use Rattle.std.proofs.Common.{◌≡◌, ℕ, List, [], ◌∷◌, ◌++◌, take, Some, refl, sym, subst, ◌∙◌, ap}
 use Rattle.std.specs.Prelude.{slice_get}
 use Rattle.gl_arena.specs.Id.{Id}
 use Rattle.gl_tags.specs.Tags as t
-use Rattle.gl_refs.specs.Forms.{Each, IsReadFor, itself}
+use Rattle.gl_refs.specs.Forms.{Each, IsReadFor}
 use Rattle.gl_refs.specs.State.{Rows, forms, reads_of, IsKept, IsSound, Settles, IsReady, AllReady}
 use Rattle.gl_refs.specs.View.{seen_waiting, seen_stack}
 use Rattle.gl_refs.specs.declared.settling.Waiting.{Waiting}
-use Rattle.gl_refs.proofs.Waits.{waits_part, all_ready_stay, all_ready_more, all_ready_less}
+use Rattle.gl_refs.proofs.Waits.{waits_part, all_ready_more, all_ready_less}
 use Rattle.gl_refs.proofs.Computing.{settles_more, settles_then}
 
 pub seen-push : (ws : List Waiting) (w : Waiting) → seen_stack (ws ++ w ∷ []) ≡ seen_stack ws ++ seen_waiting w ∷ []

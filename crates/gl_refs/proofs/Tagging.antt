@@ -1,16 +1,15 @@
 -- A new reference, with a tag of its own where it is a source, leaves the others as they are.
-use Rattle.std.proofs.Common.{◌≡◌, ◌≢◌, ◌+◌, ◌<◌, ◌≤◌, Bool, true, false, not, List, [], ◌∷◌, map, Option, Some, None, Result, Ok, Err, IfOk, OnErr, option_map, IsSome, refl, sym, subst, ◌∙◌, ap, arith, ◌⊎◌, inl, inr}
+use Rattle.std.proofs.Common.{◌≡◌, ◌≢◌, ◌<◌, ◌≤◌, Bool, true, false, not, List, [], ◌∷◌, map, Option, Some, None, Result, Ok, Err, IfOk, OnErr, option_map, IsSome, refl, sym, subst, ◌∙◌, ap, arith, ◌⊎◌, inl, inr}
 use Rattle.std.specs.Prelude.{ℕ, ◌||◌}
 use Rattle.std.specs.List.{list_any}
 use Rattle.std.proofs.lemmas.Bool.{or_parts}
 use Rattle.gl_arena.specs.Id.{Id, same_id}
 use Rattle.gl_arena.specs.Arena.{Arena, named, Gives, Ends, IsStamped}
 use Rattle.gl_arena.proofs.Ids.{id_cases, same_id-true}
-use Rattle.gl_arena.proofs.Mapped.{gives-mapped}
 use Rattle.gl_tags.specs.Tags as t
 use Rattle.gl_refs.specs.Forms.{Form, constant_form, source_form, prop_form, call_form, cat_form, all_form, meaning, Like, Each, parts}
 use Rattle.gl_refs.specs.State.{Last, Row, Rows, forms, kept_row, kept_pair, IsRight, own_tag, own_by, is_combined, LastFits, RowFits, is_bound, IsSound, Binds}
-use Rattle.gl_refs.specs.View.{rows_in, rows_of, seen_row, seen_kind}
+use Rattle.gl_refs.specs.View.{rows_of, seen_row, seen_kind}
 use Rattle.gl_refs.specs.declared.row.Row as code
 use Rattle.gl_refs.specs.declared.row.Kind as code_kind
 use Rattle.gl_refs.proofs.Meanings.{each_map}

@@ -64,12 +64,7 @@ pub(crate) fn is_valid(tags: &mut Tags, rows: &Rows, id: RefId, since: u128) -> 
 }
 
 // The tags of what is held of those that a reference reads.
-fn tags_of(
-    alloc: Global,
-    tags: &Tags,
-    rows: &Rows,
-    id: RefId,
-) -> Result<Vec<TagId>, AllocError>
+fn tags_of(alloc: Global, tags: &Tags, rows: &Rows, id: RefId) -> Result<Vec<TagId>, AllocError>
     ensures { IfOk result (λ ids. ids.items ≡ map (held_tag tags.now (rows_of rows.now)) (reads_of (rows_of rows.now) id)) }
 {
     let mut ids = Vec::new(alloc);
@@ -105,12 +100,7 @@ pub(crate) struct Found {
     old: Option<TagId>,
 }
 
-fn gather(
-    alloc: Global,
-    tags: &Tags,
-    rows: &Rows,
-    id: RefId,
-) -> Result<Option<Found>, AllocError>
+fn gather(alloc: Global, tags: &Tags, rows: &Rows, id: RefId) -> Result<Option<Found>, AllocError>
     ensures { IfOk result (λ o. IfSome o (λ f. Gathers tags.now (rows_of rows.now) id (view f.value) f.tags.items f.old)) }
 {
     if rows.live(id) {

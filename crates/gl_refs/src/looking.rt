@@ -34,12 +34,7 @@ fn next_missing(
 }
 
 // Works one reference out, of whose parts all that is read was.
-fn work_out(
-    alloc: Global,
-    rows: &Rows,
-    table: &mut Table,
-    id: RefId,
-) -> Result<(), AllocError>
+fn work_out(alloc: Global, rows: &Rows, table: &mut Table, id: RefId) -> Result<(), AllocError>
     requires lower { AreLower (forms (rows_of rows.now)) }
     requires right { IsTable table.old (rows_of rows.now) }
     ensures { IsTable table.new (rows_of rows.now) }
@@ -80,12 +75,7 @@ fn visit(
 }
 
 // Works out all that a reference wants, parts first.
-fn work_all_out(
-    alloc: Global,
-    rows: &Rows,
-    table: &mut Table,
-    id: RefId,
-) -> Result<(), AllocError>
+fn work_all_out(alloc: Global, rows: &Rows, table: &mut Table, id: RefId) -> Result<(), AllocError>
     requires lower { AreLower (forms (rows_of rows.now)) }
     requires right { IsTable table.old (rows_of rows.now) }
     ensures { IsTable table.new (rows_of rows.now) }

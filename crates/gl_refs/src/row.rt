@@ -195,13 +195,7 @@ fn form_part(rows: &Rows, found: Found<'_>, form: &Form, at: usize) -> Option<Re
     ensures { result ≡ slice_get (reads (value_in found.entry (rows_of rows.now)) (seen_form form.now)) at }
 {
     match form {
-        Form::Prop(part, _) => {
-            if at == 0 {
-                Some(*part)
-            } else {
-                None
-            }
-        }
+        Form::Prop(part, _) => { if at == 0 { Some(*part) } else { None } }
         Form::Call(helper, ids, named) => {
             if *helper < 2 {
                 chosen_at(rows, found, *helper == 0, ids.as_slice(), at)

@@ -83,12 +83,7 @@ pub(crate) fn put_off(stack: &mut Vec<Waiting>, id: RefId, stale: Stale) -> Resu
 }
 
 // Evaluates what a reference wants, parts first.
-fn settle(
-    alloc: Global,
-    tags: &mut Tags,
-    rows: &mut Rows,
-    id: RefId,
-) -> Result<(), AllocError>
+fn settle(alloc: Global, tags: &mut Tags, rows: &mut Rows, id: RefId) -> Result<(), AllocError>
     requires { IsSound tags.old (rows_of rows.old) }
     ensures settles { Settles (IsReadFor (forms (rows_of rows.old)) id) tags.old tags.new (rows_of rows.old) (rows_of rows.new) }
     ensures made { rows.new.made ≡ rows.old.made }

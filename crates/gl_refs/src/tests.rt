@@ -65,7 +65,9 @@ fn begin(refs: &mut Refs)
 }
 
 const ADD: u16 = 7;
+
 const MUL: u16 = 9;
+
 const MIN: u16 = 10;
 
 #[test]

@@ -20,12 +20,7 @@ fn copied(rows: &Rows, found: Found<'_>, id: RefId) -> Result<Value, AllocError>
     }
 }
 
-fn property(
-    rows: &Rows,
-    found: Found<'_>,
-    id: RefId,
-    name: &Text,
-) -> Result<Value, AllocError>
+fn property(rows: &Rows, found: Found<'_>, id: RefId, name: &Text) -> Result<Value, AllocError>
     ensures { IfOk result (λ v. view v ≡ property name.now (value_in found.entry (rows_of rows.now) id)) }
 {
     match shown(rows, found, id) {
@@ -34,12 +29,7 @@ fn property(
     }
 }
 
-fn choice(
-    rows: &Rows,
-    found: Found<'_>,
-    way: bool,
-    ids: &[RefId],
-) -> Result<Value, AllocError>
+fn choice(rows: &Rows, found: Found<'_>, way: bool, ids: &[RefId]) -> Result<Value, AllocError>
     ensures { IfOk result (λ v. view v ≡ value_or (value_in found.entry (rows_of rows.now)) (slice_get (chosen (value_in found.entry (rows_of rows.now)) way ids.now) 1)) }
 {
     match chosen_at(rows, found, way, ids, 1) {
@@ -99,12 +89,7 @@ fn called(
 }
 
 // The texts of those that are neither undefined nor null, joined; null where there is none.
-fn join(
-    alloc: Global,
-    rows: &Rows,
-    found: Found<'_>,
-    ids: &[RefId],
-) -> Result<Value, AllocError>
+fn join(alloc: Global, rows: &Rows, found: Found<'_>, ids: &[RefId]) -> Result<Value, AllocError>
     ensures { IfOk result (λ v. view v ≡ join_values (map (value_in found.entry (rows_of rows.now)) ids.now)) }
 {
     let mut text = Text::new(alloc);
@@ -122,12 +107,7 @@ fn join(
 }
 
 // Adds the text of what is shown, and tells whether it is neither undefined nor null.
-fn add_text(
-    rows: &Rows,
-    found: Found<'_>,
-    id: RefId,
-    text: &mut Text,
-) -> Result<bool, AllocError>
+fn add_text(rows: &Rows, found: Found<'_>, id: RefId, text: &mut Text) -> Result<bool, AllocError>
     ensures some { IfOk result (λ b. b ≡ not (is_missing (value_in found.entry (rows_of rows.now) id))) }
     ensures text { OnOk result (text.new ≡ text.old ++ text_of (value_in found.entry (rows_of rows.now) id)) }
 {

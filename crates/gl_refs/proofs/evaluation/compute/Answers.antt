@@ -1,4 +1,4 @@
-use Rattle.std.proofs.Common.{◌≡◌, IfSome, Some, Option, ap, subst}
+use Rattle.std.proofs.Common.{◌≡◌, IfSome, Some, Option, subst}
 use Rattle.gl_arena.specs.Id.{Id}
 use Rattle.gl_value.specs.View.{view}
 use Rattle.gl_tags.specs.Tags as t

@@ -1,6 +1,5 @@
-use Rattle.std.proofs.Common.{sym, subst, ap, ◌∙◌, Some, ◌≡◌}
-use Rattle.gl_arena.specs.Id.{Id}
-use Rattle.gl_refs.specs.State.{IsSound, own_tag}
+use Rattle.std.proofs.Common.{sym, subst, ◌∙◌}
+use Rattle.gl_refs.specs.State.{IsSound}
 use Rattle.gl_refs.specs.View.{rows_of}
 use Rattle.gl_refs.proofs.Tagging.{tags_changed, tag_made, tag_unowned, tag_unled, tag_again}
 use Rattle.gl_refs.proofs.making.make_source.Goals as goal

@@ -1,4 +1,4 @@
-use Rattle.std.proofs.Common.{◌≡◌, Bool, true, false, not, take, sym, ap, subst, ◌∙◌, is_some, add-one}
+use Rattle.std.proofs.Common.{take, sym, ap, subst, ◌∙◌, is_some, add-one}
 use Rattle.gl_refs.specs.Forms.{Each}
 use Rattle.gl_refs.specs.State.{IsKept, kept, reads_of}
 use Rattle.gl_refs.specs.View.{rows_of}

@@ -1,6 +1,5 @@
 use Rattle.std.proofs.Common.{IsSome, option_map, refl, sym, ap, subst, ◌∙◌}
 use Rattle.gl_refs.specs.State.{Row, is_cell}
-use Rattle.gl_refs.specs.Refs.{forms_of}
 use Rattle.gl_refs.proofs.tests.follows.Goals as goal
 
 pub set_number-requires : goal.set_number-requires

@@ -1,4 +1,4 @@
-use Rattle.std.proofs.Common.{IsSome, option_map, refl, sym, ap, subst, ◌∙◌}
+use Rattle.std.proofs.Common.{IsSome, option_map, sym, ap, subst, ◌∙◌}
 use Rattle.gl_refs.specs.State.{Row, is_cell}
 use Rattle.gl_refs.proofs.tests.reaches_far.Goals as goal
 

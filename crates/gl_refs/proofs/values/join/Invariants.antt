@@ -2,7 +2,6 @@ use Rattle.std.proofs.Common.{◌≡◌, ◌++◌, map, drop, flat_map}
 use Rattle.std.specs.Prelude.{◌||◌}
 use Rattle.std.specs.List.{list_any}
 use Rattle.gl_value.specs.Value.{text_of}
-
 use Rattle.gl_refs.specs.View.{rows_of, value_in}
 use Rattle.gl_refs.proofs.Joined.{is_there}
 use Rattle.gl_refs.proofs.values.join.Given as goal

@@ -1,5 +1,4 @@
 use Rattle.std.proofs.Common.{◌≡◌, ◌++◌, map, drop}
-
 use Rattle.gl_refs.specs.View.{rows_of, value_in}
 use Rattle.gl_refs.proofs.values.named_values.Given as goal
 

@@ -1,6 +1,5 @@
 use Rattle.std.proofs.Common.{◌≡◌, ◌++◌, map, drop}
 use Rattle.gl_value.specs.View.{seen_items}
-
 use Rattle.gl_refs.specs.View.{rows_of, value_in}
 use Rattle.gl_refs.proofs.values.values.Given as goal
 

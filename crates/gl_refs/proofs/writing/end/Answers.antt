@@ -1,7 +1,7 @@
 use Rattle.std.proofs.Common.{ap, option_map, sym, subst, ◌∙◌}
 use Rattle.gl_arena.proofs.Mapped.{ends-mapped}
 use Rattle.gl_refs.specs.Refs.{EndsTag}
-use Rattle.gl_refs.specs.View.{rows_of, seen_row}
+use Rattle.gl_refs.specs.View.{seen_row}
 use Rattle.gl_refs.proofs.Seen.{last_combined, end_sound}
 use Rattle.gl_refs.proofs.writing.end.Goals as goal
 

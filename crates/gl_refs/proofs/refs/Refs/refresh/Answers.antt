@@ -1,4 +1,4 @@
-use Rattle.std.proofs.Common.{subst, sym, IsOk}
+use Rattle.std.proofs.Common.{subst, sym}
 use Rattle.gl_refs.specs.State.{IsKept}
 use Rattle.gl_refs.specs.Refs.{Refs, rows_of, HasRead}
 use Rattle.gl_refs.proofs.Seen.{of_seen, has_read, after}

@@ -1,4 +1,4 @@
-use Rattle.std.proofs.Common.{◌+◌, ◌++◌, ◌∷◌, [], refl, sym, subst, ap, ◌∙◌, Ok, Err}
+use Rattle.std.proofs.Common.{◌+◌, refl, subst, Ok, Err}
 use Rattle.gl_refs.specs.State.{IsKept, IsSound}
 use Rattle.gl_refs.specs.Refs.{Refs, Reads, HasEvaluated, rows_of}
 use Rattle.gl_refs.specs.View.{rows_in}
