@@ -17,5 +17,6 @@ pub mod LogRenews
 pub mod Tagged
 pub mod Logged
 pub mod Gone
+pub mod Destroyed
 pub mod Turning
 mod Cases

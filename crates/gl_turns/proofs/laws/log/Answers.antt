@@ -1,4 +1,5 @@
 use Rattle.gl_turns.proofs.laws.log.Goals as goal
+use Rattle.gl_turns.proofs.Destroyed.{counted_is_there, destroys_gone}
 use Rattle.gl_turns.proofs.Logged.{installs_new, updates_stale}
 
 pub returns-clause-installs : goal.returns-clause-installs
@@ -6,3 +7,9 @@ returns-clause-installs c = installs_new
 
 pub returns-clause-updates : goal.returns-clause-updates
 returns-clause-updates c = updates_stale
+
+pub returns-clause-there : goal.returns-clause-there
+returns-clause-there c = counted_is_there
+
+pub returns-clause-destroys : goal.returns-clause-destroys
+returns-clause-destroys c = destroys_gone
