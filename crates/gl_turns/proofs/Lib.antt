@@ -18,5 +18,6 @@ pub mod Tagged
 pub mod Logged
 pub mod Gone
 pub mod Destroyed
+pub mod Walked
 pub mod Turning
 mod Cases

@@ -1,12 +1,13 @@
 -- The laws of the machine's turns.
-use Rattle.std.specs.Prelude.{◌≡◌, ◌+◌, [], ◌++◌, map, filter, filter_map, length, Some, None, not, nat_eq, ◌<◌}
+use Rattle.std.specs.Prelude.{◌≡◌, ◌+◌, [], ◌++◌, map, filter, filter_map, length, Some, None, not, nat_eq, ◌<◌, flat_map}
 use Rattle.gl_meaning.specs.App.{App, Event}
 use Rattle.gl_meaning.specs.Scope.{Source}
 use Rattle.gl_meaning.specs.Eval.{Store}
 use Rattle.gl_meaning.specs.Render.{draw}
-use Rattle.gl_meaning.specs.Changes.{number, Sets, touched, settle, stale, instances}
+use Rattle.gl_meaning.specs.Changes.{number, Sets, touched, settle, stale, instances, modifiers_on}
 use Rattle.gl_meaning.specs.Path.{has_path}
-use Rattle.gl_meaning.specs.Print.{modifier_paths}
+use Rattle.gl_meaning.specs.Print.{modifier_paths, children_first}
+use Rattle.gl_turns.specs.Leaving.{leavers, goes, leaver_of, leaving}
 use Rattle.gl_meaning.specs.Laws.{HoldsNoAction, Reached}
 use Rattle.gl_meaning.specs.Session as session
 use Rattle.gl_meaning.specs.Session.{Turn, first_state, applied, step}
@@ -133,3 +134,16 @@ DestroysGone =
     → let l' = (renew_app app τ l st).0 in let ms = filter_map modifier_in (places [] l) in let is = filter_map instance_in (places [] l) in
     (filter (λ z. nat_eq (times (modifier_id z.1) l') 0) ms ≡ filter (λ z. not (has_path z.0 (modifier_paths (draw app τ)))) ms)
     × (filter (λ z. nat_eq (times (instance_id z.1.id) l') 0) is ≡ filter (λ z. not (has_path z.0 (instances (draw app τ)))) is)
+
+-- They go in the order of the meaning's walk of the old rendering, children first.
+abbrev pub DestroysInOrder : Type 0
+DestroysInOrder =
+    (app : App) (σ τ : Store) (st : State) (l : Live) → StandsFor app σ τ st l → OnlyTouched app σ τ st
+    → let l' = (renew_app app τ l st).0 in
+    flat_map leaver_of (filter (λ a. nat_eq (times (id_of a) l') 0) (leaving [] l)) ≡ filter (goes (draw app τ)) (flat_map leavers (children_first (draw app σ)))
+
+-- And the modifiers of a tree stand in the order of the meaning's walk of the rendering, children first.
+abbrev pub ModifiersInOrder : Type 0
+ModifiersInOrder =
+    (app : App) (σ τ : Store) (st : State) (l : Live) → StandsFor app σ τ st l
+    → map (λ z. z.0) (filter_map modifier_in (places [] l)) ≡ map (λ m. m.path) (flat_map modifiers_on (children_first (draw app σ)))

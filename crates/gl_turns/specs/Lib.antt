@@ -4,4 +4,5 @@ pub mod Numbers
 pub mod Evaluated
 pub mod Sets
 pub mod Modifiers
+pub mod Leaving
 pub mod Laws
