@@ -60,7 +60,7 @@ module _ (app : App) (σ τ : Store) (st : State) (l : Live) (h : StandsFor app 
     (one : (p : Path) (n m : B) → Among (p, n) (filter_map g (places [] l)) → Among (p, m) (filter_map g (places [] l)) → n ≡ m)
     (listed : (p : Path) → Among p (map (λ z. z.0) (filter_map g (places [] l'))) → Among p paths)
     (found : (p : Path) → Among p paths → Among p (map (λ z. z.0) (filter_map g (places [] l')))) where
-    gone : (z : Path × B) → Among z (filter_map g (places [] l)) → nat_eq (times (id_of (place z.0 z.1)) l') 0 ≡ not (has_path z.0 paths)
+    pub gone : (z : Path × B) → Among z (filter_map g (places [] l)) → nat_eq (times (id_of (place z.0 z.1)) l') 0 ≡ not (has_path z.0 paths)
     gone z n = by (cases_lt 0 (times (id_of (place z.0 z.1)) l')) where
       there_old : Among (place z.0 z.1) (places [] l)
       there_old = let f = found_from g z (places [] l) n in subst (λ a. Among a (places [] l)) (means f.0 z f.2) f.1
@@ -85,9 +85,6 @@ module _ (app : App) (σ τ : Store) (st : State) (l : Live) (h : StandsFor app 
           let k = has_it z.0 paths (listed z.0 (among_mapped (λ (x : Path × B). x.0) z (filter_map g (places [] l')) (found_in g z (place z.0 z.1) (places [] l') (gives z.0 z.1) m))) in
           ne_eqb (times (id_of (place z.0 z.1)) l') 0 (λ e. omega (arith, e, w)) ∙ sym (ap not k)
       by (inr w) = let e : times (id_of (place z.0 z.1)) l' ≡ 0 = omega (arith, w) in eq-eqb (times (id_of (place z.0 z.1)) l') 0 e ∙ sym (ap not (has_not z.0 paths (no_path e)))
-
-    pub destroyed : filter (λ z. nat_eq (times (id_of (place z.0 z.1)) l') 0) (filter_map g (places [] l)) ≡ filter (λ z. not (has_path z.0 paths)) (filter_map g (places [] l))
-    destroyed = filter_alike (λ z. nat_eq (times (id_of (place z.0 z.1)) l') 0) (λ z. not (has_path z.0 paths)) (filter_map g (places [] l)) gone
 
 pub counted_is_there : CountedIsThere
 counted_is_there app σ τ st l h cells a m = (there app σ τ st l h cells a m, counted app σ τ st l h cells a)
@@ -122,18 +119,42 @@ is_instance (position_place p n) z e = absurd (none_some z e)
 is_instance (item_place p n) z e = absurd (none_some z e)
 is_instance (modifier_place p n) z e = absurd (none_some z e)
 
+module _ (app : App) (σ τ : Store) (st : State) (l : Live) (h : StandsFor app σ τ st l) (cells : OnlyTouched app σ τ st) where
+  abbrev modifiers : List (Path × ℕ)
+  modifiers = filter_map modifier_in (places [] l)
+
+  abbrev modifiers' : List (Path × ℕ)
+  modifiers' = filter_map modifier_in (places [] (renew_app app τ l st).0)
+
+  one_modifier : (p : Path) (n m : ℕ) → Among (p, n) modifiers → Among (p, m) modifiers → n ≡ m
+  one_modifier p n m a b = one_at p n m modifiers (let e = (tree_agrees app σ τ st l h).0.modifiers (λ q. one_if (path_eq p q)) in let k = sum_once p (modifier_paths (draw app σ)) (modifiers_once app σ) in omega (arith, e, k)) a b
+
+  listed_modifier : (p : Path) → Among p (map (λ z. z.0) modifiers') → Among p (modifier_paths (draw app τ))
+  listed_modifier p m =
+      let w = sum_has p (map (λ (z : Path × ℕ). z.0) modifiers') m in
+      let e = (tree_agrees app τ τ (renew_app app τ l st).1 (renew_app app τ l st).0 (updated_stands app σ τ st l h cells)).0.modifiers (λ q. one_if (path_eq p q)) in sum_from p (modifier_paths (draw app τ)) (omega (arith, w, e))
+
+  found_modifier : (p : Path) → Among p (modifier_paths (draw app τ)) → Among p (map (λ z. z.0) modifiers')
+  found_modifier p m =
+      let w = sum_has p (modifier_paths (draw app τ)) m in
+      let e = (tree_agrees app τ τ (renew_app app τ l st).1 (renew_app app τ l st).0 (updated_stands app σ τ st l h cells)).0.modifiers (λ q. one_if (path_eq p q)) in sum_from p (map (λ (z : Path × ℕ). z.0) modifiers') (omega (arith, w, e))
+
+  pub modifier_gone : (z : Path × ℕ) → Among z modifiers → nat_eq (times (id_of (modifier_place z.0 z.1)) (renew_app app τ l st).0) 0 ≡ not (has_path z.0 (modifier_paths (draw app τ)))
+  modifier_gone z m = gone app σ τ st l h cells ℕ modifier_in modifier_place is_modifier (λ p n. refl) (λ p n. refl) (modifier_paths (draw app τ)) one_modifier listed_modifier found_modifier z m
+
+  abbrev instances_there : List (Path × Inst)
+  instances_there = filter_map instance_in (places [] l)
+
+  one_instance : (p : Path) (n m : Inst) → Among (p, n) instances_there → Among (p, m) instances_there → n ≡ m
+  one_instance p n m a b = one_at p n m instances_there (subst (λ ps. path_sum (λ q. one_if (path_eq p q)) ps ≤ 1) (sym (tree_agrees app σ τ st l h).0.instances) (sum_once p (instances (draw app σ)) (instances_once app σ))) a b
+
+  pub instance_gone : (z : Path × Inst) → Among z instances_there → nat_eq (times (id_of (instance_place z.0 z.1)) (renew_app app τ l st).0) 0 ≡ not (has_path z.0 (instances (draw app τ)))
+  instance_gone z m =
+      let e = (tree_agrees app τ τ (renew_app app τ l st).1 (renew_app app τ l st).0 (updated_stands app σ τ st l h cells)).0.instances in
+      gone app σ τ st l h cells Inst instance_in instance_place is_instance (λ p n. refl) (λ p n. refl) (instances (draw app τ)) one_instance (λ p m. subst (Among p) e m) (λ p m. subst (Among p) (sym e) m) z m
+
 pub destroys_gone : DestroysGone
-destroys_gone app σ τ st l h cells =
-    let r = renew_app app τ l st in
-    let h' = updated_stands app σ τ st l h cells in
-    let agrees = (tree_agrees app σ τ st l h).0 in
-    let agrees' = (tree_agrees app τ τ r.1 r.0 h').0 in (
-      destroyed app σ τ st l h cells ℕ modifier_in modifier_place is_modifier (λ p n. refl) (λ p n. refl) (modifier_paths (draw app τ))
-          (λ p n m a b. one_at p n m (filter_map modifier_in (places [] l)) (let e = agrees.modifiers (λ q. one_if (path_eq p q)) in let k = sum_once p (modifier_paths (draw app σ)) (modifiers_once app σ) in omega (arith, e, k)) a b)
-          (λ p m. let w = sum_has p (map (λ (z : Path × ℕ). z.0) (filter_map modifier_in (places [] r.0))) m in let e = agrees'.modifiers (λ q. one_if (path_eq p q)) in sum_from p (modifier_paths (draw app τ)) (omega (arith, w, e)))
-          (λ p m. let w = sum_has p (modifier_paths (draw app τ)) m in let e = agrees'.modifiers (λ q. one_if (path_eq p q)) in sum_from p (map (λ (z : Path × ℕ). z.0) (filter_map modifier_in (places [] r.0))) (omega (arith, w, e))),
-      destroyed app σ τ st l h cells Inst instance_in instance_place is_instance (λ p n. refl) (λ p n. refl) (instances (draw app τ))
-          (λ p n m a b. one_at p n m (filter_map instance_in (places [] l)) (subst (λ ps. path_sum (λ q. one_if (path_eq p q)) ps ≤ 1) (sym agrees.instances) (sum_once p (instances (draw app σ)) (instances_once app σ))) a b)
-          (λ p m. subst (Among p) agrees'.instances m)
-          (λ p m. subst (Among p) (sym agrees'.instances) m),
-    )
+destroys_gone app σ τ st l h cells = (
+  filter_alike _ _ (filter_map modifier_in (places [] l)) (modifier_gone app σ τ st l h cells),
+  filter_alike _ _ (filter_map instance_in (places [] l)) (instance_gone app σ τ st l h cells),
+)

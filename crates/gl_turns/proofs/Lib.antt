@@ -19,5 +19,6 @@ pub mod Logged
 pub mod Gone
 pub mod Destroyed
 pub mod Walked
+pub mod Ordered
 pub mod Turning
 mod Cases

@@ -23,7 +23,7 @@ use Rattle.gl_turns.specs.Places.{Place, instance_place, modifier_place}
 use Rattle.gl_turns.specs.Leaving.{Leaver, modifier_leaves, instance_leaves, leavers, leaver_of, mods_leaving, leaving, leaving_items, leaving_in}
 use Rattle.gl_turns.proofs.Agrees.{SameScope, slots_in, same_in, same_slots, same_writer, same_named, locals_passed}
 
-flat_join : {A B : Type 0} (f : A → List B) (xs ys : List A) → flat_map f (xs ++ ys) ≡ flat_map f xs ++ flat_map f ys
+pub flat_join : {A B : Type 0} (f : A → List B) (xs ys : List A) → flat_map f (xs ++ ys) ≡ flat_map f xs ++ flat_map f ys
 flat_join f [] ys = refl
 flat_join f (x ∷ xs) ys = ap (λ zs. f x ++ zs) (flat_join f xs ys) ∙ sym (append_assoc (f x) (flat_map f xs) (flat_map f ys))
 

@@ -1,6 +1,6 @@
 //! The laws of the machine's turns. Each function does nothing: its contract is the law.
 
-ghost use Rattle.gl_turns.specs.Laws.{AppendedNumbers, UpdatedNumbers, UpdatedMadeCount, TouchedIsTouched, EvaluatesNewOrStale, EvaluatedCount, SetsAreLaid, InstallsNew, UpdatesStale, CountedIsThere, DestroysGone, SettledStands, FirstTurn, NextTurn};
+ghost use Rattle.gl_turns.specs.Laws.{AppendedNumbers, UpdatedNumbers, UpdatedMadeCount, TouchedIsTouched, EvaluatesNewOrStale, EvaluatedCount, SetsAreLaid, InstallsNew, UpdatesStale, CountedIsThere, DestroysGone, DestroysInOrder, ModifiersInOrder, SettledStands, FirstTurn, NextTurn};
 
 /// The ids of nodes are the numbers that the meaning gives to their paths, and as many are made as it counts.
 pub fn numbers()
@@ -36,4 +36,6 @@ pub fn log()
     ensures updates { UpdatesStale }
     ensures there { CountedIsThere }
     ensures destroys { DestroysGone }
+    ensures ordered { DestroysInOrder }
+    ensures modifiers { ModifiersInOrder }
 {}
