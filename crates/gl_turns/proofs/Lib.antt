@@ -20,5 +20,6 @@ pub mod Gone
 pub mod Destroyed
 pub mod Walked
 pub mod Ordered
+pub mod Moved
 pub mod Turning
 mod Cases

@@ -1,14 +1,14 @@
 -- The laws of the machine's turns.
-use Rattle.std.specs.Prelude.{◌≡◌, ◌+◌, [], ◌++◌, map, filter, filter_map, length, Some, None, not, nat_eq, ◌<◌, flat_map}
+use Rattle.std.specs.Prelude.{◌≡◌, ◌+◌, [], ◌++◌, map, filter, filter_map, length, Some, None, not, nat_eq, ◌<◌, flat_map, List}
 use Rattle.gl_meaning.specs.App.{App, Event}
 use Rattle.gl_meaning.specs.Scope.{Source}
 use Rattle.gl_meaning.specs.Eval.{Store}
 use Rattle.gl_meaning.specs.Render.{draw}
-use Rattle.gl_meaning.specs.Changes.{number, Sets, touched, settle, stale, instances, modifiers_on}
+use Rattle.gl_meaning.specs.Changes.{number, Sets, touched, settle, stale, instances, modifiers_on, Item}
 use Rattle.gl_meaning.specs.Path.{has_path}
 use Rattle.gl_meaning.specs.Print.{modifier_paths, children_first}
 use Rattle.gl_turns.specs.Leaving.{leavers, goes, leaver_of, leaving}
-use Rattle.gl_meaning.specs.Laws.{HoldsNoAction, Reached}
+use Rattle.gl_meaning.specs.Laws.{HoldsNoAction, Reached, NoRepeat}
 use Rattle.gl_meaning.specs.Session as session
 use Rattle.gl_meaning.specs.Session.{Turn, first_state, applied, step}
 use Rattle.gl_meaning.specs.Work.{work}
@@ -25,6 +25,9 @@ use Rattle.gl_plain.specs.Live.{times}
 use Rattle.gl_turns.specs.Numbers.{numbers_of, one_more}
 use Rattle.gl_turns.specs.Evaluated.{TouchedBy, new_or_stale}
 use Rattle.gl_turns.specs.Sets.{set_all}
+use Rattle.gl_turns.specs.Moved.{moved_between, moved_in}
+use Rattle.gl_meaning.specs.Work.{list_path}
+use Rattle.gl_meaning.specs.Path.{Path}
 use Rattle.gl_plain.specs.Turns.{blank, begin}
 use Rattle.gl_plain.specs.Drawn.{drawn_app}
 use Rattle.gl_meaning.specs.Actions.{lay}
@@ -147,3 +150,11 @@ abbrev pub ModifiersInOrder : Type 0
 ModifiersInOrder =
     (app : App) (σ τ : Store) (st : State) (l : Live) → StandsFor app σ τ st l
     → map (λ z. z.0) (filter_map modifier_in (places [] l)) ≡ map (λ m. m.path) (flat_map modifiers_on (children_first (draw app σ)))
+
+-- Moves
+
+-- Between two lists of items as many are moved as are moved in each list of which they are items.
+abbrev pub MovedByList : Type 0
+MovedByList =
+    (old new : List Item) (qs : List Path) → NoRepeat qs → ((i : Item) → Among i new → Among (list_path i.path) qs)
+    → moved_between old new ≡ moved_in old new qs

@@ -5,4 +5,5 @@ pub mod Evaluated
 pub mod Sets
 pub mod Modifiers
 pub mod Leaving
+pub mod Moved
 pub mod Laws

@@ -1,6 +1,6 @@
 //! The laws of the machine's turns. Each function does nothing: its contract is the law.
 
-ghost use Rattle.gl_turns.specs.Laws.{AppendedNumbers, UpdatedNumbers, UpdatedMadeCount, TouchedIsTouched, EvaluatesNewOrStale, EvaluatedCount, SetsAreLaid, InstallsNew, UpdatesStale, CountedIsThere, DestroysGone, DestroysInOrder, ModifiersInOrder, SettledStands, FirstTurn, NextTurn};
+ghost use Rattle.gl_turns.specs.Laws.{AppendedNumbers, UpdatedNumbers, UpdatedMadeCount, TouchedIsTouched, EvaluatesNewOrStale, EvaluatedCount, SetsAreLaid, InstallsNew, UpdatesStale, CountedIsThere, DestroysGone, DestroysInOrder, ModifiersInOrder, MovedByList, SettledStands, FirstTurn, NextTurn};
 
 /// The ids of nodes are the numbers that the meaning gives to their paths, and as many are made as it counts.
 pub fn numbers()
@@ -38,4 +38,9 @@ pub fn log()
     ensures destroys { DestroysGone }
     ensures ordered { DestroysInOrder }
     ensures modifiers { ModifiersInOrder }
+{}
+
+/// The items moved in a turn are those moved in each list.
+pub fn moved()
+    ensures { MovedByList }
 {}
