@@ -20,13 +20,13 @@ use Rattle.gl_turns.specs.Places.{position_in, places}
 use Rattle.gl_turns.specs.Numbers.{numbers_of}
 use Rattle.gl_turns.specs.Evaluated.{new_or_stale}
 use Rattle.gl_turns.specs.Sets.{set_all}
-use Rattle.gl_ast.specs.Template.{this, no_exprs, expr, no_named, modifier, Body, element, if_stmt, end, stmt}
+use Rattle.gl_ast.specs.Template.{this, no_exprs, no_named, modifier, Body, element, if_stmt, end, stmt}
 use Rattle.gl_meaning.specs.Path.{modifier_at, has_path}
 use Rattle.gl_meaning.specs.Changes.{stale}
 use Rattle.gl_meaning.specs.Print.{modifier_paths, children_first}
 use Rattle.gl_plain.specs.Live.{times}
 use Rattle.gl_turns.specs.Places.{id_of, modifier_in}
-use Rattle.gl_turns.specs.Leaving.{Leaver, modifier_leaves, instance_leaves, leavers, goes, leaver_of, leaving}
+use Rattle.gl_turns.specs.Leaving.{Leaver, modifier_leaves, leavers, goes, leaver_of, leaving}
 
 -- The first turn of an app, and one more in which a field of the root is set.
 module _ (app : App) (f : List ℕ) (v : V) where

@@ -14,7 +14,6 @@ use Rattle.gl_meaning.proofs.Equal.{path_itself}
 use Rattle.gl_meaning.proofs.Modifiers.{modifiers_once}
 use Rattle.gl_meaning.proofs.Once.{instances_once}
 use Rattle.gl_meaning.proofs.Pieces.{some_same, none_some}
-use Rattle.gl_plain.specs.Ids.{Id}
 use Rattle.gl_plain.specs.State.{Inst, State}
 use Rattle.gl_plain.specs.Live.{Live, times}
 use Rattle.gl_plain.specs.Renew.{renew_app}
@@ -23,7 +22,7 @@ use Rattle.gl_plain.proofs.Moves.{is_old}
 use Rattle.gl_plain.proofs.Roots.{updated_stands, ids_are_kept}
 use Rattle.gl_turns.specs.Places.{Place, node_place, position_place, item_place, instance_place, modifier_place, path_of, id_of, instance_in, modifier_in, places}
 use Rattle.gl_turns.specs.Laws.{CountedIsThere, DestroysGone}
-use Rattle.gl_turns.proofs.Found.{found_from, found_in, among_mapped, mapped_from, at_found, has_it, has_not}
+use Rattle.gl_turns.proofs.Found.{found_from, found_in, among_mapped, mapped_from, has_it, has_not}
 use Rattle.gl_turns.proofs.Sites.{root_counted}
 use Rattle.gl_turns.proofs.Kept.{KeptOne, root_kept}
 use Rattle.gl_turns.proofs.Agrees.{path_sum}
@@ -56,10 +55,10 @@ module _ (app : App) (σ τ : Store) (st : State) (l : Live) (h : StandsFor app 
 
   -- For one sort of things, of which a path in the old tree has one, and the new rendering has these paths.
   module _ (B : Type 0) (g : Place → Option (Path × B)) (place : Path → B → Place) (means : (a : Place) (z : Path × B) → g a ≡ Some z → a ≡ place z.0 z.1) (gives : (p : Path) (n : B) → g (place p n) ≡ Some (p, n))
-    (stands : (p : Path) (n : B) → path_of (place p n) ≡ p) (paths : List Path)
-    (one : (p : Path) (n m : B) → Among (p, n) (filter_map g (places [] l)) → Among (p, m) (filter_map g (places [] l)) → n ≡ m)
-    (listed : (p : Path) → Among p (map (λ z. z.0) (filter_map g (places [] l'))) → Among p paths)
-    (found : (p : Path) → Among p paths → Among p (map (λ z. z.0) (filter_map g (places [] l')))) where
+      (stands : (p : Path) (n : B) → path_of (place p n) ≡ p) (paths : List Path)
+      (one : (p : Path) (n m : B) → Among (p, n) (filter_map g (places [] l)) → Among (p, m) (filter_map g (places [] l)) → n ≡ m)
+      (listed : (p : Path) → Among p (map (λ z. z.0) (filter_map g (places [] l'))) → Among p paths)
+      (found : (p : Path) → Among p paths → Among p (map (λ z. z.0) (filter_map g (places [] l')))) where
     pub gone : (z : Path × B) → Among z (filter_map g (places [] l)) → nat_eq (times (id_of (place z.0 z.1)) l') 0 ≡ not (has_path z.0 paths)
     gone z n = by (cases_lt 0 (times (id_of (place z.0 z.1)) l')) where
       there_old : Among (place z.0 z.1) (places [] l)

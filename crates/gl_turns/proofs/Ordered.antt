@@ -1,21 +1,17 @@
 -- What goes, goes in the order of the meaning's walk, and the modifiers of a tree stand in it.
-use Rattle.std.proofs.Common.{◌≡◌, ℕ, suc, List, [], ◌∷◌, ◌++◌, map, Bool, true, false, Option, Some, None, cond, refl, sym, ap, ap₂, ◌∙◌, subst, inl, inr, ◌⊎◌}
+use Rattle.std.proofs.Common.{◌≡◌, ℕ, suc, List, [], ◌∷◌, ◌++◌, map, Bool, true, false, Option, Some, None, cond, refl, sym, ap, ap₂, ◌∙◌, inl, inr}
 use Rattle.std.specs.Prelude.{filter, filter_map, flat_map, nat_eq}
-use Rattle.std.proofs.lemmas.List.{append-nil, append_assoc}
-use Rattle.gl_meaning.specs.App.{App}
+use Rattle.std.proofs.lemmas.List.{append-nil}
 use Rattle.gl_meaning.specs.Path.{at, main, otherwise, items, item, slot, modifier_at, Path}
-use Rattle.gl_meaning.specs.Eval.{Store}
 use Rattle.gl_meaning.specs.Known.{Among}
 use Rattle.gl_meaning.specs.Parts.{Modifier}
 use Rattle.gl_meaning.specs.Render.{Piece, element_node, text_node, comment_node, component, branch, item_region, position, too_deep, draw}
 use Rattle.gl_meaning.specs.Changes.{modifiers_on}
 use Rattle.gl_meaning.specs.Print.{children_first}
 use Rattle.gl_meaning.proofs.Pieces.{among_either, among_left, among_right, filter_map_append}
-use Rattle.gl_plain.specs.State.{State}
 use Rattle.gl_plain.specs.Live
 use Rattle.gl_plain.specs.Live.{AttrSpot, ModSpot, Live, Lives, Items, times}
 use Rattle.gl_plain.specs.Renew.{renew_app}
-use Rattle.gl_plain.specs.Machine.{StandsFor, OnlyTouched}
 use Rattle.gl_turns.specs.Places.{Place, node_place, position_place, item_place, instance_place, modifier_place, id_of, instance_in, modifier_in, comment_places, attr_places, mod_places, places, places_items, places_in}
 use Rattle.gl_turns.specs.Leaving.{Leaver, modifier_leaves, instance_leaves, leavers, goes, leaver_of, mods_leaving, leaving, leaving_items, leaving_in}
 use Rattle.gl_turns.specs.Laws.{DestroysInOrder, ModifiersInOrder}

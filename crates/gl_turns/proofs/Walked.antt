@@ -1,6 +1,6 @@
 -- The walk of a tree that stands, children first, is that of the rendering.
-use Rattle.std.proofs.Common.{◌≡◌, ℕ, zero, suc, max, List, [], ◌∷◌, ◌++◌, map, Bool, true, false, Option, Some, None, refl, sym, ap, ap₂, ◌∙◌, subst, inl, inr, ◌⊎◌}
-use Rattle.std.specs.Prelude.{if◌then◌else◌, flat_map, filter_map}
+use Rattle.std.proofs.Common.{◌≡◌, ℕ, zero, suc, List, [], ◌∷◌, ◌++◌, map, Bool, true, false, Option, Some, None, refl, sym, ap, ap₂, ◌∙◌, subst}
+use Rattle.std.specs.Prelude.{if◌then◌else◌, flat_map}
 use Rattle.std.proofs.lemmas.List.{append-nil, append_assoc}
 use Rattle.gl_base.specs.Texts.{Text}
 use Rattle.gl_value.specs.Value.{Values, no_values, value}
@@ -17,9 +17,9 @@ use Rattle.gl_plain.specs.Ids.{Id}
 use Rattle.gl_plain.specs.State.{MScope, mscope, mnothing, mpassed, passed_in, mslots, mwriter, writer, named_as, with_names, Thing, State}
 use Rattle.gl_plain.specs.Live.{ModSpot, item_names, Live, Lives, Items}
 use Rattle.gl_plain.specs.Live
-use Rattle.gl_plain.specs.Stands.{one_expr, attrs_by, mods_by, tail_of, WhereValues, WhereBlock, ModsStand, Stands, StandIn, ItemsStand, BlockStands, ListStands, ElseStands}
+use Rattle.gl_plain.specs.Stands.{attrs_by, mods_by, tail_of, WhereValues, WhereBlock, ModsStand, Stands, StandIn, ItemsStand, BlockStands, ListStands, ElseStands}
 use Rattle.gl_plain.specs.Machine.{no_place, RootStands, StandsFor}
-use Rattle.gl_turns.specs.Places.{Place, instance_place, modifier_place}
+use Rattle.gl_turns.specs.Places.{Place, instance_place}
 use Rattle.gl_turns.specs.Leaving.{Leaver, modifier_leaves, instance_leaves, leavers, leaver_of, mods_leaving, leaving, leaving_items, leaving_in}
 use Rattle.gl_turns.proofs.Agrees.{SameScope, slots_in, same_in, same_slots, same_writer, same_named, locals_passed}
 
@@ -173,8 +173,8 @@ module _ (app : App) (σ τ : Store) (look : Id → Option Thing) where
         (λ c hi. walked_in m _ (with_locals (bind c.params (eval_all app σ w es)) (writer v)) (with_names (named_as c.params rs) (mwriter (passed_in ms))) (passed_of (writer v)) (slot n ∷ p) 0 c.body ls
         (locals_passed (bind c.params (eval_all app σ w es)) (writer v)) (same_named (mwriter (passed_in ms)) (writer v) (named_as c.params rs) (bind c.params (eval_all app σ w es)) (same_writer (passed_in ms) v sp)) hi.3) h.1 in
         let g1 : Walks (leaving_in (slot n ∷ p) 0 ls) (yields_of app σ (inner m) u n (eval_all app σ w es) p) =
-            subst (λ y. Walks (leaving_in (slot n ∷ p) 0 ls) (yields_of app σ (inner m) y n (eval_all app σ w es) p)) e
-            (subst (Walks (leaving_in (slot n ∷ p) 0 ls)) (sym (yields_by (inner m) v n (eval_all app σ w es) p)) (subst (λ y. Walks (leaving_in (slot n ∷ p) 0 ls) (r.in_block (block_named n y) F)) (sym (same_slots (passed_in ms) v sp)) g)) in
+        subst (λ y. Walks (leaving_in (slot n ∷ p) 0 ls) (yields_of app σ (inner m) y n (eval_all app σ w es) p)) e
+        (subst (Walks (leaving_in (slot n ∷ p) 0 ls)) (sym (yields_by (inner m) v n (eval_all app σ w es) p)) (subst (λ y. Walks (leaving_in (slot n ∷ p) 0 ls) (r.in_block (block_named n y) F)) (sym (same_slots (passed_in ms) v sp)) g)) in
         subst (λ j. Walks (leaving_in (slot j ∷ p) 0 ls) (yields_of app σ (inner m) u n (eval_all app σ w es) p)) (sym h.0) g1
     walked m b w ms u p _ _ e s h = absurd h
 
