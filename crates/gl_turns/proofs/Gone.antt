@@ -1,5 +1,5 @@
 -- An old thing that the new tree counts stands in it where it stood.
-use Rattle.std.proofs.Common.{◌≡◌, ◌<◌, ◌≤◌, ◌+◌, ℕ, suc, List, [], ◌∷◌, ◌++◌, Bool, true, false, Option, Some, None, refl, sym, ap, ap₂, ◌∙◌, subst, arith, inl, inr, ◌⊎◌}
+use Rattle.std.proofs.Common.{◌≡◌, ◌<◌, ◌≤◌, ◌+◌, ℕ, suc, List, [], ◌∷◌, ◌++◌, Bool, true, false, Option, refl, sym, ap, ap₂, ◌∙◌, subst, arith, inl, inr, ◌⊎◌}
 use Rattle.std.proofs.lemmas.Bool.{cases_lt}
 use Rattle.gl_meaning.specs.Path.{at, main, otherwise, items, item, slot, Path}
 use Rattle.gl_meaning.specs.Known.{Among}
@@ -7,8 +7,8 @@ use Rattle.gl_meaning.proofs.Pieces.{among_either, among_left, among_right}
 use Rattle.gl_plain.specs.Ids.{Kind, Id, node, hit, occurs}
 use Rattle.gl_plain.specs.Live
 use Rattle.gl_plain.specs.Live.{AttrSpot, ModSpot, ItemSpot, Live, Lives, Items, item_made, times, times_in, times_items, times_comment, times_attrs, times_mods}
-use Rattle.gl_plain.specs.Keeps.{New, same_key, WhereTrue, EachItem, Keeps, KeepIn, KeptBy, item_count}
-use Rattle.gl_turns.specs.Places.{Place, node_place, position_place, item_place, instance_place, id_of, comment_places, attr_places, mod_places, places, places_items, places_in}
+use Rattle.gl_plain.specs.Keeps.{same_key, WhereTrue, EachItem, Keeps, KeepIn, KeptBy, item_count}
+use Rattle.gl_turns.specs.Places.{Place, node_place, position_place, instance_place, id_of, comment_places, attr_places, mod_places, places, places_items, places_in}
 use Rattle.gl_turns.specs.Fits.{Fits, FitsItems, FitsIn, FitsRoot}
 use Rattle.gl_turns.proofs.Sites.{Counted, body_counted, arm_counted, items_counted}
 use Rattle.gl_turns.proofs.Kept.{item_list}

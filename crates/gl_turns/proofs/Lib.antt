@@ -17,5 +17,9 @@ pub mod LogRenews
 pub mod Tagged
 pub mod Logged
 pub mod Gone
+pub mod Destroyed
+pub mod Walked
+pub mod Ordered
+pub mod Moved
 pub mod Turning
 mod Cases
