@@ -43,3 +43,4 @@ pub mod Makes
 pub mod MarkGrows
 pub mod MarkRenews
 pub mod MarkRoots
+pub mod Given
