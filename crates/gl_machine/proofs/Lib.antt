@@ -44,3 +44,4 @@ pub mod MarkGrows
 pub mod MarkRenews
 pub mod MarkRoots
 pub mod Given
+pub mod Touches
