@@ -46,3 +46,4 @@ pub mod MarkRoots
 pub mod Given
 pub mod Touches
 pub mod TouchedIs
+pub mod Stale
