@@ -1,19 +1,20 @@
 -- What an update touches is what the meaning of a turn says.
-use Rattle.std.specs.Prelude.{◌≡◌, ℕ, false}
+use Rattle.std.specs.Prelude.{◌≡◌, ℕ, false, map, not, ◌||◌}
 use Rattle.gl_base.specs.Texts.{Text}
 use Rattle.gl_meaning.specs.App.{App}
-use Rattle.gl_meaning.specs.Path.{Path}
+use Rattle.gl_meaning.specs.Path.{Path, has_path}
 use Rattle.gl_meaning.specs.Scope.{Source, cell, item_value, item_index}
 use Rattle.gl_meaning.specs.Eval.{Store}
 use Rattle.gl_meaning.specs.Render.{draw}
-use Rattle.gl_meaning.specs.Changes.{Sets, is_set, touched}
+use Rattle.gl_meaning.specs.Changes.{Sets, is_set, touched, positions, stale}
 use Rattle.gl_meaning.specs.Known.{Among}
 use Rattle.gl_plain.specs.Ids.{ref}
 use Rattle.gl_plain.specs.State.{State}
 use Rattle.gl_plain.specs.Live.{Live}
 use Rattle.gl_plain.specs.Renew.{renew_app}
+use Rattle.gl_plain.specs.Counts.{is_due}
 use Rattle.gl_plain.specs.Machine.{StandsFor, OnlyTouched}
-use Rattle.gl_machine.specs.Rows.{a_value, an_index, row_of, page_rows}
+use Rattle.gl_machine.specs.Rows.{a_position, a_value, an_index, row_of, page_rows}
 
 -- Since the machine stood in the state st0, just these sets were laid on: their cells are touched and nothing else, and the items are as they
 -- were.
@@ -29,3 +30,11 @@ abbrev pub TouchedIsTouched : Type 0
 TouchedIsTouched =
     (app : App) (σ τ : Store) (st0 st : State) (l : Live) (sets : Sets) → StandsFor app σ σ st0 l → StandsFor app σ τ st l → OnlyTouched app σ τ st → OnlySet st0 st l sets
     → (x : Source) → (renew_app app τ l st).1.touched x ≡ touched (draw app σ) (draw app τ) sets x
+
+-- And a position of the new tree is due exactly where its place is new, or is stale between the two renderings.
+abbrev pub DueIsStale : Type 0
+DueIsStale =
+    (app : App) (σ τ : Store) (st0 st : State) (l : Live) (sets : Sets) → StandsFor app σ σ st0 l → StandsFor app σ τ st l → OnlyTouched app σ τ st → OnlySet st0 st l sets
+    → let n = renew_app app τ l st in let old = draw app σ in let new = draw app τ in
+    (p : Path) (r : ℕ) → Among (row_of a_position p (ref r)) (page_rows n.0)
+    → is_due st n.1.touched r ≡ (not (has_path p (map (λ q. q.path) (positions old))) || stale old new sets p)
