@@ -29,7 +29,7 @@ use Rattle.gl_machine.proofs.GoneLines.{Tells, root_logged}
 use Rattle.gl_machine.proofs.Freed.{has_row, row_with, Lives_in, inst_freed, body_freed}
 
 -- a path stands in a list
-pub path_among : (p : Path) (ps : List Path) → Among p ps → has_path p ps ≡ true
+path_among : (p : Path) (ps : List Path) → Among p ps → has_path p ps ≡ true
 path_among p [] m = absurd m
 path_among p (q ∷ ps) (inl e) = ap (λ b. b || has_path p ps) (subst (λ z. path_eq p z ≡ true) e (path_itself p))
 path_among p (q ∷ ps) (inr m) = ap (λ b. path_eq p q || b) (path_among p ps m) ∙ or_true (path_eq p q) where
@@ -37,7 +37,7 @@ path_among p (q ∷ ps) (inr m) = ap (λ b. path_eq p q || b) (path_among p ps m
   or_true true = refl
   or_true false = refl
 
-pub among_path : (p : Path) (ps : List Path) → has_path p ps ≡ true → Among p ps
+among_path : (p : Path) (ps : List Path) → has_path p ps ≡ true → Among p ps
 among_path p [] e = absurd (true≢false (sym e))
 among_path p (q ∷ ps) e = by (path_eq p q) refl e (among_path p ps) where
   by : (b : Bool) → path_eq p q ≡ b → (b || has_path p ps) ≡ true → (has_path p ps ≡ true → Among p ps) → Among p (q ∷ ps)
