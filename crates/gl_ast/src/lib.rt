@@ -22,6 +22,3 @@ pub use part::{Args, Argument, AttrValue, Part, Parts};
 pub use stmt::{Block, Body, Slot, Slots, Stmt};
 pub use template::Template;
 pub use token::{Token, TokenKind, Tokens};
-
-#[cfg(test)]
-mod tests;

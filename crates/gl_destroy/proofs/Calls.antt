@@ -1,17 +1,34 @@
 -- The arena and the list of trees are the forest after each call.
-use Rattle.std.proofs.Common.{◌≡◌, ◌≢◌, ℕ, zero, suc, ◌+◌, ◌<◌, ◌≤◌, List, [], ◌∷◌, ◌++◌, map, filter, Option, Some, None, option_map, refl, sym, ap, subst, ◌∙◌, arith, IsSome, get_or}
+use Rattle.std.proofs.Common.{◌≡◌, ℕ, zero, suc, ◌+◌, ◌<◌, ◌≤◌, List, [], ◌∷◌, map, filter, Option, Some, None, option_map, refl, sym, ap, subst, ◌∙◌, arith, IsSome, is_some, get_or, ◌==◌, inl, inr, true, false, Bool}
+use Rattle.std.specs.Prelude.{if◌then◌else◌}
+use Rattle.gl_arena.proofs.Ids.{id_cases}
 use Rattle.gl_arena.specs.Id.{Id}
 use Rattle.gl_arena.specs.Arena.{Arena, named, stamped, IsStamped, Ends}
 use Rattle.gl_destroy.specs.What as w
 use Rattle.gl_destroy.specs.What.{is_logged}
-use Rattle.gl_destroy.specs.Forest.{Forest, end, times, put_last, tree_at, without, children_first, destroy_lines, IsParent, IsSound}
-use Rattle.gl_destroy.specs.Links.{Look, read, size, Linked, forest_in, IsForest, listed_in, ids_with, ended, times_in, tree_in}
+use Rattle.gl_destroy.specs.Forest.{Forest, end, leaf, times, put_last, tree_at, without, children_first, destroy_lines, IsParent, IsSound}
+use Rattle.gl_destroy.specs.Links.{Look, read, size, forest_in, IsForest, listed_in, ids_with, ended, times_in, tree_in}
 use Rattle.gl_destroy.specs.View.{seen_what, seen_pairs, seen_entry, look_in, AddsEntry, IsListed}
 use Rattle.gl_destroy.specs.declared.what.What.{What}
 use Rattle.gl_destroy.specs.declared.entries.Entry.{Entry}
-use Rattle.gl_destroy.proofs.Forests.{times-tree_at, times_in-children_first}
-use Rattle.gl_destroy.proofs.Links.{later, none_some, stands_not, stands_live, Linked-tree_at, put_in, hung, taken_away, tree_in-is}
+use Rattle.gl_destroy.proofs.Forests.{times-tree_at, times_in-children_first, times-parts, times-joined, times-with_least, times-with_new, hit-same}
+use Rattle.gl_destroy.proofs.Links.{later, none_some, stands_not, stands_live, listed-lives, Linked-tree_at, put_in, hung, taken_away, tree_in-is}
 use Rattle.gl_destroy.proofs.Looks.{live_look, put_look, vacant_look, others_look, back_look, times_in-seen}
+
+eqb_zero : (n : ℕ) → (n == 0) ≡ true → n ≡ 0
+eqb_zero n e = grind (arith, e)
+
+listed_in-lives : (parent : Option Id) (x : Id) (m : Look) (i : Id) → is_some (listed_in parent x m i) ≡ is_some (m i)
+listed_in-lives None x m i = refl
+listed_in-lives (Some p) x m i = listed-lives p x m i
+
+times-put_least : (j : Id) (parent : Option Id) (x : Id) (w : w.What) (f : Forest) → times j f ≤ times j (put_last parent x w f)
+times-put_least j None x w f = let t = times-joined j f (leaf x w) in omega (arith, t)
+times-put_least j (Some p) x w f = times-with_least j p (leaf x w) f
+
+times-put_new : (parent : Option Id) (x : Id) (w : w.What) (f : Forest) → IsParent f parent → 0 < times x (put_last parent x w f)
+times-put_new None x w f h = let t = times-joined x f (leaf x w) in let one = hit-same x in omega (arith, t, one)
+times-put_new (Some p) x w f h = times-with_new p x w f h
 
 -- the empty forest
 read-none : (l : Look) (n : ℕ) → read l n [] ≡ end
@@ -56,6 +73,20 @@ module _ (a b : Arena Entry) (ids : List Id) (f : Forest) (parent : Option Id) (
       (subst (λ n. IsForest (listed_in parent x (look_in b)) n ids' (put_last parent x w f)) (sym count)
       (subst (λ is. IsForest (listed_in parent x (look_in b)) (a.made + 1) is (put_last parent x w f)) (sym trees) h))
 
+  pub added_stands : (c : Arena Entry) → ((i : Id) → IsSome (look_in a i) → 0 < times i f) → look_in c ≡ listed_in parent x (look_in b) → IsParent f parent → (i : Id) → IsSome (look_in c i) → 0 < times i (put_last parent x w f)
+  added_stands c stands look is_parent i live =
+      let lives : IsSome (look_in b i) = sym (listed_in-lives parent x (look_in b) i) ∙ (ap (λ l. is_some (l i)) (sym look) ∙ live) in
+      elim (id_cases i x) [
+        | inl e ↦ subst (λ j. 0 < times j (put_last parent x w f)) (sym e) (times-put_new parent x w f is_parent)
+        | inr ne ↦
+            let was = stands i (subst IsSome (others_look a b x w adds i ne) lives) in
+            let least = times-put_least i parent x w f in
+            omega (arith, was, least)
+      ]
+
+  pub undone_stands : (c d : Arena Entry) → ((i : Id) → IsSome (look_in a i) → 0 < times i f) → look_in c ≡ look_in b → Ends c d x → (i : Id) → IsSome (look_in d i) → 0 < times i f
+  undone_stands c d stands look ends i live = stands i (subst (λ l. IsSome (l i)) (back_look a b c d x w adds look ends) live)
+
   -- and given back
   pub undone : (c d : Arena Entry) (ids' : List Id) → look_in c ≡ look_in b → c.made ≡ b.made → Ends c d x → ids' ≡ ids → IsForest (look_in d) d.made ids' f
   undone c d ids' look made ends trees =
@@ -89,6 +120,19 @@ module _ (a : Arena Entry) (ids : List Id) (f : Forest) (x : Id) (order : List (
 
   pub removed : (b : Arena Entry) → ((j : Id) → look_in b j ≡ ended (λ k. times_in k order) (look_in a) j) → b.made ≡ a.made → IsForest (look_in b) b.made ids (without x f)
   removed b now made = subst (λ n. IsForest (look_in b) n ids (without x f)) (sym made) (taken_away (look_in a) (look_in b) a.made ids f x (λ k. times_in k order) is same now)
+
+  pub removed_stands : (b : Arena Entry) → ((i : Id) → IsSome (look_in a i) → 0 < times i f) → ((j : Id) → look_in b j ≡ ended (λ k. times_in k order) (look_in a) j) → (i : Id) → IsSome (look_in b i) → 0 < times i (without x f)
+  unfolding ended
+  removed_stands b stands now i live = by_case (times_in i order == 0) refl (subst IsSome (now i) live)
+    where
+      by_case : (t : Bool) → (times_in i order == 0) ≡ t → IsSome (if t then look_in a i else None) → 0 < times i (without x f)
+      by_case false e h = absurd (let no : false ≡ true = h in cc)
+      by_case true e h =
+          let zero : times_in i order ≡ 0 = eqb_zero (times_in i order) e in
+          let was = stands i h in
+          let parts = times-parts i x f in
+          let off = same i in
+          omega (arith, was, parts, off, zero)
 
 -- the stamps
 pub sound : (a : Arena Entry) (ids : List Id) (f : Forest) → IsForest (look_in a) a.made ids f → IsStamped a → IsSound (record { forest = f; made = a.made })

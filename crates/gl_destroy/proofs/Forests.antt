@@ -1,11 +1,11 @@
 -- Forests: how often an id stands, the tree of an id, and what is left without it.
-use Rattle.std.proofs.Common.{◌≡◌, ◌≢◌, ℕ, zero, suc, ◌+◌, ◌<◌, ◌≤◌, ◌==◌, Bool, true, false, cond, List, [], ◌∷◌, ◌++◌, filter, Option, Some, None, refl, sym, ap, subst, ◌∙◌, inl, inr, arith, append_assoc}
-use Rattle.std.specs.Prelude.{if◌then◌else◌, ◌⊎◌}
-use Rattle.std.proofs.lemmas.Bool.{cases_eq, ne_eqb}
+use Rattle.std.proofs.Common.{◌≡◌, ◌≢◌, ℕ, suc, ◌+◌, ◌<◌, ◌≤◌, ◌==◌, true, false, cond, List, [], ◌∷◌, ◌++◌, filter, refl, sym, ap, subst, ◌∙◌, inl, inr, arith, append_assoc}
+use Rattle.std.specs.Prelude.{if◌then◌else◌}
+use Rattle.std.proofs.lemmas.Bool.{cases_eq, cases_lt, ne_eqb}
 use Rattle.gl_arena.specs.Id.{Id, same_id}
 use Rattle.gl_arena.proofs.Ids.{same_id-refl, same_id-other, id_cases}
 use Rattle.gl_destroy.specs.What.{What}
-use Rattle.gl_destroy.specs.Forest.{Forest, end, tree, joined, leaf, hit, times, with_children, put_last, tree_at, without, children_first}
+use Rattle.gl_destroy.specs.Forest.{Forest, end, tree, joined, leaf, hit, times, with_children, tree_at, without, children_first}
 use Rattle.gl_destroy.specs.Links.{tops, size, times_in}
 
 pub hit-same : (x : Id) → hit x x ≡ 1
@@ -110,6 +110,40 @@ times-tree_at j x f = count-tree_at (times j) (hit j) refl (times-step j) x f
 
 pub size-tree_at : (x : Id) (f : Forest) → size (tree_at x f) ≤ size f
 size-tree_at x f = count-tree_at size (λ _. 1) refl size-step x f
+
+-- At the least.
+
+pub times-with_least : (j p : Id) (g f : Forest) → times j f ≤ times j (with_children p g f)
+times-with_least j p g end = omega arith
+times-with_least j p g (tree i w k r) =
+    let K = with_children p g k in
+    let more = times-joined j K (if same_id i p then g else end) in
+    omega (arith, more, times-with_least j p g k, times-with_least j p g r)
+
+pub times-with_new : (p x : Id) (w : What) (f : Forest) → 0 < times p f → 0 < times x (with_children p (leaf x w) f)
+times-with_new p x w end lt = absurd (omega (arith, lt))
+times-with_new p x w (tree i v k r) lt =
+    let K = with_children p (leaf x w) k in
+    let more = times-joined x K (if same_id i p then leaf x w else end) in
+    elim (id_cases p i) [
+      | inl e ↦
+          let one = hit-same x in
+          let at : times x (if same_id i p then leaf x w else end) ≡ times x (leaf x w) = ap (λ b. times x (if b then leaf x w else end)) (ap (λ j. same_id j p) (sym e) ∙ same_id-refl p) in
+          omega (arith, more, at, one)
+      | inr ne ↦
+          let off = hit-other p i ne in
+          elim (cases_lt 0 (times p k)) [
+            | inl a ↦ let h = times-with_new p x w k a in omega (arith, more, h)
+            | inr b ↦ let h = times-with_new p x w r (omega (arith, lt, off, b)) in omega (arith, h)
+          ]
+    ]
+
+pub times-parts : (j x : Id) (f : Forest) → times j f ≤ times j (without x f) + times j (tree_at x f)
+times-parts j x end = omega arith
+times-parts j x (tree i w k r) = elim (same_id i x) as (λ b. times j (tree i w k r) ≤ times j (if b then without x r else tree i w (without x k) (without x r)) + times j (if b then tree i w k (tree_at x r) else joined (tree_at x k) (tree_at x r))) [
+  | true ↦ omega (arith, times-parts j x r)
+  | false ↦ let t = times-joined j (tree_at x k) (tree_at x r) in omega (arith, times-parts j x k, times-parts j x r, t)
+]
 
 -- the trees themselves
 pub tops-joined : (f g : Forest) → tops (joined f g) ≡ tops f ++ tops g

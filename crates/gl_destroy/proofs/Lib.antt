@@ -2,3 +2,4 @@ pub mod Forests
 pub mod Links
 pub mod Looks
 pub mod Calls
+pub mod Thinning

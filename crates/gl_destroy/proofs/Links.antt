@@ -5,11 +5,11 @@ use Rattle.std.proofs.lemmas.List.{reverse-append, map-append}
 use Rattle.std.proofs.lemmas.Grind.{reverse_onto}
 use Rattle.std.proofs.lemmas.List.Elements.{filter-append}
 use Rattle.gl_arena.specs.Id.{Id, same_id}
-use Rattle.gl_arena.proofs.Ids.{same_id-refl, same_id-other, id_cases}
+use Rattle.gl_arena.proofs.Ids.{same_id-other, id_cases}
 use Rattle.gl_destroy.specs.What.{What}
-use Rattle.gl_destroy.specs.Forest.{Forest, end, tree, joined, leaf, hit, times, with_children, put_last, tree_at, without, children_first, IsParent}
-use Rattle.gl_destroy.specs.Links.{Look, living, tops, size, AreGiven, Shows, Linked, read, read_at, forest_in, IsForest, one_if, more_children, listed, listed_in, ids_with, ended, tree_in, IsTree, IsLeft}
-use Rattle.gl_destroy.proofs.Forests.{hit-same, hit-other, hit-is, times-joined, size-joined, times-with, size-with, times-without, size-without, size-tree_at, tops-joined, tops-with, children_first-joined, cut_last, tops-tree_at, pruned, remaining, tops-pruned, pruned-without}
+use Rattle.gl_destroy.specs.Forest.{Forest, end, tree, joined, leaf, times, with_children, put_last, tree_at, without, children_first, IsParent}
+use Rattle.gl_destroy.specs.Links.{Look, living, tops, size, AreGiven, Linked, read, read_at, forest_in, IsForest, IsWhole, one_if, more_children, listed, listed_in, ids_with, ended, tree_in, IsTree, IsLeft}
+use Rattle.gl_destroy.proofs.Forests.{hit-other, hit-is, times-joined, size-joined, times-with, size-with, times-without, size-without, size-tree_at, tops-joined, tops-with, children_first-joined, cut_last, tops-tree_at, pruned, remaining, tops-pruned, pruned-without}
 
 -- the forest is read back
 pub read-is : (l : Look) (n : ℕ) (f : Forest) → size f ≤ n → Linked l f → read l n (tops f) ≡ f
@@ -27,6 +27,9 @@ shown l made ids f is = ap (read l made) is.heads ∙ read-is l made f is.fits i
 
 pub kept : (l : Look) (made : ℕ) (ids : List Id) (f : Forest) → IsForest l made ids f → IsForest l made ids (forest_in l made ids)
 kept l made ids f is = subst (IsForest l made ids) (sym (shown l made ids f is)) is
+
+pub whole : (l : Look) (made : ℕ) (ids : List Id) (f : Forest) → IsForest l made ids f → ((i : Id) → IsSome (l i) → 0 < times i f) → IsWhole l made ids (forest_in l made ids)
+whole l made ids f is stands = subst (IsWhole l made ids) (sym (shown l made ids f is)) (record { forest = is; stands = stands })
 
 -- Ids that were given.
 
@@ -125,7 +128,7 @@ pub listed-at : (p x : Id) (m : Look) (i : Id) (w : What) (cs : List Id) → m i
 unfolding listed
 listed-at p x m i w cs e = ap (option_map (more_children (one_if i p x))) e
 
-listed-lives : (p x : Id) (m : Look) (i : Id) → is_some (listed p x m i) ≡ is_some (m i)
+pub listed-lives : (p x : Id) (m : Look) (i : Id) → is_some (listed p x m i) ≡ is_some (m i)
 unfolding listed
 listed-lives p x m i = elim (m i) as (λ o. is_some (option_map (more_children (one_if i p x)) o) ≡ is_some o) [ None ↦ refl | Some e ↦ refl ]
 

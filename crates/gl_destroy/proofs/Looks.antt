@@ -1,8 +1,8 @@
 -- The look-up of an arena, after each of its calls.
-use Rattle.std.proofs.Common.{◌≡◌, ◌≢◌, ℕ, suc, ◌+◌, ◌<◌, ◌≤◌, ◌==◌, Bool, true, false, List, [], ◌∷◌, ◌++◌, map, Option, Some, None, option_map, Result, Ok, Err, IfOk, OnErr, refl, sym, ap, subst, ◌∙◌, inl, inr, arith, IsSome, append-nil, length, get_or, drop, add-one, drop-cons}
+use Rattle.std.proofs.Common.{◌≡◌, ◌≢◌, ℕ, suc, ◌+◌, ◌<◌, ◌≤◌, ◌==◌, Bool, true, false, List, [], ◌∷◌, ◌++◌, Option, Some, None, option_map, Result, Ok, Err, IfOk, OnErr, refl, sym, ap, subst, ◌∙◌, inl, inr, arith, IsSome, append-nil, length, get_or, drop, add-one, drop-cons}
 use Rattle.std.specs.Prelude.{if◌then◌else◌, is_some}
 use Rattle.std.proofs.lemmas.Bool.{ne_eqb}
-use Rattle.gl_arena.specs.Id.{Id, same_id}
+use Rattle.gl_arena.specs.Id.{Id}
 use Rattle.gl_arena.specs.Arena.{Arena, named, with_value, Gives, Ends}
 use Rattle.gl_arena.proofs.Ids.{same_id-refl, same_id-other, id_cases}
 use Rattle.gl_arena.proofs.Values.{with_value-writes}
@@ -21,10 +21,17 @@ live_look a i h = by_case (named a i) h
     by_case None h = h
     by_case (Some e) h = refl
 
+pub look_live : (a : Arena Entry) (i : Id) → IsSome (named a i) → IsSome (look_in a i)
+look_live a i h = by_case (named a i) h
+  where
+    by_case : (o : Option Entry) → IsSome o → IsSome (option_map seen_entry o)
+    by_case None h = h
+    by_case (Some e) h = refl
+
 pub put_look : (a b : Arena Entry) (i : Id) (w : w.What) → AddsEntry a b i w → look_in b i ≡ Some (w, [])
 put_look a b i w h =
     ap (option_map seen_entry) h.gives.given
-    ∙ (ap (λ v. Some (v, h.entry.children.items)) h.names ∙ ap (λ cs. Some (w, cs)) h.bare)
+    ∙ (ap (λ v. Some (v, h.entry.children.list.items)) h.names ∙ ap (λ cs. Some (w, cs)) h.bare)
 
 pub vacant_look : (a b : Arena Entry) (i : Id) (w : w.What) → AddsEntry a b i w → look_in a i ≡ None
 vacant_look a b i w h = ap (option_map seen_entry) h.gives.vacant
@@ -33,7 +40,7 @@ pub others_look : (a b : Arena Entry) (i : Id) (w : w.What) → AddsEntry a b i 
 others_look a b i w h k ne = ap (option_map seen_entry) (h.gives.others k ne)
 
 -- one more child of a live id
-pub listed_look : (a : Arena Entry) (p x : Id) (e f : Entry) → named a p ≡ Some e → f.what ≡ e.what → f.children.items ≡ e.children.items ++ x ∷ [] → look_in (with_value a p f) ≡ listed p x (look_in a)
+pub listed_look : (a : Arena Entry) (p x : Id) (e f : Entry) → named a p ≡ Some e → f.what ≡ e.what → f.children.list.items ≡ e.children.list.items ++ x ∷ [] → look_in (with_value a p f) ≡ listed p x (look_in a)
 unfolding listed
 listed_look a p x e f is what kids = λ t i. at i t
   where
@@ -47,11 +54,11 @@ listed_look a p x e f is what kids = λ t i. at i t
           | inl q ↦
               ap (look_in (with_value a p f)) q
               ∙ (ap (option_map seen_entry) w.given
-              ∙ (ap (λ v. Some (seen_what v, f.children.items)) what
+              ∙ (ap (λ v. Some (seen_what v, f.children.list.items)) what
               ∙ (ap (λ cs. Some (seen_what e.what, cs)) kids
               ∙ sym (ap (listed p x (look_in a)) q
               ∙ (ap (λ o. option_map (more_children (one_if p p x)) (option_map seen_entry o)) is
-              ∙ ap (λ b. Some (seen_what e.what, e.children.items ++ (if b then x ∷ [] else []))) (same_id-refl p))))))
+              ∙ ap (λ b. Some (seen_what e.what, e.children.list.items ++ (if b then x ∷ [] else []))) (same_id-refl p))))))
           | inr ne ↦
               ap (option_map seen_entry) (w.others i ne)
               ∙ sym (ap (λ b. option_map (more_children (if b then x ∷ [] else [])) (look_in a i)) (same_id-other i p ne) ∙ no_more (look_in a i))
@@ -61,7 +68,7 @@ listed_look a p x e f is what kids = λ t i. at i t
         no_more None = refl
         no_more (Some v) = ap (λ cs. Some (v.0, cs)) (append-nil v.1)
 
-pub same_look : (a : Arena Entry) (p : Id) (e f : Entry) → named a p ≡ Some e → f.what ≡ e.what → f.children.items ≡ e.children.items → look_in (with_value a p f) ≡ look_in a
+pub same_look : (a : Arena Entry) (p : Id) (e f : Entry) → named a p ≡ Some e → f.what ≡ e.what → f.children.list.items ≡ e.children.list.items → look_in (with_value a p f) ≡ look_in a
 same_look a p e f is what kids = λ t i. at i t
   where
     at : (i : Id) → look_in (with_value a p f) i ≡ look_in a i
@@ -71,7 +78,7 @@ same_look a p e f is what kids = λ t i. at i t
           | inl q ↦
               ap (look_in (with_value a p f)) q
               ∙ (ap (option_map seen_entry) w.given
-              ∙ (ap (λ v. Some (seen_what v, f.children.items)) what
+              ∙ (ap (λ v. Some (seen_what v, f.children.list.items)) what
               ∙ (ap (λ cs. Some (seen_what e.what, cs)) kids ∙ sym (ap (look_in a) q ∙ ap (option_map seen_entry) is))))
           | inr ne ↦ ap (option_map seen_entry) (w.others i ne)
         ]
@@ -80,7 +87,7 @@ pub on_err : {T E P : Type 0} (r : Result T E) → P → OnErr r P
 on_err (Ok v) p = tt
 on_err (Err e) p = p
 
-pub put_adds : {E : Type 0} (r : Result Id E) (a b : Arena Entry) (e : Entry) → e.children.items ≡ [] → IfOk r (λ i. Gives a b i e) → IfOk r (λ i. AddsEntry a b i (seen_what e.what))
+pub put_adds : {E : Type 0} (r : Result Id E) (a b : Arena Entry) (e : Entry) → e.children.list.items ≡ [] → IfOk r (λ i. Gives a b i e) → IfOk r (λ i. AddsEntry a b i (seen_what e.what))
 put_adds (Ok i) a b e bare g = record { entry = e; gives = g; names = refl; bare = bare }
 put_adds (Err x) a b e bare g = g
 

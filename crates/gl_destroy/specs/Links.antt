@@ -1,5 +1,5 @@
 -- The lists of children, and when they are a forest. Words of private clauses.
-use Rattle.std.specs.Prelude.{◌≡◌, ℕ, zero, suc, ◌+◌, ◌<◌, ◌≤◌, ◌==◌, List, [], ◌∷◌, ◌++◌, filter, reverse, is_some, Option, Some, None, option_map, if◌then◌else◌}
+use Rattle.std.specs.Prelude.{◌≡◌, ℕ, zero, suc, ◌+◌, ◌<◌, ◌≤◌, ◌==◌, List, [], ◌∷◌, ◌++◌, filter, reverse, is_some, IsSome, Option, Some, None, option_map, if◌then◌else◌, ◌⊎◌}
 use Rattle.gl_arena.specs.Id.{Id, same_id}
 use Rattle.gl_destroy.specs.What.{What}
 use Rattle.gl_destroy.specs.Forest.{Forest, end, tree, hit, times, children_first}
@@ -60,6 +60,11 @@ pub record IsForest (l : Look) (made : ℕ) (ids : List Id) (f : Forest) : Type 
   pub given : AreGiven made ids
   pub lists : (i : Id) (w : What) (cs : List Id) → l i ≡ Some (w, cs) → AreGiven made cs
 
+-- and what lives stands in the forest
+pub record IsWhole (l : Look) (made : ℕ) (ids : List Id) (f : Forest) : Type 0 where
+  pub forest : IsForest l made ids f
+  pub stands : (i : Id) → IsSome (l i) → 0 < times i f
+
 -- one more in the list of children of a parent
 abbrev pub one_if : Id → Id → Id → List Id
 one_if i p x = if same_id i p then x ∷ [] else []
@@ -78,6 +83,17 @@ listed_in (Some p) x l = listed p x l
 abbrev pub ids_with : Option Id → Id → List Id → List Id
 ids_with None x ids = ids ++ x ∷ []
 ids_with (Some p) x ids = ids
+
+-- the list of an id has lost those that live no more
+pub record Lost (old new : Look) (i : Id) : Type 0 where
+  pub what : What
+  pub ids : List Id
+  pub was : old i ≡ Some (what, ids)
+  pub is : new i ≡ Some (what, living old ids)
+
+-- some lists have lost those that live no more
+abbrev pub IsThinned : Look → Look → Type 0
+IsThinned old new = (i : Id) → (new i ≡ old i) ⊎ Lost old new i
 
 -- how often an id stands in a list
 abbrev pub times_in : {A : Type 0} → Id → List (Id × A) → ℕ

@@ -1,5 +1,5 @@
 -- What the code's destroyables and logs stand for.
-use Rattle.std.specs.Prelude.{◌≡◌, ℕ, List, [], map, Option, Some, None, option_map, IsSome}
+use Rattle.std.specs.Prelude.{◌≡◌, List, [], map, Option, Some, None, option_map, IsSome}
 use Rattle.gl_arena.specs.Id.{Id}
 use Rattle.gl_arena.specs.Arena.{Arena, named, Gives}
 use Rattle.gl_destroy.specs.What as w
@@ -20,7 +20,7 @@ abbrev pub seen_pairs : List (Id × What) → List (Id × w.What)
 seen_pairs es = map seen_pair es
 
 abbrev pub seen_entry : Entry → w.What × List Id
-seen_entry e = (seen_what e.what, e.children.items)
+seen_entry e = (seen_what e.what, e.children.list.items)
 
 abbrev pub look_in : Arena Entry → Look
 look_in a i = option_map seen_entry (named a i)
@@ -30,7 +30,7 @@ pub record AddsEntry (old new : Arena Entry) (i : Id) (w : w.What) : Type 0 wher
   pub entry : Entry
   pub gives : Gives old new i entry
   pub names : seen_what entry.what ≡ w
-  pub bare : entry.children.items ≡ []
+  pub bare : entry.children.list.items ≡ []
 
 -- the list of a live id, or that of the trees themselves
 abbrev pub IsListed : Look → Option Id → Type 0

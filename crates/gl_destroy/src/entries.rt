@@ -5,14 +5,15 @@ ghost use Rattle.gl_destroy.specs.Links.{listed, listed_in, ids_with};
 ghost use Rattle.gl_destroy.specs.View.{seen_what, look_in, AddsEntry, IsListed};
 
 use crate::What;
+use crate::siblings::Siblings;
 use gl_arena::{Arena, DestroyId, DestroyMark};
 use std::alloc::{AllocError, Global};
 
-// What an id stands for, with its children in order. Those that were destroyed stay in the list: the arena tells which live.
+// What an id stands for, with its children in order.
 #[derive(Drop)]
 pub(crate) struct Entry {
     pub(crate) what: What,
-    pub(crate) children: Vec<DestroyId>,
+    pub(crate) children: Siblings,
 }
 
 pub(crate) type Entries = Arena<Entry, DestroyMark>;
@@ -36,7 +37,7 @@ pub(crate) fn insert_entry(
     ensures ok { IfOk result (λ id. AddsEntry entries.old entries.new id (seen_what what)) }
     ensures err { OnErr result (entries.new ≡ entries.old) }
 {
-    let children = Vec::new(alloc);
+    let children = Siblings::new(alloc);
     put(entries, Entry { what, children })
 }
 
@@ -47,27 +48,27 @@ fn push_child(entries: &mut Entries, parent: DestroyId, id: DestroyId) -> Result
     ensures err { OnErr result (look_in entries.new ≡ look_in entries.old) }
     ensures made { entries.new.made ≡ entries.old.made }
 {
-    entries.get_mut(parent).children.push(id)?;
+    entries.get_mut(parent).children.list.push(id)?;
     Ok(())
 }
 
 // Puts an id at the end of the children of a parent, or of the trees themselves.
 pub(crate) fn hang(
     entries: &mut Entries,
-    trees: &mut Vec<DestroyId>,
+    trees: &mut Siblings,
     parent: Option<DestroyId>,
     id: DestroyId,
 ) -> Result<(), AllocError>
     requires { IsListed (look_in entries.old) parent }
     ensures ok { OnOk result (look_in entries.new ≡ listed_in parent id (look_in entries.old)) }
-    ensures trees { OnOk result (trees.new.items ≡ ids_with parent id trees.old.items) }
+    ensures trees { OnOk result (trees.new.list.items ≡ ids_with parent id trees.old.list.items) }
     ensures err { OnErr result (look_in entries.new ≡ look_in entries.old) }
-    ensures kept { OnErr result (trees.new.items ≡ trees.old.items) }
+    ensures kept { OnErr result (trees.new.list.items ≡ trees.old.list.items) }
     ensures made { entries.new.made ≡ entries.old.made }
 {
     match parent {
         None => {
-            trees.push(id)?;
+            trees.list.push(id)?;
             Ok(())
         }
         Some(parent) => push_child(entries, parent, id),

@@ -1,10 +1,11 @@
 // The forest, and its calls.
-ghost use Rattle.std.specs.Prelude.{◌≡◌, ◌<◌, ◌++◌, IfOk, OnOk, OnErr};
+ghost use Rattle.std.specs.Prelude.{◌≡◌, ◌<◌, ◌++◌, ◌↔◌, IsTrue, IfOk, OnOk, OnErr};
 ghost use Rattle.gl_destroy.specs.Forest as f;
 ghost use Rattle.gl_destroy.specs.Forest.{times, IsParent, Adds, IsSound, tree_at, without, destroy_lines};
 ghost use Rattle.gl_destroy.specs.View.{seen_what};
 
 use crate::entries::{Entries, hang, insert_entry};
+use crate::siblings::{Siblings, thin_children, thin_trees};
 use crate::walk::{end_all, parents_first};
 use crate::{Log, What};
 use gl_arena::{Arena, DestroyId};
@@ -17,21 +18,21 @@ use std::marker::Model;
 pub struct Destroyables {
     alloc: Global,
     entries: Entries,
-    trees: Vec<DestroyId>,
+    trees: Siblings,
 }
 
 impl Model for Destroyables {
     ghost use Rattle.gl_destroy.specs.Forest.{Destroyables as Seen, destroyables_code};
-    ghost use Rattle.gl_destroy.specs.Links.{forest_in, IsForest};
+    ghost use Rattle.gl_destroy.specs.Links.{forest_in, IsWhole};
     ghost use Rattle.gl_destroy.specs.View.{look_in};
 
     ghost Value = { Seen };
 
     ghost coded = { destroyables_code };
 
-    ghost view = { λ d. record { forest = forest_in (look_in d.entries) d.entries.made d.trees.items; made = d.entries.made } };
+    ghost view = { λ d. record { forest = forest_in (look_in d.entries) d.entries.made d.trees.list.items; made = d.entries.made } };
 
-    ghost invariant = { λ d. IsForest (look_in d.entries) d.entries.made d.trees.items (forest_in (look_in d.entries) d.entries.made d.trees.items) };
+    ghost invariant = { λ d. IsWhole (look_in d.entries) d.entries.made d.trees.list.items (forest_in (look_in d.entries) d.entries.made d.trees.list.items) };
 }
 
 impl Destroyables {
@@ -43,13 +44,34 @@ impl Destroyables {
         Ok(Destroyables {
             alloc,
             entries: Arena::new(alloc)?,
-            trees: Vec::new(alloc),
+            trees: Siblings::new(alloc),
         })
     }
 
     /// Adds one as the last child of a parent, or as the last tree, under an id that was never given before. Where there
     /// is no memory the forest stays as it was, and an id may have been given in vain.
     pub fn add(&mut self, parent: Option<DestroyId>, what: What) -> Result<DestroyId, AllocError>
+        requires { IsParent self.old.forest parent }
+        ensures ok { IfOk result (λ id. Adds self.old self.new parent id (seen_what what)) }
+        ensures err { OnErr result (self.new.forest ≡ self.old.forest) }
+    {
+        self.thin(&parent)?;
+        self.put_last(parent, what)
+    }
+
+    // Drops those from the list of a parent, or of the trees, that live no more, where it is time.
+    fn thin(&mut self, parent: &Option<DestroyId>) -> Result<(), AllocError>
+        requires { IsParent self.old.forest parent.now }
+        ensures { self.new ≡ self.old }
+    {
+        match parent {
+            None => thin_trees(&self.entries, self.alloc, &mut self.trees),
+            Some(parent) => thin_children(&mut self.entries, self.alloc, *parent),
+        }
+    }
+
+    // Puts one at the end of the children of a parent, or of the trees.
+    fn put_last(&mut self, parent: Option<DestroyId>, what: What) -> Result<DestroyId, AllocError>
         requires { IsParent self.old.forest parent }
         ensures ok { IfOk result (λ id. Adds self.old self.new parent id (seen_what what)) }
         ensures err { OnErr result (self.new.forest ≡ self.old.forest) }
@@ -62,6 +84,13 @@ impl Destroyables {
                 Err(error)
             }
         }
+    }
+
+    /// Whether an id stands in the forest.
+    pub fn live(&self, id: DestroyId) -> bool
+        ensures { IsTrue result ↔ (0 < times id self.now.forest) }
+    {
+        self.entries.live(id)
     }
 
     /// Takes the tree of an id away, and adds to a log what it tells of it, children first. Where there is no memory the

@@ -5,6 +5,9 @@
 mod entries;
 mod forest;
 mod log;
+mod siblings;
+#[cfg(test)]
+mod tests;
 mod walk;
 mod what;
 

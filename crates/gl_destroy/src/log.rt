@@ -50,7 +50,11 @@ impl Log {
         ensures err { OnErr result (self.new ≡ self.old) }
     {
         let lines = lines_of(*self.list.allocator(), order)?;
-        self.list.extend_from_slice(lines.as_slice())?;
+        if self.list.is_empty() {
+            self.list = lines;
+        } else {
+            self.list.extend_from_slice(lines.as_slice())?;
+        }
         Ok(())
     }
 }
@@ -58,7 +62,7 @@ impl Log {
 fn lines_of(alloc: Global, order: &[(DestroyId, What)]) -> Result<Vec<What>, AllocError>
     ensures { IfOk result (λ v. map seen_what v.items ≡ filter is_logged (map (λ e. seen_what e.1) order.now)) }
 {
-    let mut lines = Vec::new(alloc);
+    let mut lines = Vec::with_capacity(alloc, order.len())?;
     for entry in order {
         if entry.1.is_logged() {
             lines.push(entry.1)?;

@@ -11,7 +11,7 @@ use gl_arena::DestroyId;
 use std::alloc::{AllocError, Global};
 
 // Puts those of some ids that live on a stack.
-fn push_living(
+pub(crate) fn push_living(
     entries: &Entries,
     stack: &mut Vec<DestroyId>,
     ids: &[DestroyId],
@@ -42,7 +42,7 @@ pub(crate) fn parents_first(
     while let Some(at) = stack.pop() {
         let entry = entries.get(at);
         order.push((at, entry.what))?;
-        push_living(entries, &mut stack, entry.children.as_slice())?;
+        push_living(entries, &mut stack, entry.children.list.as_slice())?;
     }
     Ok(order)
 }

@@ -16,6 +16,3 @@ mod texts;
 mod wording;
 
 pub use calls::call;
-
-#[cfg(test)]
-mod tests;

@@ -11,8 +11,6 @@ mod modes;
 mod pieces;
 mod scan;
 mod sign;
-#[cfg(test)]
-mod tests;
 mod words;
 
 pub use fault::LexFault;

@@ -7,7 +7,7 @@ use Rattle.gl_outside.specs.Shelf.{Entry, Reads, IsAbsent, file_of}
 use Rattle.gl_load.specs.Load.{kept}
 use Rattle.gl_load.specs.Refusal.{absent, too_long}
 
-short_kept : (limit : ℕ) (bytes : List ℕ) → length bytes ≤ limit → kept limit (Some bytes) ≡ Ok bytes
+pub short_kept : (limit : ℕ) (bytes : List ℕ) → length bytes ≤ limit → kept limit (Some bytes) ≡ Ok bytes
 short_kept limit bytes h = let t : leb (length bytes) limit ≡ true = grind (arith, nat_tests) in rw t refl
 
 long_kept : (limit : ℕ) (bytes : List ℕ) → limit < length bytes → kept limit (Some bytes) ≡ Err too_long

@@ -1,6 +1,7 @@
 pub mod Adding
 pub mod Faults
 pub mod Fetch
+pub mod IsLoaded
 pub mod Linked
 pub mod ManifestSpelled
 pub mod Spelled

@@ -1,4 +1,5 @@
 pub mod Adds
+pub mod IsLoaded
 pub mod Load
 pub mod Loads
 pub mod Names

@@ -8,6 +8,7 @@ mod events;
 mod exprs;
 mod fault;
 mod file;
+pub mod laws;
 mod programs;
 mod templates;
 mod whole;
@@ -17,10 +18,3 @@ pub use fault::{LoadCause, LoadFault, fault_in};
 pub use file::template_in;
 pub use templates::Templates;
 pub use whole::{Loaded, load};
-
-#[cfg(test)]
-mod program_tests;
-#[cfg(test)]
-mod tests;
-#[cfg(test)]
-mod wire_tests;

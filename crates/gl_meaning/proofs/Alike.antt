@@ -22,6 +22,11 @@ abbrev pub read_pairs : Render.Piece → Option (List Scope.Pair)
 read_pairs (Render.position i vs) = Some vs
 read_pairs _ = None
 
+-- the scope of a component's template
+abbrev pub read_scope : Render.Piece → Option Scope.Scope
+read_scope (Render.component i s f) = Some s
+read_scope _ = None
+
 abbrev pub KindsAgree : Option NodeKind → Option NodeKind → Type 0
 KindsAgree None y = Unit {0}
 KindsAgree (Some a) None = Unit {0}
@@ -49,8 +54,17 @@ module _ (U : Scope.Source → Type 0) where
   pairs-right None = tt
   pairs-right (Some vs) = tt
 
+  abbrev pub ScopesAgree : Option Scope.Scope → Option Scope.Scope → Type 0
+  ScopesAgree None y = Unit {0}
+  ScopesAgree (Some v) None = Unit {0}
+  ScopesAgree (Some v) (Some w) = Frame.KeepsScope U v w
+
+  scopes-right : (x : Option Scope.Scope) → ScopesAgree x None
+  scopes-right None = tt
+  scopes-right (Some v) = tt
+
   abbrev pub Related : Render.Piece → Render.Piece → Type 0
-  Related x y = Changes.piece_path x ≡ Changes.piece_path y → KindsAgree (node_kind x) (node_kind y) × PairsAgree (read_pairs x) (read_pairs y)
+  Related x y = Changes.piece_path x ≡ Changes.piece_path y → KindsAgree (node_kind x) (node_kind y) × PairsAgree (read_pairs x) (read_pairs y) × ScopesAgree (read_scope x) (read_scope y)
 
   -- an item that persists with its value and index untouched has them still
   abbrev pub ItemsKeep : Render.Piece → Render.Piece → Type 0
@@ -66,19 +80,26 @@ module _ (U : Scope.Source → Type 0) where
   related-by : {x y a b : Render.Piece} → x ≡ a → y ≡ b → Related a b → Related x y
   related-by {x} {y} {a} {b} q o h = subst (λ z. Related z y) (sym q) (subst (λ z. Related a z) (sym o) h)
 
-  -- what is neither a node nor a position is related to all
-  mark-left : (x y a : Render.Piece) → x ≡ a → node_kind a ≡ None → read_pairs a ≡ None → Related x y
-  mark-left x y a q n o e = (subst (λ z. KindsAgree z (node_kind y)) (sym (ap node_kind q ∙ n)) tt, subst (λ z. PairsAgree z (read_pairs y)) (sym (ap read_pairs q ∙ o)) tt)
+  -- what is neither a node, nor a position, nor a component is related to all
+  mark-left : (x y a : Render.Piece) → x ≡ a → node_kind a ≡ None → read_pairs a ≡ None → read_scope a ≡ None → Related x y
+  mark-left x y a q n o c e =
+      (subst (λ z. KindsAgree z (node_kind y)) (sym (ap node_kind q ∙ n)) tt, subst (λ z. PairsAgree z (read_pairs y)) (sym (ap read_pairs q ∙ o)) tt, subst (λ z. ScopesAgree z (read_scope y)) (sym (ap read_scope q ∙ c)) tt)
 
-  mark-right : (x y a : Render.Piece) → y ≡ a → node_kind a ≡ None → read_pairs a ≡ None → Related x y
-  mark-right x y a q n o e = (subst (λ z. KindsAgree (node_kind x) z) (sym (ap node_kind q ∙ n)) (kinds-right (node_kind x)), subst (λ z. PairsAgree (read_pairs x) z) (sym (ap read_pairs q ∙ o)) (pairs-right (read_pairs x)))
+  mark-right : (x y a : Render.Piece) → y ≡ a → node_kind a ≡ None → read_pairs a ≡ None → read_scope a ≡ None → Related x y
+  mark-right x y a q n o c e = (
+    subst (λ z. KindsAgree (node_kind x) z) (sym (ap node_kind q ∙ n)) (kinds-right (node_kind x)),
+    subst (λ z. PairsAgree (read_pairs x) z) (sym (ap read_pairs q ∙ o)) (pairs-right (read_pairs x)),
+    subst (λ z. ScopesAgree (read_scope x) z) (sym (ap read_scope q ∙ c)) (scopes-right (read_scope x)),
+  )
 
   -- a position, beside what isn't one
-  position-left : (x y a b : Render.Piece) → x ≡ a → y ≡ b → node_kind a ≡ None → read_pairs b ≡ None → Related x y
-  position-left x y a b q o n e = related-by q o (λ _. (subst (λ z. KindsAgree z (node_kind b)) (sym n) tt, subst (λ z. PairsAgree (read_pairs a) z) (sym e) (pairs-right (read_pairs a))))
+  position-left : (x y a b : Render.Piece) → x ≡ a → y ≡ b → node_kind a ≡ None → read_pairs b ≡ None → read_scope a ≡ None → Related x y
+  position-left x y a b q o n e c =
+      related-by q o (λ _. (subst (λ z. KindsAgree z (node_kind b)) (sym n) tt, subst (λ z. PairsAgree (read_pairs a) z) (sym e) (pairs-right (read_pairs a)), subst (λ z. ScopesAgree z (read_scope b)) (sym c) tt))
 
-  position-right : (x y a b : Render.Piece) → x ≡ a → y ≡ b → read_pairs a ≡ None → node_kind b ≡ None → Related x y
-  position-right x y a b q o n e = related-by q o (λ _. (subst (λ z. KindsAgree (node_kind a) z) (sym e) (kinds-right (node_kind a)), subst (λ z. PairsAgree z (read_pairs b)) (sym n) tt))
+  position-right : (x y a b : Render.Piece) → x ≡ a → y ≡ b → read_pairs a ≡ None → node_kind b ≡ None → read_scope a ≡ None → Related x y
+  position-right x y a b q o n e c =
+      related-by q o (λ _. (subst (λ z. KindsAgree (node_kind a) z) (sym e) (kinds-right (node_kind a)), subst (λ z. PairsAgree z (read_pairs b)) (sym n) tt, subst (λ z. ScopesAgree z (read_scope b)) (sym c) tt))
 
   alike-apart : (f g : Render.Forest) → Apart f g → Alike f g
   alike-apart f g a h x y m n q = absurd (a x y m n q)
@@ -107,12 +128,12 @@ module _ (U : Scope.Source → Type 0) where
   alike-comment i f g h u w items x y m n =
       elim (in_comment x i f m) [
         | inl m1 ↦ elim (in_comment y i g n) [ inl n1 ↦ h (λ z v o l. items z v (in_left z f _ o) (in_left v g _ l)) x y m1 n1 | inr q ↦ λ o. absurd (not-empty i f u x m1 (o ∙ ap Changes.piece_path q)) ]
-        | inr q ↦ elim (in_comment y i g n) [ inl n1 ↦ λ o. absurd (not-empty i g w y n1 (sym o ∙ ap Changes.piece_path q)) | inr o ↦ related-by q o (λ _. (refl, tt)) ]
+        | inr q ↦ elim (in_comment y i g n) [ inl n1 ↦ λ o. absurd (not-empty i g w y n1 (sym o ∙ ap Changes.piece_path q)) | inr o ↦ related-by q o (λ _. (refl, tt, tt)) ]
       ]
 
   alike-region : (i : Path.Path) (f g : Render.Forest) → Alike f g → AllFrom i f → AllFrom i g → Alike (Render.region_at i f) (Render.region_at i g)
-  alike-region i f g h u w items x y (inl (inl q)) n = mark-left x y _ q refl refl
-  alike-region i f g h u w items x y (inl (inr m)) (inl (inl q)) = mark-right x y _ q refl refl
+  alike-region i f g h u w items x y (inl (inl q)) n = mark-left x y _ q refl refl refl
+  alike-region i f g h u w items x y (inl (inr m)) (inl (inl q)) = mark-right x y _ q refl refl refl
   alike-region i f g h u w items x y (inl (inr m)) (inl (inr n)) = alike-comment i f g h u w (λ z v o l. items z v (inl (inr o)) (inl (inr l))) x y m n
   alike-region i f g h u w items x y (inl (inr m)) (inr n) = absurd n
   alike-region i f g h u w items x y (inr m) n = absurd m
@@ -128,16 +149,16 @@ module _ (U : Scope.Source → Type 0) where
   alike-position : (n : ℕ) (i : Path.Path) (vs ws : List Scope.Pair) (f g : Render.Forest) → KeepsAll U vs ws → Below (Path.at n ∷ i) f → Below (Path.at n ∷ i) g → Alike f g
       → Alike (Render.piece (Render.position (Path.at n ∷ i) vs) f) (Render.piece (Render.position (Path.at n ∷ i) ws) g)
   unfolding Below
-  alike-position n i vs ws f g h u w a items x y (inl q) (inl o) = related-by q o (λ _. (tt, h))
+  alike-position n i vs ws f g h u w a items x y (inl q) (inl o) = related-by q o (λ _. (tt, h, tt))
   alike-position n i vs ws f g h u w a items x y (inl q) (inr o) = λ z. absurd (w y o (sym z ∙ ap Changes.piece_path q))
   alike-position n i vs ws f g h u w a items x y (inr q) (inl o) = λ z. absurd (u x q (z ∙ ap Changes.piece_path o))
   alike-position n i vs ws f g h u w a items x y (inr q) (inr o) = a (λ z v m l. items z v (inr m) (inr l)) x y q o
 
   alike-put : (n : ℕ) (i : Path.Path) (v w : Scope.Pair) → Keeps U v w → Alike (Render.put_of (Path.at n ∷ i) v) (Render.put_of (Path.at n ∷ i) w)
-  alike-put n i v w h items x y (inl q) (inl o) = related-by q o (λ _. (tt, keeps_more h keeps_none))
-  alike-put n i v w h items x y (inl q) (inr (inl o)) = related-by q o (λ _. (tt, tt))
-  alike-put n i v w h items x y (inr (inl q)) (inl o) = related-by q o (λ _. (tt, tt))
-  alike-put n i v w h items x y (inr (inl q)) (inr (inl o)) = related-by q o (λ _. (refl, tt))
+  alike-put n i v w h items x y (inl q) (inl o) = related-by q o (λ _. (tt, keeps_more h keeps_none, tt))
+  alike-put n i v w h items x y (inl q) (inr (inl o)) = related-by q o (λ _. (tt, tt, tt))
+  alike-put n i v w h items x y (inr (inl q)) (inl o) = related-by q o (λ _. (tt, tt, tt))
+  alike-put n i v w h items x y (inr (inl q)) (inr (inl o)) = related-by q o (λ _. (refl, tt, tt))
   alike-put n i v w h items x y (inl q) (inr (inr o)) = absurd o
   alike-put n i v w h items x y (inr (inl q)) (inr (inr o)) = absurd o
   alike-put n i v w h items x y (inr (inr q)) o = absurd q
@@ -189,11 +210,11 @@ module _ (U : Scope.Source → Type 0) where
 
     by-kind : InElement x i tag (parts_of app σ i ws) f → InElement y i tag (parts_of app τ i vs) g → Related x y
     by-kind (of_parts a o) (of_parts b q) = hp x y a b
-    by-kind (of_parts a o) (itself b ns q) = position-left x y _ _ o.3 q refl refl
+    by-kind (of_parts a o) (itself b ns q) = position-left x y _ _ o.3 q refl refl refl
     by-kind (of_parts a o) (inside q) = λ z. absurd (apart-part o.0 g y o.2 w q (sym (ap Changes.piece_path o.3) ∙ z))
-    by-kind (itself a ms o) (of_parts b q) = position-right x y _ _ o q.3 refl refl
+    by-kind (itself a ms o) (of_parts b q) = position-right x y _ _ o q.3 refl refl refl
     by-kind (inside o) (of_parts b q) = λ z. absurd (apart-part q.0 f x q.2 u o (sym (ap Changes.piece_path q.3) ∙ sym z))
-    by-kind (itself a ms o) (itself b ns q) = related-by o q (λ _. (refl, tt))
+    by-kind (itself a ms o) (itself b ns q) = related-by o q (λ _. (refl, tt, tt))
     by-kind (itself a ms o) (inside q) = λ z. absurd (below g y w q (sym z ∙ ap Changes.piece_path o))
     by-kind (inside o) (itself b ns q) = λ z. absurd (below f x u o (z ∙ ap Changes.piece_path q))
     by-kind (inside o) (inside q) = h (λ z v a b. items z v (in-body σ ws f z a) (in-body τ vs g v b)) x y o q
@@ -222,7 +243,7 @@ module _ (U : Scope.Source → Type 0) where
   abbrev OneFrom : (Path.Path → Render.Entry → Render.Forest) → Type 0
   OneFrom one = (i : Path.Path) (x : Render.Entry) → AllFrom i (one i x)
 
-  entry-keeps : (j : Path.Path) (x y : Render.Entry) → (U (Scope.item_value j) → x.value ≡ y.value) × (U (Scope.item_index j) → SameIndex x.index y.index) → KeepsAll U (Render.entry_pairs j x) (Render.entry_pairs j y)
+  pub entry-keeps : (j : Path.Path) (x y : Render.Entry) → (U (Scope.item_value j) → x.value ≡ y.value) × (U (Scope.item_index j) → SameIndex x.index y.index) → KeepsAll U (Render.entry_pairs j x) (Render.entry_pairs j y)
   entry-keeps j x y h = keeps_more (λ u. ap (λ v. record { value = v; sources = Scope.item_value j ∷ [] }) (h.0 u.0))
       (keeps_more (λ u. ap (λ v. record { value = v; sources = Scope.item_index j ∷ [] }) (h.1 u.0)) keeps_none)
 
@@ -230,8 +251,8 @@ module _ (U : Scope.Source → Type 0) where
   entry-alike : (one two : Path.Path → Render.Entry → Render.Forest) → AlikeOne one two → OneFrom one → OneFrom two → (i : Path.Path) (l : Path.PathStep) (a b : Render.Entry) (x y : Render.Piece)
       → ((z w : Render.Piece) → InPiece z (region_of one i l a) → InPiece w (region_of two i l b) → ItemsKeep z w)
       → InPiece x (region_of one i l a) → InPiece y (region_of two i l b) → Related x y
-  entry-alike one two h u w i l a b x y items (inl q) n = mark-left x y (region_of one i l a) q refl refl
-  entry-alike one two h u w i l a b x y items (inr m) (inl q) = mark-right x y (region_of two i l b) q refl refl
+  entry-alike one two h u w i l a b x y items (inl q) n = mark-left x y (region_of one i l a) q refl refl refl
+  entry-alike one two h u w i l a b x y items (inr m) (inl q) = mark-right x y (region_of two i l b) q refl refl refl
   entry-alike one two h u w i l a b x y items (inr m) (inr n) =
       let keep = items (region_of one i l a) (region_of two i l b) (inl refl) (inl refl) refl in
       alike-comment (l ∷ i) (one (l ∷ i) a) (two (l ∷ i) b) (h (l ∷ i) a b (entry-keeps (l ∷ i) a b keep)) (u (l ∷ i) a) (w (l ∷ i) b) (λ z v o q. items z v (inr o) (inr q)) x y m n
@@ -263,8 +284,8 @@ module _ (U : Scope.Source → Type 0) where
   below-items i (value v vs) f o u w = below-by i Path.items (Render.single (Render.branch (Path.items ∷ i) (f (value v vs)))) (items-under i (f (value v vs)) (u (value v vs)))
 
   alike-branch : (i : Path.Path) (f g : Render.Forest) → Alike f g → Alike (Render.single (Render.branch i f)) (Render.single (Render.branch i g))
-  alike-branch i f g h items x y (inl (inl q)) n = mark-left x y (Render.branch i f) q refl refl
-  alike-branch i f g h items x y (inl (inr m)) (inl (inl q)) = mark-right x y (Render.branch i g) q refl refl
+  alike-branch i f g h items x y (inl (inl q)) n = mark-left x y (Render.branch i f) q refl refl refl
+  alike-branch i f g h items x y (inl (inr m)) (inl (inl q)) = mark-right x y (Render.branch i g) q refl refl refl
   alike-branch i f g h items x y (inl (inr m)) (inl (inr n)) = h (λ z v o l. items z v (inl (inr o)) (inl (inr l))) x y m n
   alike-branch i f g h items x y (inl (inr m)) (inr n) = absurd n
   alike-branch i f g h items x y (inr m) n = absurd m
@@ -280,16 +301,16 @@ module _ (U : Scope.Source → Type 0) where
       let a = Render.single (Render.branch (Path.items ∷ i) (f (value v vs))) in let b = Render.region_at (Path.otherwise ∷ i) o' in
       alike-apart a b (apart-at i Path.items Path.otherwise a b items-otherwise (items-under i (f (value v vs)) (uf (value v vs))) (under-region Path.otherwise i o' uo'))
 
-  keeps-bind : (ns : List Text) {vs ws : List Scope.Pair} → KeepsAll U vs ws → Frame.KeepsNames U (Scope.bind ns vs) (Scope.bind ns ws)
+  pub keeps-bind : (ns : List Text) {vs ws : List Scope.Pair} → KeepsAll U vs ws → Frame.KeepsNames U (Scope.bind ns vs) (Scope.bind ns ws)
   keeps-bind [] h = Frame.names_none
   keeps-bind (n ∷ ns) keeps_none = Frame.names_more (λ u. refl) (keeps-bind ns keeps_none)
   keeps-bind (n ∷ ns) (keeps_more h hs) = Frame.names_more h (keeps-bind ns hs)
 
-  keeps-append : {vs ws xs ys : Scope.NamedPairs} → Frame.KeepsNames U vs ws → Frame.KeepsNames U xs ys → Frame.KeepsNames U (vs ++ xs) (ws ++ ys)
+  pub keeps-append : {vs ws xs ys : Scope.NamedPairs} → Frame.KeepsNames U vs ws → Frame.KeepsNames U xs ys → Frame.KeepsNames U (vs ++ xs) (ws ++ ys)
   keeps-append Frame.names_none g = g
   keeps-append (Frame.names_more h hs) g = Frame.names_more h (keeps-append hs g)
 
-  keeps-locals : {v w : Scope.Scope} {l m : Scope.NamedPairs} → Frame.KeepsScope U v w → Frame.KeepsNames U l m → Frame.KeepsScope U (Scope.with_locals l v) (Scope.with_locals m w)
+  pub keeps-locals : {v w : Scope.Scope} {l m : Scope.NamedPairs} → Frame.KeepsScope U v w → Frame.KeepsNames U l m → Frame.KeepsScope U (Scope.with_locals l v) (Scope.with_locals m w)
   keeps-locals (Frame.keeps_scope a b c) h = Frame.keeps_scope a (keeps-append b h) c
 
   at-number : Path.PathStep → ℕ
@@ -415,7 +436,7 @@ module _ (U : Scope.Source → Type 0) where
 
     two-attributes : (f g : Text → List Scope.Pair) → ((n : Text) → KeepsAll U (f n) (g n)) → (i : Path.Path) (x y : Render.Piece) → IsAttribute f i x → IsAttribute g i y → Related x y
     unfolding IsAttribute step-name last-of
-    two-attributes f g h i x y (n, q) (m, o) = related-by q o (λ z. (tt, subst (λ l. KeepsAll U (f n) (g l)) (ap (λ j. step-name (last-of j)) z) (h n)))
+    two-attributes f g h i x y (n, q) (m, o) = related-by q o (λ z. (tt, subst (λ l. KeepsAll U (f n) (g l)) (ap (λ j. step-name (last-of j)) z) (h n), tt))
 
     apart-modifier : (i : Path.Path) (n m : ℕ) (vs ws : List Scope.Pair) (x y : Render.Piece) → n < m → x ≡ Render.position (Path.modifier_at n ∷ i) vs → y ≡ Render.position (Path.modifier_at m ∷ i) ws → Changes.piece_path x ≡ Changes.piece_path y → ⊥
     unfolding step-number last-of
@@ -425,7 +446,7 @@ module _ (U : Scope.Source → Type 0) where
     unfolding IsModifier
     two-modifiers modifiers_none i n x y m l = absurd m
     two-modifiers (modifiers_more {es = es} {ns = ns} h hs) i n x y (inl q) (inl o) =
-        related-by q o (λ _. (tt, all-append (Frame.eval_all_keeps U app σ τ cells h es) (all-names (Frame.eval_named_keeps U app σ τ cells h ns))))
+        related-by q o (λ _. (tt, all-append (Frame.eval_all_keeps U app σ τ cells h es) (all-names (Frame.eval_named_keeps U app σ τ cells h ns)), tt))
     two-modifiers (modifiers_more {ys = ys} h hs) i n x y (inl q) (inr o) = let a = is-modifier τ i (suc n) ys y o in let b : suc n ≤ a.0 = a.2 in λ z. absurd (apart-modifier i n a.0 _ _ x y (omega arith) q a.3 z)
     two-modifiers (modifiers_more {xs = xs} h hs) i n x y (inr q) (inl o) = let a = is-modifier σ i (suc n) xs x q in let b : suc n ≤ a.0 = a.2 in λ z. absurd (apart-modifier i n a.0 _ _ y x (omega arith) o a.3 (sym z))
     two-modifiers (modifiers_more h hs) i n x y (inr q) (inr o) = two-modifiers hs i (suc n) x y q o
@@ -486,8 +507,8 @@ module _ (U : Scope.Source → Type 0) where
 
       mutual
         alike-stmt : (q : Template.Stmt) (v w : Scope.Scope) → Frame.KeepsScope U v w → (i : Path.Path) (n : ℕ) → Alike (Render.render_stmt app σ d y v (Path.at n ∷ i) q) (Render.render_stmt app τ d' y' w (Path.at n ∷ i) q)
-        alike-stmt (Template.text_stmt z) v w h i n = λ items x y m l. elim m [ inl a ↦ elim l [ inl b ↦ related-by a b (λ _. (refl, tt)) | inr b ↦ absurd b ] | inr a ↦ absurd a ]
-        alike-stmt (Template.comment_stmt z) v w h i n = λ items x y m l. elim m [ inl a ↦ elim l [ inl b ↦ related-by a b (λ _. (refl, tt)) | inr b ↦ absurd b ] | inr a ↦ absurd a ]
+        alike-stmt (Template.text_stmt z) v w h i n = λ items x y m l. elim m [ inl a ↦ elim l [ inl b ↦ related-by a b (λ _. (refl, tt, tt)) | inr b ↦ absurd b ] | inr a ↦ absurd a ]
+        alike-stmt (Template.comment_stmt z) v w h i n = λ items x y m l. elim m [ inl a ↦ elim l [ inl b ↦ related-by a b (λ _. (refl, tt, tt)) | inr b ↦ absurd b ] | inr a ↦ absurd a ]
         alike-stmt (Template.put z) v w h i n = alike-put n i _ _ (Frame.eval_keeps U app σ τ cells h z)
         alike-stmt (Template.element tag ps b) v w h i n =
             alike-element app σ τ (Path.at n ∷ i) tag (Parts.written_parts v ps) (Parts.written_parts w ps) (old v (Path.at n ∷ i) 0 b) (new w (Path.at n ∷ i) 0 b) (alike-parts (keeps-written h ps) (Path.at n ∷ i)) (alike-body b v w h (Path.at n ∷ i) 0) (old-from b v (Path.at n ∷ i)) (new-from b w (Path.at n ∷ i))
@@ -535,21 +556,31 @@ module _ (U : Scope.Source → Type 0) where
         (λ z. alike-body d d' (Render.yields_of app σ d v) (Render.yields_of app τ d' w) u u' (under_yields app σ d u v) (under_yields app τ d' u' w) h (alike-yields d d' u u' h hw) z.body
         (Scope.scope j a (l ++ Scope.bind z.params vs) v) (Scope.scope j a' (m ++ Scope.bind z.params ws) w) (Frame.keeps_scope ha (keeps-append hl (keeps-bind z.params hk)) hw) (Path.slot n ∷ i) 0)
 
-    alike-one : (i : Path.Path) (v w : Scope.Scope) (f g : Render.Forest) → Alike f g → Alike (Render.single (Render.component i v f)) (Render.single (Render.component i w g))
-    alike-one i v w f g h items x y (inl (inl q)) n = mark-left x y (Render.component i v f) q refl refl
-    alike-one i v w f g h items x y (inl (inr m)) (inl (inl q)) = mark-right x y (Render.component i w g) q refl refl
-    alike-one i v w f g h items x y (inl (inr m)) (inl (inr n)) = h (λ z v o l. items z v (inl (inr o)) (inl (inr l))) x y m n
-    alike-one i v w f g h items x y (inl (inr m)) (inr n) = absurd n
-    alike-one i v w f g h items x y (inr m) n = absurd m
+    not-itself : (i : Path.Path) (f : Render.Forest) (x : Render.Piece) → AllFrom i f → In x f → Changes.piece_path x ≡ i → ⊥
+    not-itself i f x u m q = let v = u x m in not_below (Path.at v.0) i (subst (λ z. Within (Path.at v.0 ∷ i) z) q v.2)
+
+    alike-one : (i : Path.Path) (v w : Scope.Scope) (f g : Render.Forest) → Frame.KeepsScope U v w → AllFrom i f → AllFrom i g → Alike f g → Alike (Render.single (Render.component i v f)) (Render.single (Render.component i w g))
+    alike-one i v w f g k u u' h items x y (inl (inl q)) (inl (inl o)) = related-by q o (λ _. (tt, tt, k))
+    alike-one i v w f g k u u' h items x y (inl (inl q)) (inl (inr n)) = λ z. absurd (not-itself i g y u' n (sym z ∙ ap Changes.piece_path q))
+    alike-one i v w f g k u u' h items x y (inl (inl q)) (inr n) = absurd n
+    alike-one i v w f g k u u' h items x y (inl (inr m)) (inl (inl o)) = λ z. absurd (not-itself i f x u m (z ∙ ap Changes.piece_path o))
+    alike-one i v w f g k u u' h items x y (inl (inr m)) (inl (inr n)) = h (λ z v o l. items z v (inl (inr o)) (inl (inr l))) x y m n
+    alike-one i v w f g k u u' h items x y (inl (inr m)) (inr n) = absurd n
+    alike-one i v w f g k u u' h items x y (inr m) n = absurd m
 
     alike-components : (n : ℕ) → KeepsComponents (Render.components_at n app σ) (Render.components_at n app τ)
-    alike-components zero i gs hs v w hg hw items x y (inl q) o = mark-left x y (Render.too_deep i) q refl refl
+    alike-components zero i gs hs v w hg hw items x y (inl q) o = mark-left x y (Render.too_deep i) q refl refl refl
     alike-components zero i gs hs v w hg hw items x y (inr q) o = absurd q
     alike-components (suc n) i gs hs v w hg hw items x y m o =
         let d = Render.components_at n app σ in let d' = Render.components_at n app τ in
-        alike-one i (Scope.scope i gs [] v) (Scope.scope i hs [] w) _ _
-        (alike-body d d' (Render.yields_of app σ d v) (Render.yields_of app τ d' w) (under_components app σ n) (under_components app τ n) (under_yields app σ d (under_components app σ n) v) (under_yields app τ d' (under_components app τ n) w)
-        (alike-components n) (alike-yields d d' (under_components app σ n) (under_components app τ n) (alike-components n) hw) (Eval.class_at app i).template (Scope.scope i gs [] v) (Scope.scope i hs [] w) (Frame.keeps_scope hg Frame.names_none hw) i 0)
+        let s = Scope.scope i gs [] v in let t = Scope.scope i hs [] w in
+        let b = (Eval.class_at app i).template in
+        let k : Frame.KeepsScope U s t = Frame.keeps_scope hg Frame.names_none hw in
+        let ud = under_components app σ n in let ud' = under_components app τ n in
+        let uy = under_yields app σ d ud v in let uy' = under_yields app τ d' ud' w in
+        alike-one i s t _ _ k
+        (λ z l. under_body app σ d (Render.yields_of app σ d v) ud uy b s i 0 z l) (λ z l. under_body app τ d' (Render.yields_of app τ d' w) ud' uy' b t i 0 z l)
+        (alike-body d d' (Render.yields_of app σ d v) (Render.yields_of app τ d' w) ud ud' uy uy' (alike-components n) (alike-yields d d' ud ud' (alike-components n) hw) b s t k i 0)
         items x y m o
 
     pub draw_alike : Alike (Render.draw app σ) (Render.draw app τ)

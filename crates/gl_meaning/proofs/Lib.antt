@@ -25,9 +25,11 @@ pub mod Getters
 pub mod Limits
 pub mod Manifests
 pub mod Modifiers
+pub mod Nesting
 pub mod Numbers
 pub mod Once
 pub mod Pieces
+pub mod PlaceLaws
 pub mod Plain
 pub mod Reach
 pub mod Sessions

@@ -22,14 +22,14 @@ use Rattle.gl_meaning.proofs.Numbers.{number_again, numbers_stay_valid, next_gro
 -- A turn
 
 -- the cells after the event's sets, before they are settled
-abbrev laid : App → State → Option Event → Store
+abbrev pub laid : App → State → Option Event → Store
 laid app s e = lay (applied app s e).sets s.store
 
 -- the turn of a step that is made
-abbrev made : App → State → Option Event → Turn
+abbrev pub made : App → State → Option Event → Turn
 made app s e = turn_of app s e (applied app s e) (draw app (laid app s e))
 
-stepped-turn : (app : App) (s : State) (e : Option Event) (t : Turn) → step app s e ≡ Some t → (fits (draw app (laid app s e)) ≡ true) × (made app s e ≡ t)
+pub stepped-turn : (app : App) (s : State) (e : Option Event) (t : Turn) → step app s e ≡ Some t → (fits (draw app (laid app s e)) ≡ true) × (made app s e ≡ t)
 stepped-turn app s e t q = chosen (fits (draw app (laid app s e))) refl q where
   chosen : (b : Bool) → fits (draw app (laid app s e)) ≡ b → (if b then Some (made app s e) else None) ≡ Some t → (fits (draw app (laid app s e)) ≡ true) × (made app s e ≡ t)
   chosen true h k = (h, some_same (made app s e) t k)
@@ -43,7 +43,7 @@ by-turns app P first h s (started {t = t} q) = let m = stepped-turn app first_st
 by-turns app P first h s (stepped {s = before} {t = t} e r q) = let m = stepped-turn app before (Some e) t q in subst (λ t. P t.state) m.1 (h before (Some e) m.0 (by-turns app P first h before r))
 
 -- what each turn brings by itself
-after-turns : (app : App) (P : State → Type 0) → ((s : State) (e : Option Event) → fits (draw app (laid app s e)) ≡ true → P (made app s e).state) → (s : State) → Reached app s → P s
+pub after-turns : (app : App) (P : State → Type 0) → ((s : State) (e : Option Event) → fits (draw app (laid app s e)) ≡ true → P (made app s e).state) → (s : State) → Reached app s → P s
 after-turns app P h s (started {t = t} q) = let m = stepped-turn app first_state None t q in subst (λ t. P t.state) m.1 (h first_state None m.0)
 after-turns app P h s (stepped {s = before} {t = t} e r q) = let m = stepped-turn app before (Some e) t q in subst (λ t. P t.state) m.1 (h before (Some e) m.0)
 

@@ -76,12 +76,17 @@ held-laid i x (h ∷ hs) σ q =
     let test = Path.path_eq i h.instance && bytes_eq x h.field in
     held-laid i x hs (h ∷ σ) (or-right test (Changes.is_set hs i x) q) ∙ ap (λ b. if b then Some h.value else Eval.held_at i x σ) (or-left test (Changes.is_set hs i x) q)
 
+pub cells_kept : (app : App) (σ : Eval.Store) (sets : Changes.Sets) (i : Path.Path) (x : Text) → Changes.is_set sets i x ≡ false → Eval.cell_value app σ i x ≡ Eval.cell_value app (Actions.lay sets σ) i x
+cells_kept app σ sets i x u = ap (λ h. unwrap_or h (Value.plain (unwrap_or (named x (Eval.class_at app i).fields) Value.undefined))) (sym (held-laid i x sets σ u))
+
+pub items_kept : (app : App) (σ : Eval.Store) (sets : Changes.Sets) → let old = Render.draw app σ in let new = Render.draw app (Actions.lay sets σ) in Alike.EachPair (Alike.ItemsKeep (IsUntouched old new sets)) old new
+items_kept app σ sets = items-keep (Render.draw app σ) (Render.draw app (Actions.lay sets σ)) sets (items_once app σ) (items_once app (Actions.lay sets σ))
+
 -- Two renderings of consecutive turns: at equal paths nodes are of one kind, and a position that read nothing touched has its Pairs still.
-frame : (app : App) (σ : Eval.Store) (sets : Changes.Sets) → let old = Render.draw app σ in let new = Render.draw app (Actions.lay sets σ) in Alike.EachPair (Alike.Related (IsUntouched old new sets)) old new
+pub frame : (app : App) (σ : Eval.Store) (sets : Changes.Sets) → let old = Render.draw app σ in let new = Render.draw app (Actions.lay sets σ) in Alike.EachPair (Alike.Related (IsUntouched old new sets)) old new
 frame app σ sets =
     let old = Render.draw app σ in let new = Render.draw app (Actions.lay sets σ) in
-    Alike.draw_alike (IsUntouched old new sets) app σ (Actions.lay sets σ) (λ i x u. ap (λ h. unwrap_or h (Value.plain (unwrap_or (named x (Eval.class_at app i).fields) Value.undefined))) (sym (held-laid i x sets σ u)))
-    (items-keep old new sets (items_once app σ) (items_once app (Actions.lay sets σ)))
+    Alike.draw_alike (IsUntouched old new sets) app σ (Actions.lay sets σ) (cells_kept app σ sets) (items_kept app σ sets)
 
 position-some : (x : Render.Piece) (q : Changes.Position) → Changes.position_in x ≡ Some q → x ≡ Render.position q.path q.pairs
 position-some (Render.position i vs) q o = ap (λ z. Render.position z.path z.pairs) (some_same (record { path = i; pairs = vs }) q o)

@@ -5,7 +5,7 @@ use Rattle.std.specs.Str.{bytes_eq}
 use Rattle.gl_base.specs.Texts.{Text}
 use Rattle.gl_value.specs.Value.{same, count_value}
 use Rattle.gl_meaning.specs.App.{App}
-use Rattle.gl_meaning.specs.Path.{Path, V, path_eq, at_path}
+use Rattle.gl_meaning.specs.Path.{Path, V, path_eq, has_path, at_path}
 use Rattle.gl_meaning.specs.Scope.{Source, cell, item_value, item_index, Pair, sources_of, Scope}
 use Rattle.gl_meaning.specs.Eval.{Held, Store, class_at, cell_value}
 use Rattle.gl_meaning.specs.Parts.{Modifier}
@@ -101,6 +101,25 @@ scopes f = filter_map scope_in (pieces f)
 abbrev pub modifiers : Forest → List Modifier
 modifiers f = flat_map modifiers_on (pieces f)
 
+-- What persists
+
+-- What stands at a path persists where the path stands in the other rendering too: it is one of its nodes, instances, regions or
+-- modifiers.
+abbrev pub persists : Path → List Path → Bool
+persists p others = has_path p others
+
+-- A path of the new rendering is new where it isn't one of the old.
+abbrev pub is_new : Path → List Path → Bool
+is_new p old = not (persists p old)
+
+-- A path of the old rendering is gone where it isn't one of the new.
+abbrev pub is_gone : Path → List Path → Bool
+is_gone p new = not (persists p new)
+
+-- The same of a position.
+abbrev pub position_persists : Path → List Position → Bool
+position_persists p others = list_any (λ q. path_eq p q.path) others
+
 -- Cells
 
 -- The cells of just the instances that are rendered, in document order, and of each instance by name: what they hold, or else
@@ -173,4 +192,4 @@ some_touched old new sets ps = list_any (touched old new sets) (sources_of ps)
 abbrev pub stale : Forest → Forest → Sets → Path → Bool
 stale old new sets p =
     list_any (λ q. path_eq p q.path && some_touched old new sets q.pairs) (positions old)
-    && list_any (λ q. path_eq p q.path) (positions new)
+    && position_persists p (positions new)

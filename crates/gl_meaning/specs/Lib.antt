@@ -20,12 +20,14 @@ pub mod Order
 pub mod Parts
 pub mod Path
 pub mod PathCode
+pub mod PlaceLaws
 pub mod Pointer
 pub mod Print
 pub mod Render
 pub mod Scope
 pub mod ScriptOf
 pub mod Session
+pub mod Signs
 pub mod View
 pub mod Walk
 pub mod Work

@@ -6,6 +6,7 @@ use Rattle.gl_value.specs.Value.{attribute_text, is_empty}
 use Rattle.gl_ast.specs.Template.{Exprs, NamedExprs, AttrValue, fixed, live, Part, attribute, modifier, spread}
 use Rattle.gl_meaning.specs.App.{App}
 use Rattle.gl_meaning.specs.Path.{modifier_at, Path}
+use Rattle.gl_meaning.specs.Signs.{blank}
 use Rattle.gl_meaning.specs.Scope.{Pair, NamedPairs, Scope, scope, Passed, nothing_passed, passed, passed_of}
 use Rattle.gl_meaning.specs.Eval.{Store, eval_all, eval_named, eval_value}
 
@@ -86,7 +87,7 @@ some_live (w ∷ ws) = is_live w.value || some_live ws
 abbrev pub spaced : List Text → Text
 spaced [] = []
 spaced (t ∷ []) = t
-spaced (t ∷ u ∷ ts) = t ++ 32 ∷ spaced (u ∷ ts)
+spaced (t ∷ u ∷ ts) = t ++ blank ∷ spaced (u ∷ ts)
 
 -- the non-empty texts with one blank between; no text where there is none at all
 abbrev pub joined_texts : List Text → Option Text

@@ -1,9 +1,9 @@
 -- How much a turn has to do.
 use Rattle.std.specs.Prelude.{ℕ, ◌+◌, List, [], ◌∷◌, map, filter, filter_map, length, sum, Bool, false, ◌&&◌, ◌||◌, not, nat_lt, Option, Some, None}
 use Rattle.std.specs.List.{list_any}
-use Rattle.gl_meaning.specs.Path.{Path, path_eq, has_path}
+use Rattle.gl_meaning.specs.Path.{Path, path_eq}
 use Rattle.gl_meaning.specs.Render.{Piece, element_node, component, branch, item_region, position, Forest, no_pieces, piece}
-use Rattle.gl_meaning.specs.Changes.{pieces, nodes, regions, region_path, positions, Item, item_of, rendered_items, Sets, some_touched, stale}
+use Rattle.gl_meaning.specs.Changes.{pieces, nodes, regions, region_path, positions, persists, is_new, position_persists, Item, item_of, rendered_items, Sets, some_touched, stale}
 
 pub record Work : Type 0 where
   -- the positions that are new or stale
@@ -37,8 +37,8 @@ is_passed all k = list_any (λ o. path_eq (list_path o.path) (list_path k.path) 
 
 abbrev pub work : Forest → Forest → Sets → Work
 work old new sets = record {
-  evaluated = length (filter (λ q. not (list_any (λ o. path_eq q.path o.path) (positions old)) || stale old new sets q.path) (positions new));
-  made = length (filter (λ p. not (has_path p (nodes old))) (nodes new));
+  evaluated = length (filter (λ q. not (position_persists q.path (positions old)) || stale old new sets q.path) (positions new));
+  made = length (filter (λ p. is_new p (nodes old)) (nodes new));
   moved = length (filter (is_passed (kept_items old new)) (kept_items old new));
 }
 
@@ -68,7 +68,7 @@ region_forest _ = no_pieces
 
 abbrev pub persists_region : Forest → Option Path → Bool
 persists_region new None = false
-persists_region new (Some p) = has_path p (regions new)
+persists_region new (Some p) = persists p (regions new)
 
 -- A region is open where it persists and some position in it, or in a region within it, read in the old rendering what is touched.
 abbrev pub is_open : Forest → Forest → Sets → Piece → Bool

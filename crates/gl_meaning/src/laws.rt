@@ -2,6 +2,7 @@
 //! contracts stand in `specs/Laws.antt`, each with its sentence.
 
 ghost use Rattle.gl_meaning.specs.Laws.{SettledIsRendered, SettledIsSettled, GetterIsItsExpression, NodesStandOnce, PositionsStandOnce, RegionsStandOnce, InstancesStandOnce, ItemsStandOnce, ModifiersStandOnce, ModifierIsPosition, SourcesStandAbove, KindIsKept, UntouchedIsKept, OnlyStaleChanges, CallsEnd, NumberIsKept, OthersAreNumbered, NodesAloneAreNumbered, NumbersStayValid, TurnsAreReached, StateIsRendered, StateIsSettled, StateHoldsNoAction, StateReadsAbove, StateNumbersAreValid, NumbersNeverComeAgain, TurnChangesOnlyStale};
+ghost use Rattle.gl_meaning.specs.PlaceLaws.{ReadIsKept, ValuesAreKept, ArgumentsAreKept, ComponentsNest, DeepIsOneMore, NumberedAreNodes, NumberPersists, StepRenders};
 
 /// What is rendered from the settled store is the same rendering, and to settle that store again
 /// changes nothing.
@@ -89,4 +90,30 @@ pub fn session_numbers()
 /// In each turn after the first, a position that persists and isn't stale reads what it read before.
 pub fn session_frame()
     ensures { TurnChangesOnlyStale }
+{}
+
+/// At a place that is in the renderings before and after some sets, an expression gives the same where no source that it read
+/// is touched. So do the values of a `let` and of a `yield`, and the arguments of an instance.
+pub fn places_frame()
+    ensures read { ReadIsKept }
+    ensures values { ValuesAreKept }
+    ensures arguments { ArgumentsAreKept }
+{}
+
+/// Each component that is rendered has a nesting of at most the limit, and each that is too deep would have just one more.
+pub fn nesting()
+    ensures components { ComponentsNest }
+    ensures deep { DeepIsOneMore }
+{}
+
+/// After each turn the paths that have a number are those of the nodes, and in each turn a node keeps its number exactly where
+/// its path persists.
+pub fn session_nodes()
+    ensures numbered { NumberedAreNodes }
+    ensures kept { NumberPersists }
+{}
+
+/// A step is the turn of the rendering of the cells that its event leaves, and there is none where there is no rendering.
+pub fn step_renders()
+    ensures { StepRenders }
 {}

@@ -22,6 +22,7 @@ pub mod Lowered
 pub mod LoweredExprs
 pub mod LoweredStmts
 pub mod Lowering
+pub mod NamePlaces
 pub mod NumbersRise
 pub mod Places
 pub mod SameNames

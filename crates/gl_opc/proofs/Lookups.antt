@@ -1,6 +1,6 @@
 -- Numbers of names, found by places in lists; and the first character of a text.
 use Rattle.std.proofs.Common.{◌≡◌, ℕ, List, [], ◌∷◌, ◌++◌, Bool, true, false, cond, Option, Some, None, length, map, refl, sym, ap, ◌∙◌}
-use Rattle.std.specs.Prelude.{MatchOption, encode_utf8, not, position}
+use Rattle.std.specs.Prelude.{MatchOption, encode_utf8, not, ◌&&◌, position}
 use Rattle.std.specs.List.{position_or_len}
 use Rattle.std.specs.Str.{bytes_eq, chars, IsUtf8}
 use Rattle.std.proofs.lemmas.List.{length-map}
@@ -8,6 +8,8 @@ use Rattle.std.proofs.lemmas.List.Recursion.{is_position_or_len}
 use Rattle.std.proofs.lemmas.Str.{chars_past_char}
 use Rattle.gl_base.specs.Texts.{Text}
 use Rattle.gl_base.proofs.Chars.{empty_chars}
+use Rattle.gl_meaning.specs.Manifest.{Manifest, ClassEntry}
+use Rattle.gl_opc.specs.NamePlaces.{rising, all_rising}
 use Rattle.gl_opc.specs.Numbers.{number_in}
 
 turned_round : (b : Bool) (n : ℕ) → cond (not b) n 0 ≡ cond b 0 n
@@ -36,3 +38,52 @@ first_char rest s t (Some c) text new old u e f g h = g ∙ chars_past_char text
 pub map-map : {X Y Z : Type 0} (f : Y → Z) (g : X → Y) (xs : List X) → map (λ x. f (g x)) xs ≡ map f (map g xs)
 map-map f g [] = refl
 map-map f g (x ∷ xs) = ap (λ ys. f (g x) ∷ ys) (map-map f g xs)
+
+-- what is known of the names of what a list is seen as
+pub seen_rising : {X Y : Type 0} (f : Y → Text) (seen : X → Y) (xs : List X) (ys : List Y) → map seen xs ≡ ys → rising (map f ys) ≡ true → rising (map (λ x. f (seen x)) xs) ≡ true
+seen_rising f seen xs ys e rise = ap rising (map-map f seen xs ∙ ap (λ zs. map f zs) e) ∙ rise
+
+both : (a b : Bool) → (a && b) ≡ true → (a ≡ true) × (b ≡ true)
+both true b e = (refl, e)
+both false b e = cc
+
+pub rising_seen : {X Y : Type 0} (f : Y → Text) (seen : X → Y) (xs : List X) (ys : List Y) → map seen xs ≡ ys → rising (map (λ x. f (seen x)) xs) ≡ rising (map f ys)
+rising_seen f seen xs ys e = ap rising (map-map f seen xs ∙ ap (λ zs. map f zs) e)
+
+pub all_rises : (m : Manifest) (c : ClassEntry) {all members others classes fields getters actions : Bool}
+    → all ≡ (classes && members) → members ≡ (fields && others) → others ≡ (getters && actions)
+    → classes ≡ rising (map (λ c. c.name) m.classes) → fields ≡ rising (map (λ f. f.0) c.fields) → getters ≡ rising (map (λ g. g.0) c.getters) → actions ≡ rising (map (λ a. a.0) c.actions)
+    → all ≡ all_rising m c
+all_rises m c a h o p f g x = rw (a, h, o, p, f, g, x) refl
+
+-- of what is known of all names, the part of each kind of them
+module _ (m : Manifest) (c : ClassEntry) (e : all_rising m c ≡ true) where
+  abbrev classes : Bool
+  classes = rising (map (λ c. c.name) m.classes)
+
+  abbrev fields : Bool
+  fields = rising (map (λ f. f.0) c.fields)
+
+  abbrev getters : Bool
+  getters = rising (map (λ g. g.0) c.getters)
+
+  abbrev actions : Bool
+  actions = rising (map (λ a. a.0) c.actions)
+
+  pub classes_rise : classes ≡ true
+  classes_rise = (both classes (fields && (getters && actions)) e).0
+
+  members_rise : (fields && (getters && actions)) ≡ true
+  members_rise = (both classes (fields && (getters && actions)) e).1
+
+  pub fields_rise : fields ≡ true
+  fields_rise = (both fields (getters && actions) members_rise).0
+
+  others_rise : (getters && actions) ≡ true
+  others_rise = (both fields (getters && actions) members_rise).1
+
+  pub getters_rise : getters ≡ true
+  getters_rise = (both getters actions others_rise).0
+
+  pub actions_rise : actions ≡ true
+  actions_rise = (both getters actions others_rise).1

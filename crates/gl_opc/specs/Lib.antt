@@ -4,6 +4,7 @@ pub mod IsProgram
 pub mod Linked
 pub mod Links
 pub mod Lowers
+pub mod NamePlaces
 pub mod Numbers
 pub mod Piece
 pub mod Programs

@@ -14,6 +14,8 @@ mod link_part;
 mod link_stmt;
 mod linker;
 mod linking;
+mod lookup;
+mod names;
 
 pub use app::App;
 pub use fault::LinkFault;

@@ -8,8 +8,9 @@ ghost use Rattle.gl_opc.specs.Linked.{Meets, literal_linked, segments_linked, sy
 ghost use Rattle.gl_opc.specs.State.{context_view, state_view};
 
 use crate::LinkFault;
-use crate::context::{Context, argument_name, helper_number, known, member_op};
+use crate::context::Context;
 use crate::linker::{Linker, number32};
+use crate::lookup::{argument_name, helper_number, known, member_op};
 use gl_ast::Lit;
 use gl_meaning::Kind;
 use gl_ops::Op;
@@ -150,7 +151,7 @@ fn link_member(
 ) -> Result<(), LinkFault>
     ensures { Meets (λ u. state_view out.new) result (expr_linked (context_view context.now) place (this name.now) (state_view out.old)) }
 {
-    let op = known(place, Kind::Member, name, member_op(context.class, name)?)?;
+    let op = known(place, Kind::Member, name, member_op(context, name)?)?;
     out.push_op(op)?;
     Ok(())
 }

@@ -5,9 +5,10 @@ ghost use Rattle.gl_opc.specs.Linked.{Meets, part_linked, parts_linked, argument
 ghost use Rattle.gl_opc.specs.State.{context_view, state_view};
 
 use crate::LinkFault;
-use crate::context::{Context, known, modifier_number};
+use crate::context::Context;
 use crate::link_expr::{count_both, link_both, link_expr};
 use crate::linker::Linker;
+use crate::lookup::{known, modifier_number};
 use gl_meaning::Kind;
 use gl_ops::Op;
 use gl_value::Text;
@@ -38,7 +39,7 @@ fn link_modifier(
 ) -> Result<(), LinkFault>
     ensures { Meets (λ u. state_view out.new) result (part_linked (context_view context.now) place (modifier name.now (exprs_of args.now) (named_of named.now)) (state_view out.old)) }
 {
-    let number = modifier_number(context.manifest, name)?;
+    let number = modifier_number(context, name)?;
     let a = known(place, Kind::Modifier, name, number)?;
     link_both(context, place, args, named, out)?;
     let b = count_both(args, named)?;

@@ -9,10 +9,11 @@ ghost use Rattle.gl_opc.specs.Spans.{if_op};
 ghost use Rattle.gl_opc.specs.State.{context_view, state_view};
 
 use crate::LinkFault;
-use crate::context::{Context, class_number, known, next};
+use crate::context::Context;
 use crate::link_expr::{count_exprs, link_expr, link_exprs};
 use crate::link_part::{link_arguments, link_parts};
 use crate::linker::Linker;
+use crate::lookup::{class_number, known, next};
 use gl_meaning::Kind;
 use gl_ops::Op;
 use gl_value::Text;
@@ -145,7 +146,7 @@ fn link_component(
     ensures { Meets (λ u. state_view out.new) result (stmt_linked (context_view context.now) (component_stmt class.now parts.now (named_of args.now) (slots_of slots.now)) (state_view out.old)) }
 {
     let place = out.begin()?;
-    let number = class_number(context.manifest, class)?;
+    let number = class_number(context, class)?;
     let a = known(place, Kind::Component, class, number)?;
     out.push_op(Op::Comp { a })?;
     link_arguments(context, place, args, out)?;

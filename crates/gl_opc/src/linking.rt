@@ -1,5 +1,5 @@
 // Linking: programs of wires.
-ghost use Rattle.std.specs.Prelude.{◌≡◌, ℕ, List, [], map, IfOk, IfErr};
+ghost use Rattle.std.specs.Prelude.{◌≡◌, ◌&&◌, ℕ, List, [], map, IfOk, IfErr};
 ghost use Rattle.gl_base.specs.Texts.{Text};
 ghost use Rattle.gl_ast.specs.Grammar.{IsTemplate, SpellsExpr};
 ghost use Rattle.gl_ast.specs.Template.{Body, Expr};
@@ -11,6 +11,7 @@ ghost use Rattle.gl_opc.specs.IsProgram.{IsProgramOf};
 ghost use Rattle.gl_opc.specs.TreeFaults.{at_stmt, template_faults, expr_faults, first_fault, first_expr_fault};
 ghost use Rattle.gl_opc.specs.Links.{IsFirst};
 ghost use Rattle.gl_opc.specs.Lowers.{Lowers, LowersExpr};
+ghost use Rattle.gl_opc.specs.NamePlaces.{all_rising};
 ghost use Rattle.gl_opc.specs.Piece.{start};
 ghost use Rattle.gl_opc.specs.State.{context_view};
 ghost use Rattle.gl_opc.specs.WireFaults.{body_faults, expr_unknowns};
@@ -22,6 +23,7 @@ use crate::context::Context;
 use crate::link_expr::link_expr;
 use crate::link_stmt::link_body;
 use crate::linker::Linker;
+use crate::names::{NameIndex, rise};
 use crate::{LinkFault, Program};
 use gl_meaning::{Class, Manifest};
 use gl_ops::Op;
@@ -52,9 +54,29 @@ fn expression_program(context: &Context, expr: &WireExpr) -> Result<Program, Lin
     Ok(out.finish(context.alloc)?)
 }
 
+fn both(one: bool, other: bool) -> bool
+    ensures { result ≡ (one && other) }
+{
+    one && other
+}
+
+// Whether the names of the classes rise, and those of the class's members.
+fn all_rise(manifest: &Manifest, class: &Class) -> bool
+    ensures { result ≡ all_rising (manifest_view manifest.now) (class_view class.now) }
+{
+    let classes = rise(manifest.classes.as_slice());
+    let fields = rise(class.fields.as_slice());
+    let getters = rise(class.getters.as_slice());
+    let actions = rise(class.actions.as_slice());
+    let others = both(getters, actions);
+    let members = both(fields, others);
+    both(classes, members)
+}
+
 /// The program of a template, for a class of a manifest: it lowers each template that has the wire. Fails exactly where a name
 /// of the wire is not known, with the first one and its statement; and for want of memory, also where a number has no room in a
-/// word. It takes time in proportion to the wire times the longest list of names in which one is looked up.
+/// word. Where the names of the classes and of the class's members rise and no modifier stands twice, it takes time in proportion to the
+/// manifest's names and to the wire, times the logarithm of how many names there are; else times how many there are.
 pub fn link(
     alloc: Global,
     wire: &Wire,
@@ -68,18 +90,21 @@ pub fn link(
     ensures unknown { IfErr result (λ e. (b : Body) → IsTemplate b → wire_of b ≡ wire_view wire.now
         → IsFirst e (first_fault (manifest_view manifest.now) (class_view class.now) b)) }
 {
-    let symbols = wire.symbols();
+    let modifiers = NameIndex::of(alloc, &manifest.modifiers)?;
     let context = Context {
         alloc,
         manifest,
         class,
-        symbols,
+        symbols: wire.symbols(),
+        rise: all_rise(manifest, class),
+        modifiers: &modifiers,
     };
     body_program(&context, wire.body())
 }
 
 /// The program of an expression by itself, for a class of a manifest: it lowers each expression with parameters in scope that
-/// has the wire. Fails exactly where a name is not known, with the first one, in statement 0; and for want of memory.
+/// has the wire. Fails exactly where a name is not known, with the first one, in statement 0; and for want of memory. Names are
+/// sought by going through the class's lists, since most expressions are short.
 pub fn link_expression(
     alloc: Global,
     wire: &ExprWire,
@@ -93,12 +118,14 @@ pub fn link_expression(
     ensures unknown { IfErr result (λ f. (bytes : List ℕ) (e : Expr) (params : List Text) → SpellsExpr bytes e → expr_wire_of params e ≡ expr_wire_view wire.now
         → IsFirst f (first_expr_fault (manifest_view manifest.now) (class_view class.now) params e)) }
 {
-    let symbols = &wire.symbols;
+    let modifiers = NameIndex::none(alloc, &manifest.modifiers);
     let context = Context {
         alloc,
         manifest,
         class,
-        symbols,
+        symbols: &wire.symbols,
+        rise: false,
+        modifiers: &modifiers,
     };
     expression_program(&context, &wire.value)
 }

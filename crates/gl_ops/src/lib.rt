@@ -5,8 +5,6 @@ mod cases;
 pub mod laws;
 mod listing;
 mod op;
-#[cfg(test)]
-mod tests;
 mod word;
 
 pub use listing::list;

@@ -68,7 +68,7 @@ one_class fields body = record {
 }
 
 -- A branch that flips: {{#if this.on}}<b>{{this.n}}</b>{{else}}no{{/if}}
-branch_app : App
+unfoldable pub branch_app : App
 branch_app = one_class ((codes "n", text (codes "x")) ∷ (codes "on", boolean true) ∷ []) (stmt (if_stmt (this (codes "on") []) false (stmt (element (codes "b") [] (stmt (put (this (codes "n") [])) end)) end) (stmt (text_stmt (codes "no")) end)) end)
 
 branch : turns branch_app 1 (codes "on") (boolean false)
@@ -91,10 +91,10 @@ unfolding branch_app
 branch_work = refl
 
 -- A keyed list that moves: {{#each this.xs key="@identity" as |x|}}<i>{{x}}</i>{{/each}}
-list_app : App
+unfoldable pub list_app : App
 list_app = one_class ((codes "xs", list (values_of (text (codes "a") ∷ text (codes "b") ∷ []))) ∷ []) (stmt (each (this (codes "xs") []) (codes "@identity") (codes "x" ∷ []) (stmt (element (codes "i") [] (stmt (put (bare (codes "x") [])) end)) end) end) end)
 
-abbrev list_now : V
+abbrev pub list_now : V
 list_now = list (values_of (text (codes "b") ∷ text (codes "a") ∷ text (codes "c") ∷ []))
 
 moves : turns list_app 0 (codes "xs") list_now
@@ -116,7 +116,7 @@ moves_work = refl
 --
 -- app.hbs: <Box @v={{this.n}} class="z" {{m this.n}} as |p|>{{p}}</Box>
 -- box.hbs: <div ...attributes>{{yield @v}}</div>
-component_app : App
+unfoldable pub component_app : App
 component_app = record {
   root = codes "App";
   limit = 3;

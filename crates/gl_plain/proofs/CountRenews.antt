@@ -41,11 +41,11 @@ abbrev pub Fails : (ℕ → Bool) → List ℕ → Type 0
 Fails test [] = Unit {0}
 Fails test (x ∷ xs) = (test x ≡ false) × Fails test xs
 
-fails_left : (test : ℕ → Bool) (xs ys : List ℕ) → Fails test (xs ++ ys) → Fails test xs
+pub fails_left : (test : ℕ → Bool) (xs ys : List ℕ) → Fails test (xs ++ ys) → Fails test xs
 fails_left test [] ys h = tt
 fails_left test (x ∷ xs) ys h = (h.0, fails_left test xs ys h.1)
 
-fails_right : (test : ℕ → Bool) (xs ys : List ℕ) → Fails test (xs ++ ys) → Fails test ys
+pub fails_right : (test : ℕ → Bool) (xs ys : List ℕ) → Fails test (xs ++ ys) → Fails test ys
 fails_right test [] ys h = h
 fails_right test (x ∷ xs) ys h = fails_right test xs ys h.1
 
@@ -53,7 +53,7 @@ none_pass : (test : ℕ → Bool) (xs : List ℕ) → Fails test xs → filter t
 none_pass test [] h = refl
 none_pass test (x ∷ xs) h = ap (λ b. cond b (x ∷ filter test xs) (filter test xs)) h.0 ∙ none_pass test xs h.1
 
-runs_le : (n m : ℕ) (xs : List ℕ) → Runs n xs m → n ≤ m
+pub runs_le : (n m : ℕ) (xs : List ℕ) → Runs n xs m → n ≤ m
 runs_le n m [] h = omega (arith, h)
 runs_le n m (x ∷ xs) h = let k = runs_le (suc n) m xs h.1 in omega (arith, k)
 
@@ -157,10 +157,10 @@ module _ (st0 : State) (after : Source → Bool) (G : Type 0) where
   abbrev pub TurnIn : Path → (PathStep → Type 0) → State → (Id → ℕ) → Lives × State → Type 0
   TurnIn p S st count r = Turn p S st r.1 count (nodes_in r.0) (positions_in r.0)
 
-  abbrev TurnItems : Path → (PathStep → Type 0) → State → (Id → ℕ) → Items × State → Type 0
+  abbrev pub TurnItems : Path → (PathStep → Type 0) → State → (Id → ℕ) → Items × State → Type 0
   TurnItems p S st count r = Turn p S st r.1 count (nodes_items r.0) (positions_items r.0)
 
-  abbrev TurnArm : Path → (PathStep → Type 0) → State → (Id → ℕ) → Arm → Type 0
+  abbrev pub TurnArm : Path → (PathStep → Type 0) → State → (Id → ℕ) → Arm → Type 0
   TurnArm p S st count a = Turn p S st a.state count (nodes_in a.lives ++ comment_node a.comment) (positions_in a.lives)
 
   -- nodes that are there and idle
@@ -252,7 +252,7 @@ module _ (st0 : State) (after : Source → Bool) (G : Type 0) where
       → Turn p S1 st st1 a ns qs → Turn p S2 st1 st2 b [] qs' → Turn p S st st2 (λ q. a q + b q) ns (qs ++ qs')
   then_read p S1 S2 S st st1 st2 a b ns qs qs' i1 i2 apart h g = subst (λ xs. Turn p S st st2 (λ q. a q + b q) xs (qs ++ qs')) (append-nil ns) (then_turn p S1 S2 S st st1 st2 a b ns [] qs qs' i1 i2 apart h g)
 
-  turn_later : (p : Path) (S : PathStep → Type 0) (st st' : State) (a : Id → ℕ) (ns qs : List ℕ) → Turn p S st st' a ns qs → Later st → Later st'
+  pub turn_later : (p : Path) (S : PathStep → Type 0) (st st' : State) (a : Id → ℕ) (ns qs : List ℕ) → Turn p S st st' a ns qs → Later st → Later st'
   turn_later p S st st' a ns qs h le = record {
     nodes = let k = runs_le (st.next a_node) (st'.next a_node) (filter made ns) h.nodes in let i = le.nodes in omega (arith, k, i);
     refs = let k = h.more in let i = le.refs in omega (arith, k, i);
@@ -260,7 +260,7 @@ module _ (st0 : State) (after : Source → Bool) (G : Type 0) where
   }
 
   -- a part of it
-  own_part : (st : State) (count part : Id → ℕ) → ((r : ℕ) → part (ref r) ≤ count (ref r)) → Own st count → Own st part
+  pub own_part : (st : State) (count part : Id → ℕ) → ((r : ℕ) → part (ref r) ≤ count (ref r)) → Own st count → Own st part
   own_part st count part le o = record {
     once = λ r. let h = o.once r in let k = le r in omega (arith, h, k);
     low = λ r w. o.low r (let k = le r in omega (arith, w, k));
@@ -268,7 +268,7 @@ module _ (st0 : State) (after : Source → Bool) (G : Type 0) where
   }
 
   -- what stands beside a part, after this
-  own_next : (p : Path) (S : PathStep → Type 0) (st st1 : State) (a b : Id → ℕ) (ns qs : List ℕ) → Own st (λ q. a q + b q) → Turn p S st st1 a ns qs → Own st1 b
+  pub own_next : (p : Path) (S : PathStep → Type 0) (st st1 : State) (a b : Id → ℕ) (ns qs : List ℕ) → Own st (λ q. a q + b q) → Turn p S st st1 a ns qs → Own st1 b
   own_next p S st st1 a b ns qs o h = record {
     once = λ r. let i = o.once r in omega (arith, i);
     low = λ r w. o.low r (omega (arith, w));
@@ -369,7 +369,7 @@ module _ (st0 : State) (after : Source → Bool) (G : Type 0) where
     cold false e = e
     cold true e = absurd (true≢false (sym (ap (λ t. last_of t st.touched) (o.rows z.ref fit.0) ∙ fit.1 st0.touched st.touched le.warm e) ∙ s))
 
-  reread_turn : (p : Path) (z : Spot) (st : State) → Fit p z → Later st → Own st (λ q. occurs q z.made) → Turn p NoStep st (reread z.ref st) (λ q. occurs q z.made) [] (z.ref ∷ [])
+  pub reread_turn : (p : Path) (z : Spot) (st : State) → Fit p z → Later st → Own st (λ q. occurs q z.made) → Turn p NoStep st (reread z.ref st) (λ q. occurs q z.made) [] (z.ref ∷ [])
   reread_turn p z st fit le o = one_turn p z st (evaluate z.ref st) _ fit le o refl refl (λ y. refl) (λ r. refl) refl (is_stale st z.ref) refl
 
   -- what follows on a position
@@ -438,11 +438,11 @@ module _ (st0 : State) (after : Source → Bool) (G : Type 0) where
     exprs_seen p v es s c = all_in (AtOrAbove p) app σ (cells c (AtOrAbove p)) v (s c) es
 
     -- what stood at the beginning
-    spot_fits : (p : Path) (ms : MScope) (more : List Id) (z : Spot) (E : Store → (ℕ → Pair) → List Pair) (ps : List Pair) → (G → PairsIn (AtOrAbove p) ps) → SpottedIn app st0.look ms more z E ps → Fit p z
+    pub spot_fits : (p : Path) (ms : MScope) (more : List Id) (z : Spot) (E : Store → (ℕ → Pair) → List Pair) (ps : List Pair) → (G → PairsIn (AtOrAbove p) ps) → SpottedIn app st0.look ms more z E ps → Fit p z
     spot_fits p ms more z E ps w h =
         (h.own, subst Rising (sym h.is.0) (any_rises (sources_of ps)), (λ c. subst (Reads p) (sym h.is.0) (λ f g e. pairs_same (AtOrAbove p) ps (w c) f g e)))
 
-    attrs_turn : (p : Path) (made' : List Id) (s : Scope) (ms : MScope) (ws : Scope → List (WrittenValue Scope)) (ns : List Text) (n : ℕ) (xs : List AttrSpot) (st : State)
+    pub attrs_turn : (p : Path) (made' : List Id) (s : Scope) (ms : MScope) (ws : Scope → List (WrittenValue Scope)) (ns : List Text) (n : ℕ) (xs : List AttrSpot) (st : State)
         → ((k : Text) → G → PairsIn (AtOrAbove p) (taken_pairs app σ (ws s) k)) → AttrsStand app σ τ st0.look made' s ms ws ns xs → Later st → Own st (λ q. times_attrs q xs)
         → Turn p NoStep st (renew_attrs n xs st) (λ q. times_attrs q xs) [] (attr_positions xs)
     attrs_turn p made' s ms ws [] n [] st w h le o = no_turn p NoStep st
@@ -456,7 +456,7 @@ module _ (st0 : State) (after : Source → Bool) (G : Type 0) where
         (attrs_turn p made' s ms ws ns n xs st1 w h.2 (turn_later p NoStep st st1 ca [] (a.spot.ref ∷ []) one le) (own_next p NoStep st st1 ca cb [] (a.spot.ref ∷ []) o one))
     attrs_turn p made' s ms ws _ n _ st w h le o = absurd h
 
-    mods_turn : (p : Path) (made' : List Id) (n : ℕ) (s : Scope) (ms : MScope) (ws : Scope → List (WrittenModifier Scope)) (i : ℕ) (ds : List (WrittenModifier Scope)) (zs : List ModSpot) (st : State)
+    pub mods_turn : (p : Path) (made' : List Id) (n : ℕ) (s : Scope) (ms : MScope) (ws : Scope → List (WrittenModifier Scope)) (i : ℕ) (ds : List (WrittenModifier Scope)) (zs : List ModSpot) (st : State)
         → (G → ModifiersIn (AtOrAbove p) ds) → ModsStand app σ τ st0.look made' n s ms ws i ds zs → Later st → Own st (λ q. times_mods q zs)
         → Turn p NoStep st (renew_mods zs st) (λ q. times_mods q zs) [] (mod_positions zs)
     mods_turn p made' n s ms ws i [] [] st w h le o = no_turn p NoStep st
@@ -476,16 +476,16 @@ module _ (st0 : State) (after : Source → Bool) (G : Type 0) where
     -- Items
 
     module _ (ns : List Text) (ms : MScope) (p : Path) where
-      abbrev HandleTurns : Handle → Type 0
+      abbrev pub HandleTurns : Handle → Type 0
       HandleTurns h =
           ((q : Path) (st : State) → q ≡ item h.spot.key h.spot.occurrence ∷ p → Later st → Own st (λ i. times_in i h.lives) → TurnIn q (FromStep 0) st (λ i. times_in i h.lives) (h.go (with_names (item_names ns h.spot) ms) q st))
           × Fails made (comment_node h.comment)
 
-      abbrev AllTurn : List Handle → Type 0
+      abbrev pub AllTurn : List Handle → Type 0
       AllTurn [] = Unit {0}
       AllTurn (h ∷ hs) = HandleTurns h × AllTurn hs
 
-      abbrev TakenTurns : Entry → List Handle → Option (Handle × List Handle) → Type 0
+      abbrev pub TakenTurns : Entry → List Handle → Option (Handle × List Handle) → Type 0
       TakenTurns x hs None = Unit {0}
       TakenTurns x hs (Some k) = ((q : Id) → times_handles q hs ≡ times_handle q k.0 + times_handles q k.1) × (is_of x k.0 ≡ true) × HandleTurns k.0 × AllTurn k.1
 
@@ -493,14 +493,14 @@ module _ (st0 : State) (after : Source → Bool) (G : Type 0) where
       front_turns x h hs None k g = tt
       front_turns x h hs (Some y) k g = ((λ q. let e = g.0 q in omega (arith, e)), g.1, g.2, (k, g.3))
 
-      taken_turns : (x : Entry) (hs : List Handle) → AllTurn hs → TakenTurns x hs (taken x hs)
+      pub taken_turns : (x : Entry) (hs : List Handle) → AllTurn hs → TakenTurns x hs (taken x hs)
       taken_turns x [] g = tt
       taken_turns x (h ∷ hs) g = by (is_of x h) refl (front_turns x h hs (taken x hs) g.0 (taken_turns x hs g.1)) where
         by : (b : Bool) → is_of x h ≡ b → TakenTurns x (h ∷ hs) (with_front h (taken x hs)) → TakenTurns x (h ∷ hs) (if b then Some (h, hs) else with_front h (taken x hs))
         by true e k = ((λ q. refl), e, g.0, g.1)
         by false e k = k
 
-      item_turn : (x : Entry) (h : Handle) (st : State) → is_of x h ≡ true → Later st → Own st (λ i. times_handle i h) → HandleTurns h
+      pub item_turn : (x : Entry) (h : Handle) (st : State) → is_of x h ≡ true → Later st → Own st (λ i. times_handle i h) → HandleTurns h
           → TurnArm p (Only (item x.key x.occurrence)) st (λ i. times_handle i h) (renew_item ns ms (item x.key x.occurrence ∷ p) x h st).arm
       item_turn x h st e le o k =
           let l = item x.key x.occurrence in
@@ -521,10 +521,10 @@ module _ (st0 : State) (after : Source → Bool) (G : Type 0) where
           (after_turn p (Only l) st st2 r.1 cg cl [] (nodes_in r.0 ++ comment_node h.comment) (positions_in r.0) m
           (then_nodes p (Only l) st2 r.1 r.1 cl (nodes_in r.0) (comment_node h.comment) (positions_in r.0) (child_turn l p (FromStep 0) st2 r.1 cl (nodes_in r.0) (positions_in r.0) go) (rest_turn p NoStep r.1 (comment_node h.comment) k.1)))
 
-      abbrev OneTurns : (Path → Entry → State → ItemGrown) → Type 0
+      abbrev pub OneTurns : (Path → Entry → State → ItemGrown) → Type 0
       OneTurns one = (q : Path) (x : Entry) (st : State) → CountedArm st (one q x st).arm
 
-      sync_turn : (one : Path → Entry → State → ItemGrown) → OneTurns one → (xs : List Entry) (olds : List Handle) (st : State) → Distinct xs
+      pub sync_turn : (one : Path → Entry → State → ItemGrown) → OneTurns one → (xs : List Entry) (olds : List Handle) (st : State) → Distinct xs
           → Later st → Own st (λ q. times_handles q olds) → AllTurn olds → TurnItems p (StepsOf xs) st (λ q. times_handles q olds) (sync one ns ms p xs olds st)
       sync_turn one h [] olds st d le o a = drop_turn p (StepsOf []) (λ q. times_handles q olds) st
       sync_turn one h (x ∷ xs) olds st d le o a = by (taken x olds) (taken_turns x olds a) (λ olds' st'. sync_turn one h xs olds' st' d.1) where
@@ -558,7 +558,7 @@ module _ (st0 : State) (after : Source → Bool) (G : Type 0) where
             (then_turn p (Only l) (StepsOf xs) (StepsOf (x ∷ xs)) st arm.state r.1 ca cr ns1 (nodes_items r.0) (positions_in arm.lives) (positions_items r.0)
             (λ j w. inl w) (λ j w. inr w) (λ j u v. later_apart x.key x.occurrence xs d.0 j u v) f (rec y.1 arm.state (turn_later p (Only l) st arm.state ca ns1 (positions_in arm.lives) f le) o1 k.3))
 
-    fresh_steps : (m : ℕ) (ms : MScope) (p : Path) (b : t.Body) (st : State) → CountedIn st (fresh_body app τ m ms p b st)
+    pub fresh_steps : (m : ℕ) (ms : MScope) (p : Path) (b : t.Body) (st : State) → CountedIn st (fresh_body app τ m ms p b st)
     fresh_steps m ms p b st =
         let d = grow_components m app τ in body_steps app d (grow_yields app d (passed_in ms)) (components_steps m app τ) (yields_steps app d (components_steps m app τ) (passed_in ms)) b ms p 0 st
 
@@ -569,7 +569,7 @@ module _ (st0 : State) (after : Source → Bool) (G : Type 0) where
         let a = or_comment (fresh_body app τ m ms q b st1) in
         over_turn p AnyStep count st a.state (nodes_in a.lives ++ comment_node a.comment) (positions_in a.lives) le (arm_steps st1 (fresh_body app τ m ms q b st1) (fresh_steps m ms q b st1))
 
-    fresh_items_steps : (m : ℕ) (ms : MScope) (ns : List Text) (b : t.Body) (q : Path) (x : Entry) (st : State) → CountedArm st (fresh_items app τ m ms ns b q x st).arm
+    pub fresh_items_steps : (m : ℕ) (ms : MScope) (ns : List Text) (b : t.Body) (q : Path) (x : Entry) (st : State) → CountedArm st (fresh_items app τ m ms ns b q x st).arm
     fresh_items_steps m ms ns b q x st = item_steps (λ ms' q' st'. fresh_body app τ m ms' q' b st') (λ ms' q' st'. fresh_steps m ms' q' b st') ms ns q x st
 
     fresh_list_turn : (p : Path) (m : ℕ) (ms : MScope) (ns : List Text) (q : Path) (b : t.Body) (xs : List Entry) (count : Id → ℕ) (st : State) → Later st
@@ -589,16 +589,16 @@ module _ (st0 : State) (after : Source → Bool) (G : Type 0) where
         then_nodes p AnyStep st r.1 r.1 (λ q. times_in q ls + times_comment q k) (nodes_in r.0) (comment_node k) (positions_in r.0)
         (inner_turn l p (FromStep 0) st r.1 (λ q. times_in q ls) (λ q. times_in q ls + times_comment q k) (nodes_in r.0) (positions_in r.0) (λ i z. omega (arith, z)) h) (rest_turn p NoStep r.1 (comment_node k) f)
 
-    list_fits : (Q : Path → Type 0) (us : Values Path) (P : Values Path → Type 0) (R : Type 0) → (G → OwnersAll Q us) → ((us : Values Path) → (G → OwnersAll Q us) → P us → R) → WhereValues us P ⊥ → R
+    pub list_fits : (Q : Path → Type 0) (us : Values Path) (P : Values Path → Type 0) (R : Type 0) → (G → OwnersAll Q us) → ((us : Values Path) → (G → OwnersAll Q us) → P us → R) → WhereValues us P ⊥ → R
     list_fits Q no_values P R w f h = absurd h
     list_fits Q (value v us) P R w f h = f (value v us) w h
 
-    else_fits : (us : Values Path) (P Q : Type 0) → (P → Q) → WhereValues us (λ z. ⊥) P → Q
+    pub else_fits : (us : Values Path) (P Q : Type 0) → (P → Q) → WhereValues us (λ z. ⊥) P → Q
     else_fits no_values P Q f h = f h
     else_fits (value v us) P Q f h = absurd h
 
     mutual
-      renew_turn : (m b : ℕ) (v : Scope) (ms : MScope) (p : Path) (x : t.Stmt) (l : Live) (st : State) → Stands app σ τ st0.look m b v ms p x l → Seen p v → Fails made (nodes_of l) → Later st → Own st (λ q. times q l)
+      pub renew_turn : (m b : ℕ) (v : Scope) (ms : MScope) (p : Path) (x : t.Stmt) (l : Live) (st : State) → Stands app σ τ st0.look m b v ms p x l → Seen p v → Fails made (nodes_of l) → Later st → Own st (λ q. times q l)
           → TurnOf p AnyStep st (λ q. times q l) (renew app τ m ms p x l st)
       renew_turn m b v ms p (t.text_stmt z) (Live.still n) st h s f le o = turn_count p AnyStep AnyStep st st (λ q. 0) (λ q. hit q (node n)) (n ∷ []) [] (λ j w. w) (λ r e. refl) (rest_turn p AnyStep st (n ∷ []) f)
       renew_turn m b v ms p (t.comment_stmt z) (Live.still n) st h s f le o = turn_count p AnyStep AnyStep st st (λ q. 0) (λ q. hit q (node n)) (n ∷ []) [] (λ j w. w) (λ r e. refl) (rest_turn p AnyStep st (n ∷ []) f)
@@ -734,7 +734,7 @@ module _ (st0 : State) (after : Source → Bool) (G : Type 0) where
       body_turn m b v ms p i _ _ st h s f le o = absurd h
 
       -- the items of the list at p
-      handles_turn : (m b : ℕ) (v : Scope) (ms : MScope) (p : Path) (ns : List Text) (c : t.Body) (xs : List Entry) (is : Items) → ItemsStand app σ τ st0.look m b v ms (items ∷ p) ns c xs is → Seen p v
+      pub handles_turn : (m b : ℕ) (v : Scope) (ms : MScope) (p : Path) (ns : List Text) (c : t.Body) (xs : List Entry) (is : Items) → ItemsStand app σ τ st0.look m b v ms (items ∷ p) ns c xs is → Seen p v
           → (G → EntriesIn (AtOrAbove p) xs) → Fails made (nodes_items is) → AllTurn ns ms (items ∷ p) (handles app τ m c is)
       handles_turn m b v ms p ns c [] Live.no_items h s y f = tt
       handles_turn m b v ms p ns c (x ∷ xs) (Live.item_live z k ls is) h s y f =

@@ -68,7 +68,7 @@ not_new n k lt = by (leb_tells n k) where
   by (inl h) = let i = h.1 in absurd (omega (arith, i, lt))
   by (inr h) = h.0
 
-nodes_old : (st : State) (l : Live) → Owned st (λ q. times q l) → Fails (λ n. nat_le (st.next a_node) n) (nodes_of l)
+pub nodes_old : (st : State) (l : Live) → Owned st (λ q. times q l) → Fails (λ n. nat_le (st.next a_node) n) (nodes_of l)
 nodes_old st l o = nodes_own (λ n. nat_le (st.next a_node) n) l (λ n w. not_new (st.next a_node) n (is_old st (λ q. times q l) o (node n) w))
 
 app_turn : (app : App) (σ τ : Store) (st : State) (l : Live) → StandsFor app σ τ st l

@@ -17,6 +17,3 @@ pub use program::Program;
 pub use program_list::ProgramList;
 pub use programs::Programs;
 pub use words::Words;
-
-#[cfg(test)]
-mod tests;

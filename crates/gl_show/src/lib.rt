@@ -7,8 +7,6 @@ mod part;
 mod scan;
 mod spelling;
 mod stmt;
-#[cfg(test)]
-mod tests;
 mod text;
 mod value;
 

@@ -9,8 +9,6 @@ mod entries;
 pub mod laws;
 mod tag;
 mod tags;
-#[cfg(test)]
-mod tests;
 
 pub use tag::TagId;
 pub use tags::Tags;

@@ -21,6 +21,3 @@ pub use named::NamedValues;
 pub use property::{Found, key_of};
 pub use quoting::{push_quoted, quote};
 pub use value::{Act, DEEPEST, GREATEST, List, Pair, Record, Value};
-
-#[cfg(test)]
-mod tests;

@@ -1,3 +1,4 @@
+pub mod Again
 pub mod Allowed
 pub mod Expressions
 pub mod Loops

@@ -1,4 +1,4 @@
-use Rattle.std.proofs.Common.{◌≡◌, ◌<◌, ◌++◌, ◌-◌, take, append-nil, [], ◌∷◌, map, option_map, sym, ap, subst, ◌∙◌}
+use Rattle.std.proofs.Common.{◌≡◌, ◌<◌, ◌++◌, ◌-◌, take, append-nil, [], ◌∷◌, option_map, sym, ap, subst, ◌∙◌}
 use Rattle.std.proofs.lemmas.List.{map-append}
 use Rattle.gl_destroy.specs.Forest.{children_first}
 use Rattle.gl_destroy.specs.Links.{IsLeft, living, size, read, tree_in}
@@ -27,8 +27,8 @@ loop-at-smaller c =
     let left = subst (λ ids. IsLeft l made ids order whole) c.in-Some.ensures.items c.loop-at.invariant in
     let stack = c.in_ok-push_living.ensures ∙ ap (λ ids. is ++ living l ids) c.as_slice.ensures.value in
     subst (λ s. size (read l made s) < size (read l made c.loop-at.stack.items)) (sym stack)
-    (subst (λ s. size (read l made (is ++ living l e.children.items)) < size (read l made s)) (sym c.in-Some.ensures.items)
-    (step_smaller l made is c.in-Some.at (seen_what e.what) e.children.items order whole left (ap (option_map seen_entry) c.get-entry.ensures)))
+    (subst (λ s. size (read l made (is ++ living l e.children.list.items)) < size (read l made s)) (sym c.in-Some.ensures.items)
+    (step_smaller l made is c.in-Some.at (seen_what e.what) e.children.list.items order whole left (ap (option_map seen_entry) c.get-entry.ensures)))
 
 pub loop-at-preserved : goal.loop-at-preserved
 loop-at-preserved c =
@@ -42,8 +42,8 @@ loop-at-preserved c =
     let stack = c.in_ok-push_living.ensures ∙ ap (λ ids. is ++ living l ids) c.as_slice.ensures.value in
     let told = ap seen_pairs c.in_ok-push-2.ensures.items ∙ map-append seen_pair c.loop-at.order.items ((c.in-Some.at, e.what) ∷ []) in
     subst (λ s. IsLeft l made s (seen_pairs c.push-in-Some.new.self.items) whole) (sym stack)
-    (subst (λ es. IsLeft l made (is ++ living l e.children.items) es whole) (sym told)
-    (step_left l made is c.in-Some.at (seen_what e.what) e.children.items order whole left (ap (option_map seen_entry) c.get-entry.ensures)))
+    (subst (λ es. IsLeft l made (is ++ living l e.children.list.items) es whole) (sym told)
+    (step_left l made is c.in-Some.at (seen_what e.what) e.children.list.items order whole left (ap (option_map seen_entry) c.get-entry.ensures)))
 
 pub returns : goal.returns
 returns c =

@@ -21,7 +21,7 @@ returns-clause-lowers c =
     let body = ap body_of c.body.ensures in
     lowers_all m k (wire_view c.args.wire.now) r
     (subst (λ b. IfOk r (λ p. IsProgramOf (program_view p) (template_code m k c.args.wire.now.symbols b start))) body
-    (subst (λ ns. IfOk r (λ p. IsProgramOf (program_view p) (template_code m k ns (body_of c.body.result.now) start))) c.symbols-symbols.ensures c.body_program.ensures.made))
+    (subst (λ ns. IfOk r (λ p. IsProgramOf (program_view p) (template_code m k ns (body_of c.body.result.now) start))) c.symbols.ensures c.body_program.ensures.made))
     (subst (λ b. IfOk r (λ p. body_faults m k 0 b ≡ [])) body c.body_program.ensures.known)
 
 pub returns-clause-unknown : goal.returns-clause-unknown

@@ -1,0 +1,3 @@
+pub mod Arrays
+mod Cases
+pub mod Written

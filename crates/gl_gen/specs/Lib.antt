@@ -1,0 +1,3 @@
+pub mod Application
+pub mod Rows
+pub mod Script

@@ -1,0 +1,6 @@
+pub mod Arguments
+pub mod AtNodes
+pub mod Endings
+pub mod Ids
+pub mod Calls
+pub mod Seen

@@ -1,0 +1,12 @@
+use Rattle.std.proofs.Common.{◌≡◌, ◌∙◌, subst}
+use Rattle.std.specs.Prelude.{IfOk}
+use Rattle.gl_opc.proofs.Lookups.{number_seen, seen_rising, getters_rise}
+use Rattle.gl_opc.proofs.lookup.getter_number.Goals as goal
+use Rattle.gl_ast.specs.View.{named_view}
+use Rattle.gl_meaning.specs.View.{class_view, manifest_view}
+
+pub place-requires : goal.place-requires
+place-requires c = λ rise. seen_rising (λ x. x.0) named_view c.as_slice.result.now _ c.as_slice.ensures (getters_rise (manifest_view c.args.context.now.manifest.now) (class_view c.args.context.now.class.now) (c.args.context.now.ordered rise))
+
+pub returns : goal.returns
+returns c = subst (λ p. IfOk c.number.result (λ n. n ≡ p)) (c.place.ensures ∙ number_seen c.args.name.now (λ x. x.0) named_view c.as_slice.result.now _ c.as_slice.ensures) c.number.ensures
