@@ -8,9 +8,9 @@ use Rattle.gl_meaning.specs.Path.{at, main, otherwise, items, item, into, slot, 
 use Rattle.gl_meaning.specs.Eval.{Store, class_at, cell_value, takes_first}
 use Rattle.gl_meaning.specs.Render.{Entry, entries, values_listed, Block, block_named}
 use Rattle.gl_plain.specs.Ids.{a_ref, a_node, an_instance, a_block, Id, ref, block_id, instance_id}
-use Rattle.gl_plain.specs.State.{source_form, Names, Inst, MScope, mscope, MPassed, mnothing, mpassed, refs_of, with_names, Content, element_content, text_content, comment_content, content, instance_row, block_row, State, make}
-use Rattle.gl_plain.specs.Naming.{Naming, by_path}
-use Rattle.gl_plain.specs.Binding.{BoundNames, made_row, bind_exprs_as, bind_args_as, bind_params, Spot, place, first_value}
+use Rattle.gl_plain.specs.State.{Names, Inst, MScope, mscope, MPassed, mnothing, mpassed, refs_of, with_names, Content, element_content, text_content, comment_content, content, instance_row, block_row, State, make}
+use Rattle.gl_plain.specs.Naming.{Naming, by_path, made_source}
+use Rattle.gl_plain.specs.Binding.{BoundNames, bind_exprs_as, bind_args_as, bind_params, Spot, place, first_value}
 use Rattle.gl_plain.specs.Tags.{bind_written_as, flush_parts, install_parts}
 use Rattle.gl_plain.specs.Parts.{mwritten_parts}
 use Rattle.gl_plain.specs.Live.{ItemSpot, item_names, Live, still, put_live, element_live, branch_live, listed, unlisted, let_live, component_live, yield_live, deep_live, Items, no_items, item_live, Lives, no_lives, live_and, have_node}
@@ -41,9 +41,9 @@ module _ (naming : Naming) where
   abbrev pub item_spot_as : List Text → Path → Entry → State → ItemSpot × State
   item_spot_as ns q x st =
       let v = st.next a_ref in
-      let st1 = made_row (source_form (naming.value_source v q) x.value) st in
+      let st1 = made_source naming (naming.value_source v q) x.value st in
       let i = st1.next a_ref in
-      let st2 = made_row (source_form (naming.index_source i q) (count_value x.index)) st1 in
+      let st2 = made_source naming (naming.index_source i q) (count_value x.index) st1 in
       let b = bind_params ns (v ∷ i ∷ []) st2 in
       (record { key = x.key; occurrence = x.occurrence; value = v; index = i; more = b.made; params = refs_of b.names }, b.state)
 
@@ -142,7 +142,7 @@ module _ (naming : Naming) where
   abbrev pub grow_cells_as : App → Store → Path → List (Text × Plain) → State → BoundNames
   grow_cells_as app store q [] st = record { names = []; made = []; state = st }
   grow_cells_as app store q (f ∷ fs) st =
-      let c = grow_cells_as app store q fs (made_row (source_form (naming.cell_source (st.next a_ref) q f.0) (cell_value app store q f.0)) st) in
+      let c = grow_cells_as app store q fs (made_source naming (naming.cell_source (st.next a_ref) q f.0) (cell_value app store q f.0) st) in
       record { names = (f.0, st.next a_ref) ∷ c.names; made = ref (st.next a_ref) ∷ c.made; state = c.state }
 
   abbrev pub grow_components_as : ℕ → App → Store → GrowComponents

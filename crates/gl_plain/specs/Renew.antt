@@ -11,8 +11,8 @@ use Rattle.gl_meaning.specs.Eval.{Store, class_at, takes_first, values_in}
 use Rattle.gl_meaning.specs.Parts.{Attrs, attribute_value}
 use Rattle.gl_meaning.specs.Render.{Entry, entries, values_listed, Block, block_named}
 use Rattle.gl_plain.specs.Ids.{Id, ref, node, modifier_id}
-use Rattle.gl_plain.specs.State.{any_of, Form, all_form, MScope, mscope, mnothing, mpassed, passed_in, mslots, mwriter, named_as, with_names, Content, element_content, text_content, comment_content, content, row, modifier_row, Installed, Thing, State, pair_of, put_thing, dropped, touch, held_value, note_evaluated, note_updated}
-use Rattle.gl_plain.specs.Naming.{Naming, by_path}
+use Rattle.gl_plain.specs.State.{any_of, Form, all_form, MScope, mscope, mnothing, mpassed, passed_in, mslots, mwriter, named_as, with_names, Content, element_content, text_content, comment_content, content, row, modifier_row, Installed, Thing, State, pair_of, put_thing, touch, held_value, note_evaluated, note_updated}
+use Rattle.gl_plain.specs.Naming.{Naming, by_path, dropped_as}
 use Rattle.gl_plain.specs.Binding.{first_value}
 use Rattle.gl_plain.specs.Live.{AttrSpot, ModSpot, ItemSpot, item_names, item_made, Live, put_live, element_live, branch_live, listed, unlisted, let_live, component_live, yield_live, Items, no_items, item_live, Lives, live_and, times_in, times_comment, times_items}
 use Rattle.gl_plain.specs.Ids.{occurs}
@@ -127,7 +127,7 @@ module _ (naming : Naming) where
 
   -- the entries of now in order; what is left of the old items goes
   abbrev pub sync_as : (Path → Entry → State → ItemGrown) → List Text → MScope → Path → List Entry → List Handle → State → Items × State
-  sync_as one ns ms p [] olds st = (no_items, dropped (λ q. times_handles q olds) st)
+  sync_as one ns ms p [] olds st = (no_items, dropped_as naming (λ q. times_handles q olds) st)
   sync_as one ns ms p (x ∷ xs) olds st =
       let g = sync_one_as one ns ms (item x.key x.occurrence ∷ p) x olds (taken x olds) st in
       let r = sync_as one ns ms p xs g.1 g.0.arm.state in
@@ -169,21 +169,21 @@ module _ (naming : Naming) where
           let st1 = reread s.ref st in
           if takes_first unless (first_value (spot_pairs st1 s.ref))
           then branch_from s true (let r = renew_body_as m ms (main ∷ p) 0 b ls st1 in record { comment = k; lives = r.0; state = r.1 })
-          else branch_from s false (or_comment (fresh_body_as m ms (otherwise ∷ p) c (dropped (λ q. times_in q ls + times_comment q k) st1)))
+          else branch_from s false (or_comment (fresh_body_as m ms (otherwise ∷ p) c (dropped_as naming (λ q. times_in q ls + times_comment q k) st1)))
       renew_as m ms p (if_stmt e unless b c) (branch_live s false k ls) st =
           let st1 = reread s.ref st in
           if takes_first unless (first_value (spot_pairs st1 s.ref))
-          then branch_from s true (or_comment (fresh_body_as m ms (main ∷ p) b (dropped (λ q. times_in q ls + times_comment q k) st1)))
+          then branch_from s true (or_comment (fresh_body_as m ms (main ∷ p) b (dropped_as naming (λ q. times_in q ls + times_comment q k) st1)))
           else branch_from s false (let r = renew_body_as m ms (otherwise ∷ p) 0 c ls st1 in record { comment = k; lives = r.0; state = r.1 })
       renew_as m ms p (each e k ns b c) (listed s is) st =
           let st1 = reread s.ref st in
           where_values (values_listed (first_value (spot_pairs st1 s.ref)))
           (λ vs. listed_from s (sync_as naming (fresh_items_as m ms ns b) ns ms (items ∷ p) (entries k 0 [] vs) (handles_as m b is) st1))
-          (unlisted_from s (or_comment (fresh_body_as m ms (otherwise ∷ p) c (dropped (λ q. times_items q is) st1))))
+          (unlisted_from s (or_comment (fresh_body_as m ms (otherwise ∷ p) c (dropped_as naming (λ q. times_items q is) st1))))
       renew_as m ms p (each e k ns b c) (unlisted s o ls) st =
           let st1 = reread s.ref st in
           where_values (values_listed (first_value (spot_pairs st1 s.ref)))
-          (λ vs. listed_from s (grow_entries (fresh_items_as m ms ns b) (items ∷ p) (entries k 0 [] vs) (dropped (λ q. times_in q ls + times_comment q o) st1)))
+          (λ vs. listed_from s (grow_entries (fresh_items_as m ms ns b) (items ∷ p) (entries k 0 [] vs) (dropped_as naming (λ q. times_in q ls + times_comment q o) st1)))
           (unlisted_from s (let r = renew_body_as m ms (otherwise ∷ p) 0 c ls st1 in record { comment = o; lives = r.0; state = r.1 }))
       renew_as m ms p (let_stmt es ns b) (let_live made rs ls) st =
           let r = renew_body_as m (with_names (named_as ns rs) ms) (main ∷ p) 0 b ls st in (let_live made rs r.0, r.1)
