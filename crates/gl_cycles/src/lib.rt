@@ -8,7 +8,5 @@ mod finding;
 pub mod laws;
 mod marks;
 mod mentions;
-#[cfg(test)]
-mod tests;
 
 pub use finding::cycle;

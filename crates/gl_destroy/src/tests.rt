@@ -28,7 +28,7 @@ enum Line {
 
 // A branch with an instance that has teardown and a modifier; then a list with two items, of which the first has an
 // instance with two modifiers; then siblings that are destroyed one by one.
-const STEPS: [Step; 30] = [
+static STEPS: [Step; 30] = [
     Step::Root,
     Step::Group(0),
     Step::Instance(1, 7, true),

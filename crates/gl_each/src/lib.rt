@@ -17,6 +17,3 @@ pub use keying::keys;
 pub use lists::{Keys, Places, PlanSteps};
 pub use planning::plan;
 pub use step::{Plan, PlanStep};
-
-#[cfg(test)]
-mod tests;

@@ -7,7 +7,7 @@ use std::test::Fail;
 // The number of rows, the manifest and the script.
 type Row = (u32, &'static str, &'static str);
 
-const SAMPLES: [Row; 3] = [
+static SAMPLES: [Row; 3] = [
     (
         1,
         "{\"classes\":{\"App\":{\"actions\":{\"pick\":{\"do\":[{\"set\":\"rows\",\"to\":\"(updateWhere this.rows 'id' id 'on' true)\"}],\"params\":[\"id\"]}},\"fields\":{\"rows\":[{\"id\":0,\"t\":\"r0\"}]},\"template\":\"app.hbs\"},\"Row\":{\"template\":\"row.hbs\"}},\"root\":\"App\"}",
@@ -70,7 +70,7 @@ const SAMPLES: [Row; 3] = [
     ),
 ];
 
-const FILES: [(&str, &str); 2] = [
+static FILES: [(&str, &str); 2] = [
     (
         "app.hbs",
         "<ul>{{#each this.rows key=\"id\" as |r|}}<Row @r={{r}} @pick={{fn this.pick r.id}} />{{/each}}</ul>",

@@ -18,10 +18,3 @@ pub use fault::{LoadCause, LoadFault, fault_in};
 pub use file::template_in;
 pub use templates::Templates;
 pub use whole::{Loaded, load};
-
-#[cfg(test)]
-mod program_tests;
-#[cfg(test)]
-mod tests;
-#[cfg(test)]
-mod wire_tests;

@@ -43,3 +43,5 @@ pub mod Makes
 pub mod MarkGrows
 pub mod MarkRenews
 pub mod MarkRoots
+pub mod Given
+pub mod Touches

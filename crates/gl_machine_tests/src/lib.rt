@@ -1,4 +1,4 @@
-//! Tests of ids, of the tree of nodes and of tags, as callers meet them.
+//! Tests of ids, of the tree of nodes, its lines, keyed lists, tags and scopes, as callers meet them.
 //!
 //! They stand above the crates that they test, so that a check of them proves the tests alone.
 #![tactic(auto)]
@@ -6,6 +6,12 @@
 #[cfg(test)]
 mod arena;
 #[cfg(test)]
+mod each;
+#[cfg(test)]
 mod nodes;
+#[cfg(test)]
+mod print;
+#[cfg(test)]
+mod scope;
 #[cfg(test)]
 mod tags;

@@ -17,6 +17,3 @@ mod texts;
 
 pub use fault::ManifestFault;
 pub use reading::read;
-
-#[cfg(test)]
-mod tests;

@@ -27,6 +27,3 @@ pub use manifest::{
 };
 pub use path::{Path, PathStep, PathSteps};
 pub use script::{Event, Events, Script};
-
-#[cfg(test)]
-mod tests;

@@ -19,7 +19,7 @@ enum Step {
     Commit(&'static [usize], &'static [usize]),
 }
 
-const STEPS: [Step; 27] = [
+static STEPS: [Step; 27] = [
     Step::Commit(&[], &[]),
     Step::Install(0, 0, 0, &["click", "first"]),
     Step::Install(1, 0, 0, &["click", "other"]),

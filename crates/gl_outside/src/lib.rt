@@ -11,8 +11,6 @@ mod memory;
 mod real;
 mod shelf;
 mod sink;
-#[cfg(test)]
-mod tests;
 
 pub use calls::Calls;
 pub use calm::{CalmShelf, CalmSink};

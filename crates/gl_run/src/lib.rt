@@ -18,6 +18,3 @@ pub use fault::FormFault;
 pub use session::PlayFault;
 pub use status::Status;
 pub use top::{Last, run};
-
-#[cfg(test)]
-mod tests;

@@ -7,8 +7,6 @@ mod locals;
 mod passed;
 mod scope;
 mod stack;
-#[cfg(test)]
-mod tests;
 
 pub use args::Args;
 pub use locals::Locals;

@@ -9,8 +9,6 @@ mod fault;
 mod fields;
 pub mod laws;
 mod reading;
-#[cfg(test)]
-mod tests;
 
 pub use fault::ScriptFault;
 pub use reading::read;

@@ -21,6 +21,3 @@ pub use walk::{
     ItemReader, ItemRule, MemberReader, MemberRule, check_array, check_items, check_members,
     check_object, read_items, read_items_at, read_members, read_members_at,
 };
-
-#[cfg(test)]
-mod tests;

@@ -40,29 +40,29 @@ abbrev mutual
   SamePassed (mpassed k ps bs s) (passed qs cs v) = (cs ≡ bs) × SameScope s v
   SamePassed _ _ = ⊥
 
-abbrev slots_in : Passed → Slots
+abbrev pub slots_in : Passed → Slots
 slots_in nothing_passed = no_slots
 slots_in (passed ps bs s) = bs
 
-same_in : (ms : MScope) (w : Scope) → SameScope ms w → SamePassed (passed_in ms) (passed_of w)
+pub same_in : (ms : MScope) (w : Scope) → SameScope ms w → SamePassed (passed_in ms) (passed_of w)
 same_in (mscope i a l v) (scope j b k u) s = s
 
-same_slots : (v : MPassed) (u : Passed) → SamePassed v u → slots_in u ≡ mslots v
+pub same_slots : (v : MPassed) (u : Passed) → SamePassed v u → slots_in u ≡ mslots v
 same_slots mnothing nothing_passed s = refl
 same_slots (mpassed k ps bs m) (passed qs cs w) s = s.0
 same_slots mnothing (passed qs cs w) s = absurd s
 same_slots (mpassed k ps bs m) nothing_passed s = absurd s
 
-same_writer : (v : MPassed) (u : Passed) → SamePassed v u → SameScope (mwriter v) (writer u)
+pub same_writer : (v : MPassed) (u : Passed) → SamePassed v u → SameScope (mwriter v) (writer u)
 same_writer mnothing nothing_passed s = tt
 same_writer (mpassed k ps bs m) (passed qs cs w) s = s.1
 same_writer mnothing (passed qs cs w) s = absurd s
 same_writer (mpassed k ps bs m) nothing_passed s = absurd s
 
-same_named : (ms : MScope) (w : Scope) (ns : Names) (xs : NamedPairs) → SameScope ms w → SameScope (with_names ns ms) (with_locals xs w)
+pub same_named : (ms : MScope) (w : Scope) (ns : Names) (xs : NamedPairs) → SameScope ms w → SameScope (with_names ns ms) (with_locals xs w)
 same_named (mscope i a l v) (scope j b k u) ns xs s = s
 
-locals_passed : (xs : NamedPairs) (w : Scope) → passed_of (with_locals xs w) ≡ passed_of w
+pub locals_passed : (xs : NamedPairs) (w : Scope) → passed_of (with_locals xs w) ≡ passed_of w
 locals_passed xs (scope j b l u) = refl
 
 -- Lists

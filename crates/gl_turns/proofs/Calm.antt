@@ -1,7 +1,6 @@
 -- Binding installs and updates no modifier.
-use Rattle.std.proofs.Common.{◌≡◌, ◌<◌, ◌≤◌, ℕ, zero, suc, List, [], ◌∷◌, ◌++◌, Bool, true, false, Option, Some, None, refl, sym, ◌∙◌, ap, subst, arith}
-use Rattle.std.specs.Prelude.{map, length, if◌then◌else◌}
-use Rattle.std.proofs.lemmas.List.{append-nil, append_assoc}
+use Rattle.std.proofs.Common.{◌≡◌, ℕ, zero, suc, List, [], ◌∷◌, Bool, true, false, Option, Some, None, refl, ◌∙◌}
+use Rattle.std.specs.Prelude.{if◌then◌else◌}
 use Rattle.gl_base.specs.Texts.{Text}
 use Rattle.gl_base.specs.Names.{last_named}
 use Rattle.gl_value.specs.Value.{undefined, text, action, no_values, plain}
@@ -9,16 +8,15 @@ use Rattle.gl_ast.specs.Template.{Expr, Exprs, NamedExprs, AttrValue, Part, Plai
 use Rattle.gl_ast.specs.Template as t
 use Rattle.gl_meaning.specs.App.{App}
 use Rattle.gl_meaning.specs.Path.{Path}
-use Rattle.gl_meaning.specs.Scope.{Pair, Source, cell, sources_of}
-use Rattle.gl_meaning.specs.Eval.{Store, values_in, class_at, cell_value, Member, field_member, getter_member, action_member, member_of}
+use Rattle.gl_meaning.specs.Scope.{cell}
+use Rattle.gl_meaning.specs.Eval.{Store, class_at, cell_value, Member, field_member, getter_member, action_member, member_of}
 use Rattle.gl_meaning.specs.Parts.{Written}
-use Rattle.gl_plain.specs.Ids.{a_ref, a_node, a_modifier, Kind, Id, ref}
-use Rattle.gl_plain.specs.State.{Form, constant_form, source_form, property_form, call_form, joined_form, all_form, MScope, inst_of, args_of, locals_in, own, any_of, row, modifier_row, Installed, Thing, State, make}
+use Rattle.gl_plain.specs.Ids.{a_modifier}
+use Rattle.gl_plain.specs.State.{Form, constant_form, source_form, property_form, call_form, joined_form, MScope, inst_of, args_of, locals_in, own, State}
 use Rattle.gl_plain.specs.Binding.{Bound, BoundAll, made_row, old_ref, after_made, bind_along, bind_found, bind_bare, bind_member, bind_in, bind_all_in, bind_named_in, bind_deep, getters_in, bind_expr, bind_exprs, bind_pairs, bind_value, bind_args, bind_params, place}
-use Rattle.gl_plain.specs.Tags.{first_values, named_with, values_from, bind_part, bind_written, Given, fixed_given, live_given, taken_waiting, some_waiting_live, given_ref, given_refs, given_pairs, AttrsGiven, give_attrs, flush_parts, attributes_waiting, names_waiting, Waiting, WaitingModifier, modifiers_waiting, install, install_all, install_parts}
+use Rattle.gl_plain.specs.Tags.{bind_part, bind_written, Given, fixed_given, live_given, taken_waiting, some_waiting_live, given_ref, given_refs, given_pairs, AttrsGiven, give_attrs, flush_parts, attributes_waiting, names_waiting, Waiting}
 use Rattle.gl_meaning.specs.Parts.{attribute_value}
 use Rattle.gl_plain.specs.Grow.{grow_cells}
-
 
 pub record Calm (st st' : State) : Type 0 where
   pub installs : st'.installs ≡ st.installs
@@ -164,4 +162,3 @@ attrs_calm ws (n ∷ ns) st = by (some_waiting_live (taken_waiting n ws)) (attrs
 
 pub flush_calm : (ps : List Waiting) (st : State) → let r = flush_parts ps st in Calm st r.state
 flush_calm ps st = attrs_calm (attributes_waiting ps) (names_waiting (attributes_waiting ps)) st
-

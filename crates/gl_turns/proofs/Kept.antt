@@ -130,7 +130,7 @@ module _ (next : Kind → ℕ) where
             (either_kept (us ++ (is ++ vs)) is' vs (more_left us (is ++ vs) is' (more_right is vs is' g e) d) (λ a m. inl (among_right a us (is ++ vs) (among_right a is vs m))))
 
   -- an item of now
-  item_count_same : (z : ItemSpot) (k : Option ℕ) (ls : Lives) (p : Path) → FitsIn (item z.key z.occurrence ∷ p) 0 ls
+  pub item_count_same : (z : ItemSpot) (k : Option ℕ) (ls : Lives) (p : Path) → FitsIn (item z.key z.occurrence ∷ p) 0 ls
       → Counted (item_count z k ls) (item_place (item z.key z.occurrence ∷ p) z ∷ (places_in (item z.key z.occurrence ∷ p) 0 ls ++ comment_places (item z.key z.occurrence ∷ p) k))
   item_count_same z k ls p f a (inl e) = subst (λ b. 0 < item_count z k ls (id_of b)) (sym e) (left_above _ _ (left_above _ _ (hit_self (Rattle.gl_plain.specs.Ids.ref z.value))))
   item_count_same z k ls p f a (inr m) = right_above _ _ (arm_counted (item z.key z.occurrence ∷ p) k ls f a m)
@@ -140,7 +140,7 @@ module _ (next : Kind → ℕ) where
   item_at z k ls p f a (inl e) = subst (λ j. Within (item z.key z.occurrence ∷ p) j) (sym (ap path_of e)) (within_itself (item z.key z.occurrence ∷ p))
   item_at z k ls p f a (inr m) = arm_at (item z.key z.occurrence ∷ p) k (places_in (item z.key z.occurrence ∷ p) 0 ls) (body_sited (item z.key z.occurrence ∷ p) 0 ls f) a m
 
-  abbrev item_list : Path → ItemSpot → Option ℕ → Lives → List Place
+  abbrev pub item_list : Path → ItemSpot → Option ℕ → Lives → List Place
   item_list p z k ls = item_place (item z.key z.occurrence ∷ p) z ∷ (places_in (item z.key z.occurrence ∷ p) 0 ls ++ comment_places (item z.key z.occurrence ∷ p) k)
 
   -- another body

@@ -16,5 +16,10 @@ pub mod LogGrows
 pub mod LogRenews
 pub mod Tagged
 pub mod Logged
+pub mod Gone
+pub mod Destroyed
+pub mod Walked
+pub mod Ordered
+pub mod Moved
 pub mod Turning
 mod Cases

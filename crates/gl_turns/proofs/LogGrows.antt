@@ -11,9 +11,9 @@ use Rattle.gl_meaning.specs.Scope.{item_value, item_index}
 use Rattle.gl_meaning.specs.Eval.{Store, class_at, takes_first}
 use Rattle.gl_meaning.specs.Render.{Entry, entries, values_listed, Block, block_named}
 use Rattle.gl_plain.specs.Ids.{a_ref, a_node, an_instance, a_block, a_modifier, Id, block_id}
-use Rattle.gl_plain.specs.State.{source_form, Names, Inst, MScope, mscope, MPassed, mnothing, mpassed, with_names, Content, comment_content, text_content, element_content, content, instance_row, block_row, State, make}
+use Rattle.gl_plain.specs.State.{source_form, Names, Inst, MScope, mscope, MPassed, mnothing, mpassed, with_names, Content, comment_content, text_content, element_content, instance_row, block_row, State, make}
 use Rattle.gl_plain.specs.Binding.{BoundAll, Spot, made_row, bind_exprs, bind_args, bind_params, place, first_value}
-use Rattle.gl_plain.specs.Tags.{Waiting, WaitingModifier, bind_written, flush_parts, install, install_all, install_parts, modifiers_waiting}
+use Rattle.gl_plain.specs.Tags.{WaitingModifier, bind_written, flush_parts, install, install_all, install_parts, modifiers_waiting}
 use Rattle.gl_plain.specs.Parts.{mwritten_parts}
 use Rattle.gl_plain.specs.Live.{Live, Lives, Items, have_node, item_names}
 use Rattle.gl_plain.specs.Grow.{made_node, Arm, or_comment, ItemGrown, item_spot, grow_item, grow_entries, branch_from, items_or_else, GrowComponents, GrowYields, grow_stmt, grow_body, grow_block, grow_yields, grow_cells, grow_components}

@@ -1,6 +1,6 @@
 -- What an update installs and updates goes with what it evaluates.
-use Rattle.std.proofs.Common.{◌≡◌, ◌≤◌, ◌+◌, ℕ, zero, suc, List, [], ◌∷◌, ◌++◌, map, Bool, true, false, Option, Some, None, cond, refl, sym, ap, ap₂, ◌∙◌, subst, arith, inl, inr, ◌⊎◌}
-use Rattle.std.specs.Prelude.{if◌then◌else◌, nat_le, not}
+use Rattle.std.proofs.Common.{◌≡◌, ◌≤◌, ◌+◌, ℕ, suc, List, [], ◌∷◌, ◌++◌, map, Bool, true, false, Option, Some, None, cond, refl, sym, ap, ap₂, ◌∙◌, subst, arith, inl, inr, ◌⊎◌}
+use Rattle.std.specs.Prelude.{if◌then◌else◌, nat_le}
 use Rattle.std.proofs.lemmas.Bool.{le-leb}
 use Rattle.std.proofs.lemmas.List.{append-nil, append_assoc}
 use Rattle.gl_base.specs.Texts.{Text}
@@ -12,7 +12,7 @@ use Rattle.gl_meaning.specs.Scope.{Source, item_value, item_index}
 use Rattle.gl_meaning.specs.Eval.{Store, class_at, takes_first, values_in}
 use Rattle.gl_meaning.specs.Parts.{attribute_value}
 use Rattle.gl_meaning.specs.Render.{Entry, entries, values_listed, Block, block_named}
-use Rattle.gl_plain.specs.Ids.{a_modifier, a_ref, Id, ref, node, modifier_id, occurs}
+use Rattle.gl_plain.specs.Ids.{a_modifier, Id, ref, node, modifier_id}
 use Rattle.gl_plain.specs.State.{MScope, mscope, mnothing, mpassed, passed_in, mslots, mwriter, named_as, with_names, content, text_content, modifier_row, State, put_thing, note_updated, dropped, touch, held_value}
 use Rattle.gl_plain.specs.Binding.{Spot, first_value}
 use Rattle.gl_plain.specs.Live.{AttrSpot, ModSpot, item_names, Live, Lives, Items, times_in, times_items, times_comment}

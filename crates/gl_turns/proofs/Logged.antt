@@ -1,5 +1,5 @@
 -- What an update installs is what is new, and what it updates is what is stale.
-use Rattle.std.proofs.Common.{◌≡◌, ◌<◌, ◌≤◌, ◌+◌, ℕ, suc, List, [], ◌∷◌, ◌++◌, map, Bool, true, false, true≢false, Option, Some, None, cond, refl, sym, ap, ap₂, ◌∙◌, subst, arith, inl, inr, ◌⊎◌}
+use Rattle.std.proofs.Common.{◌≡◌, ◌<◌, ◌≤◌, ◌+◌, ℕ, List, [], ◌∷◌, ◌++◌, map, Bool, true, false, true≢false, Option, Some, None, cond, refl, sym, ap, ap₂, ◌∙◌, subst, arith, inl, inr, ◌⊎◌}
 use Rattle.std.specs.Prelude.{filter, filter_map, nat_le, not, ◌&&◌, ◌||◌, if◌then◌else◌}
 use Rattle.std.specs.List.{list_any, cons_option}
 use Rattle.std.proofs.lemmas.Bool.{le-leb, lt-leb}
@@ -167,7 +167,7 @@ all_fail : (test : ℕ → Bool) (zs : List (Path × ℕ)) → ((z : Path × ℕ
 all_fail test [] h = tt
 all_fail test (z ∷ zs) h = (h z (inl refl), all_fail test zs (λ y m. h y (inr m)))
 
-is_modifier : (a : Place) (z : Path × ℕ) → modifier_in a ≡ Some z → a ≡ modifier_place z.0 z.1
+pub is_modifier : (a : Place) (z : Path × ℕ) → modifier_in a ≡ Some z → a ≡ modifier_place z.0 z.1
 is_modifier (modifier_place p n) z e = ap (λ (y : Path × ℕ). modifier_place y.0 y.1) (some_same (p, n) z e)
 is_modifier (node_place p n) z e = absurd (none_some z e)
 is_modifier (position_place p n) z e = absurd (none_some z e)
@@ -183,12 +183,12 @@ is_position (modifier_place p n) z e = absurd (none_some z e)
 
 -- paths by sums
 
-sum_has : (p : Path) (ps : List Path) → Among p ps → 0 < path_sum (λ q. one_if (path_eq p q)) ps
+pub sum_has : (p : Path) (ps : List Path) → Among p ps → 0 < path_sum (λ q. one_if (path_eq p q)) ps
 sum_has p [] m = absurd m
 sum_has p (q ∷ qs) (inl e) = let h : one_if (path_eq p q) ≡ 1 = ap one_if (subst (λ r. path_eq p r ≡ true) e (path_itself p)) in omega (arith, h)
 sum_has p (q ∷ qs) (inr m) = let h = sum_has p qs m in omega (arith, h)
 
-sum_from : (p : Path) (ps : List Path) → 0 < path_sum (λ q. one_if (path_eq p q)) ps → Among p ps
+pub sum_from : (p : Path) (ps : List Path) → 0 < path_sum (λ q. one_if (path_eq p q)) ps → Among p ps
 sum_from p [] w = absurd (omega (arith, w))
 sum_from p (q ∷ qs) w = by (path_eq p q) refl (sum_from p qs) w where
   by : (b : Bool) → path_eq p q ≡ b → (0 < path_sum (λ r. one_if (path_eq p r)) qs → Among p qs) → 0 < one_if b + path_sum (λ r. one_if (path_eq p r)) qs → Among p (q ∷ qs)

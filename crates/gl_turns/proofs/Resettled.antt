@@ -1,19 +1,19 @@
 -- What stands for a store stands for each store that has the same in the cells of the instances that are there.
-use Rattle.std.proofs.Common.{◌≡◌, ◌<◌, ℕ, zero, suc, max, List, [], ◌∷◌, ◌++◌, map, Bool, true, false, Option, Some, None, cond, refl, sym, ap, ap₂, ◌∙◌, subst, inl, inr}
+use Rattle.std.proofs.Common.{◌≡◌, ℕ, zero, suc, max, List, [], ◌∷◌, ◌++◌, map, Bool, true, false, Option, Some, None, cond, refl, sym, ap, ap₂, ◌∙◌, subst, inl, inr}
 use mathlib.Core.Path.{fun_ext}
 use Rattle.std.specs.Prelude.{filter, filter_map, flat_map, if◌then◌else◌, codes}
 use Rattle.std.specs.List.{cons_option}
 use Rattle.std.specs.Str.{bytes_eq}
 use Rattle.gl_base.specs.Texts.{Text}
 use Rattle.gl_base.specs.Names.{named}
-use Rattle.gl_value.specs.Value.{undefined, Values, no_values, value, text_of}
+use Rattle.gl_value.specs.Value.{Values, no_values, value, text_of}
 use Rattle.gl_ast.specs.Template as t
 use Rattle.gl_ast.specs.Template.{Part, AttrValue, Plain}
 use Rattle.gl_meaning.specs.App.{App}
-use Rattle.gl_meaning.specs.Path.{at, main, otherwise, items, item, into, slot, Path, V}
+use Rattle.gl_meaning.specs.Path.{at, main, otherwise, items, item, into, slot, Path}
 use Rattle.gl_meaning.specs.Scope.{cell, Pair, NamedPairs, Scope, scope, Passed, nothing_passed, passed, this_of, passed_of, with_locals, bind}
-use Rattle.gl_meaning.specs.Eval.{Held, Store, class_at, cell_value, eval_all, eval_named, eval_value, eval_given, takes_first, values_in, field_member, member_of}
-use Rattle.gl_meaning.specs.Parts.{Written, WrittenValue, WrittenModifier, spread_in, passed_parts, written_parts, attribute_in, attributes_in, distinct_names, last_only, taken_values, some_live, taken_pairs, attrs_from, modifier_in, modifiers_in, modifier_of}
+use Rattle.gl_meaning.specs.Eval.{Held, Store, class_at, cell_value, eval_all, eval_named, eval_value, eval_given, takes_first, values_in}
+use Rattle.gl_meaning.specs.Parts.{Written, WrittenValue, WrittenModifier, spread_in, passed_parts, written_parts, attribute_in, attributes_in, distinct_names, last_only, taken_values, some_live, taken_pairs, attrs_from, modifier_in, modifiers_in}
 use Rattle.gl_meaning.specs.Known.{Among}
 use Rattle.gl_meaning.specs.Render.{Entry, entries, entry_pairs, values_listed, Block, block_named, draw}
 use Rattle.gl_meaning.specs.Changes.{instances, cells_of, settle}
@@ -25,12 +25,12 @@ use Rattle.gl_plain.specs.State.{Inst, MScope, mscope, mnothing, mpassed, cell_r
 use Rattle.gl_plain.specs.Binding.{first_value}
 use Rattle.gl_plain.specs.Live.{AttrSpot, ModSpot, item_names, item_made, Live, Lives, Items}
 use Rattle.gl_plain.specs.Live
-use Rattle.gl_plain.specs.Stands.{top, Gives, NamesBelow, From, SpottedIn, Spotted, exprs_by, one_expr, attrs_by, mods_by, tail_of, head_of, pairs_for, modifier_pairs, WhereValues, WhereBlock, AttrsStand, ModsStand, CommentStands, CellsStand, Stands, StandIn, ItemsStand, BlockStands, ListStands, ElseStands}
-use Rattle.gl_plain.specs.Machine.{no_place, RootStands, StandsFor}
+use Rattle.gl_plain.specs.Stands.{top, SpottedIn, Spotted, exprs_by, one_expr, attrs_by, mods_by, tail_of, head_of, pairs_for, WhereValues, WhereBlock, AttrsStand, ModsStand, CommentStands, CellsStand, Stands, StandIn, ItemsStand, BlockStands, ListStands, ElseStands}
+use Rattle.gl_plain.specs.Machine.{no_place, RootStands}
 use Rattle.gl_plain.proofs.Cells.{field_named}
 use Rattle.gl_turns.specs.Places.{Place, instance_place, instance_in, comment_places, attr_places, mod_places, places, places_items, places_in}
 use Rattle.gl_turns.specs.Laws.{SettledStands}
-use Rattle.gl_turns.proofs.Found.{found_in, mapped_from, found_from, among_mapped}
+use Rattle.gl_turns.proofs.Found.{found_in, among_mapped}
 use Rattle.gl_turns.proofs.Numbered.{tree_agrees}
 use Rattle.gl_turns.proofs.Touched.{source_row}
 
@@ -207,8 +207,7 @@ module _ (app : App) (σ τ : Store) where
             let b' = max b (top made) in
             let here : AgreeAt app σ τ q = subst (AgreeAt app σ τ) h.2 (g i (inl refl)) in
             let inside : Agreed (places_in q 0 ls) = subst (λ j. Agreed (places_in j 0 ls)) h.2 (λ j w. g j (inr w)) in
-            let y = again_in m b' (scope q (eval_given app σ s given) [] (passed ps bs s)) (mscope i args [] (mpassed k ps bs ms)) q 0 (class_at app q).template ls (here, a) inside h.7 in
-            (
+            let y = again_in m b' (scope q (eval_given app σ s given) [] (passed ps bs s)) (mscope i args [] (mpassed k ps bs ms)) q 0 (class_at app q).template ls (here, a) inside h.7 in (
               h.0,
               h.1,
               h.2,
@@ -259,8 +258,7 @@ module _ (app : App) (σ τ : Store) where
 
   root_again : (look : Id → Option Thing) (m : ℕ) (l : Live) → ((i : Inst) → Among (instance_place i.path i) (places [] l) → AgreeAt app σ τ i.path) → RootStands app σ σ look m l → RootStands app τ τ look m l
   root_again look (suc m) (Live.component_live i made gm args None ls) g h =
-      let here : AgreeAt app σ τ [] = subst (AgreeAt app σ τ) h.1 (g i (inl refl)) in
-      (
+      let here : AgreeAt app σ τ [] = subst (AgreeAt app σ τ) h.1 (g i (inl refl)) in (
         h.0,
         h.1,
         h.2,

@@ -232,3 +232,9 @@ root_counted l f = root_counted_by (λ z. z.value) value_made l f
 -- an item's index too
 pub root_indexed : (l : Live) → Rattle.gl_turns.specs.Fits.FitsRoot l → (p : Path) (z : Rattle.gl_plain.specs.Live.ItemSpot) → Among (item_place p z) (places [] l) → 0 < times (ref z.index) l
 root_indexed l f p z m = root_counted_by (λ z. z.index) index_made l f (item_place p z) m
+
+pub body_counted : (p : Path) (i : ℕ) (ls : Lives) → FitsIn p i ls → Counted (λ q. times_in q ls) (places_in p i ls)
+body_counted p i ls f = body_counted_by (λ z. z.value) value_made p i ls f
+
+pub part_counted : (p : Path) (l : Live) → Fits p l → Counted (λ q. times q l) (places p l)
+part_counted p l f = part_counted_by (λ z. z.value) value_made p l f

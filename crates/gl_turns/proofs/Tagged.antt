@@ -1,14 +1,13 @@
 -- The positions of a tree with their modifiers and their paths.
 use Rattle.std.proofs.Common.{◌≡◌, ℕ, suc, List, [], ◌∷◌, ◌++◌, map, true, false, Option, Some, None, refl, sym, ap, ap₂, ◌∙◌}
 use Rattle.std.specs.Prelude.{filter_map}
-use Rattle.std.specs.List.{cons_option}
 use Rattle.std.proofs.lemmas.List.{append-nil}
 use Rattle.gl_meaning.specs.Path.{at, main, otherwise, items, item, slot, attribute_at, modifier_at, Path}
 use Rattle.gl_meaning.proofs.Pieces.{filter_map_append}
 use Rattle.gl_plain.specs.Live
 use Rattle.gl_plain.specs.Live.{AttrSpot, ModSpot, Live, Lives, Items}
 use Rattle.gl_turns.specs.Places.{Place, position_in, modifier_in, comment_places, attr_places, mod_places, places, places_items, places_in}
-use Rattle.gl_turns.proofs.LogRenews.{Tag, attr_tags, mod_tags, tags_of, tags_items, tags_in, tag_ids}
+use Rattle.gl_turns.proofs.LogRenews.{Tag, attr_tags, mod_tags, tags_of, tags_items, tags_in}
 
 abbrev pub PathTag : Type 0
 PathTag = Path × Tag

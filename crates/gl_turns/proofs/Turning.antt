@@ -20,7 +20,6 @@ use Rattle.gl_plain.specs.Live.{Live}
 use Rattle.gl_plain.specs.Turns.{blank, begin}
 use Rattle.gl_plain.specs.Grow.{grow_app}
 use Rattle.gl_plain.specs.Renew.{renew_app}
-use Rattle.gl_plain.specs.Machine.{StandsFor}
 use Rattle.gl_plain.proofs.Roots.{appended_stands, updated_stands, standing_shows}
 use Rattle.gl_plain.proofs.CountGrows.{appended_evaluates}
 use Rattle.gl_turns.specs.Places.{position_in, places}

@@ -1,13 +1,14 @@
 -- The laws of the machine's turns.
-use Rattle.std.specs.Prelude.{◌≡◌, ◌+◌, [], ◌++◌, map, filter, filter_map, length, Some, None, not}
+use Rattle.std.specs.Prelude.{◌≡◌, ◌+◌, [], ◌++◌, map, filter, filter_map, length, Some, None, not, nat_eq, ◌<◌, flat_map, List}
 use Rattle.gl_meaning.specs.App.{App, Event}
 use Rattle.gl_meaning.specs.Scope.{Source}
 use Rattle.gl_meaning.specs.Eval.{Store}
 use Rattle.gl_meaning.specs.Render.{draw}
-use Rattle.gl_meaning.specs.Changes.{number, Sets, touched, settle, stale}
+use Rattle.gl_meaning.specs.Changes.{number, Sets, touched, settle, stale, instances, modifiers_on, Item}
 use Rattle.gl_meaning.specs.Path.{has_path}
-use Rattle.gl_meaning.specs.Print.{modifier_paths}
-use Rattle.gl_meaning.specs.Laws.{HoldsNoAction, Reached}
+use Rattle.gl_meaning.specs.Print.{modifier_paths, children_first}
+use Rattle.gl_turns.specs.Leaving.{leavers, goes, leaver_of, leaving}
+use Rattle.gl_meaning.specs.Laws.{HoldsNoAction, Reached, NoRepeat}
 use Rattle.gl_meaning.specs.Session as session
 use Rattle.gl_meaning.specs.Session.{Turn, first_state, applied, step}
 use Rattle.gl_meaning.specs.Work.{work}
@@ -17,10 +18,16 @@ use Rattle.gl_plain.specs.Live.{Live}
 use Rattle.gl_plain.specs.Grow.{grow_app}
 use Rattle.gl_plain.specs.Renew.{renew_app}
 use Rattle.gl_plain.specs.Machine.{StandsFor, OnlyTouched}
-use Rattle.gl_turns.specs.Places.{position_in, modifier_in, places}
+use Rattle.gl_turns.specs.Places.{Place, id_of, position_in, instance_in, modifier_in, places}
+use Rattle.gl_meaning.specs.Known.{Among}
+use Rattle.gl_plain.specs.Ids.{instance_id, modifier_id}
+use Rattle.gl_plain.specs.Live.{times}
 use Rattle.gl_turns.specs.Numbers.{numbers_of, one_more}
 use Rattle.gl_turns.specs.Evaluated.{TouchedBy, new_or_stale}
 use Rattle.gl_turns.specs.Sets.{set_all}
+use Rattle.gl_turns.specs.Moved.{moved_between, moved_in}
+use Rattle.gl_meaning.specs.Work.{list_path}
+use Rattle.gl_meaning.specs.Path.{Path}
 use Rattle.gl_plain.specs.Turns.{blank, begin}
 use Rattle.gl_plain.specs.Drawn.{drawn_app}
 use Rattle.gl_meaning.specs.Actions.{lay}
@@ -115,3 +122,39 @@ abbrev pub UpdatesStale : Type 0
 UpdatesStale =
     (app : App) (σ τ : Store) (sets : Sets) (st : State) (l : Live) → StandsFor app σ τ st l → OnlyTouched app σ τ st → TouchedBy sets st → HoldsNoAction σ
     → let r = renew_app app τ l st in r.1.updates ≡ st.updates ++ map (λ z. z.1) (filter (λ z. stale (draw app σ) (draw app τ) sets z.0) (filter_map modifier_in (places [] r.0)))
+
+-- What stood in the tree is in the new one, counted, exactly where it stands there at its place.
+abbrev pub CountedIsThere : Type 0
+CountedIsThere =
+    (app : App) (σ τ : Store) (st : State) (l : Live) → StandsFor app σ τ st l → OnlyTouched app σ τ st → (a : Place) → Among a (places [] l)
+    → let l' = (renew_app app τ l st).0 in (0 < times (id_of a) l' → Among a (places [] l')) × (Among a (places [] l') → 0 < times (id_of a) l')
+
+-- So the modifiers and the instances that an update destroys, which are those of the old tree that the new one doesn't count, are exactly those
+-- whose path isn't in the new rendering.
+abbrev pub DestroysGone : Type 0
+DestroysGone =
+    (app : App) (σ τ : Store) (st : State) (l : Live) → StandsFor app σ τ st l → OnlyTouched app σ τ st
+    → let l' = (renew_app app τ l st).0 in let ms = filter_map modifier_in (places [] l) in let is = filter_map instance_in (places [] l) in
+    (filter (λ z. nat_eq (times (modifier_id z.1) l') 0) ms ≡ filter (λ z. not (has_path z.0 (modifier_paths (draw app τ)))) ms)
+    × (filter (λ z. nat_eq (times (instance_id z.1.id) l') 0) is ≡ filter (λ z. not (has_path z.0 (instances (draw app τ)))) is)
+
+-- They go in the order of the meaning's walk of the old rendering, children first.
+abbrev pub DestroysInOrder : Type 0
+DestroysInOrder =
+    (app : App) (σ τ : Store) (st : State) (l : Live) → StandsFor app σ τ st l → OnlyTouched app σ τ st
+    → let l' = (renew_app app τ l st).0 in
+    flat_map leaver_of (filter (λ a. nat_eq (times (id_of a) l') 0) (leaving [] l)) ≡ filter (goes (draw app τ)) (flat_map leavers (children_first (draw app σ)))
+
+-- And the modifiers of a tree stand in the order of the meaning's walk of the rendering, children first.
+abbrev pub ModifiersInOrder : Type 0
+ModifiersInOrder =
+    (app : App) (σ τ : Store) (st : State) (l : Live) → StandsFor app σ τ st l
+    → map (λ z. z.0) (filter_map modifier_in (places [] l)) ≡ map (λ m. m.path) (flat_map modifiers_on (children_first (draw app σ)))
+
+-- Moves
+
+-- Between two lists of items as many are moved as are moved in each list of which they are items.
+abbrev pub MovedByList : Type 0
+MovedByList =
+    (old new : List Item) (qs : List Path) → NoRepeat qs → ((i : Item) → Among i new → Among (list_path i.path) qs)
+    → moved_between old new ≡ moved_in old new qs

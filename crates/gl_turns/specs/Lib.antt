@@ -4,4 +4,6 @@ pub mod Numbers
 pub mod Evaluated
 pub mod Sets
 pub mod Modifiers
+pub mod Leaving
+pub mod Moved
 pub mod Laws

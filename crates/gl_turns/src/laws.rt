@@ -1,6 +1,6 @@
 //! The laws of the machine's turns. Each function does nothing: its contract is the law.
 
-ghost use Rattle.gl_turns.specs.Laws.{AppendedNumbers, UpdatedNumbers, UpdatedMadeCount, TouchedIsTouched, EvaluatesNewOrStale, EvaluatedCount, SetsAreLaid, InstallsNew, UpdatesStale, SettledStands, FirstTurn, NextTurn};
+ghost use Rattle.gl_turns.specs.Laws.{AppendedNumbers, UpdatedNumbers, UpdatedMadeCount, TouchedIsTouched, EvaluatesNewOrStale, EvaluatedCount, SetsAreLaid, InstallsNew, UpdatesStale, CountedIsThere, DestroysGone, DestroysInOrder, ModifiersInOrder, MovedByList, SettledStands, FirstTurn, NextTurn};
 
 /// The ids of nodes are the numbers that the meaning gives to their paths, and as many are made as it counts.
 pub fn numbers()
@@ -29,8 +29,18 @@ pub fn turns()
     ensures next { NextTurn }
 {}
 
-/// An update installs the modifiers that are new and updates those that are stale, in the order in which they stand.
+/// An update installs the modifiers that are new and updates those that are stale, in the order in which they stand. What it destroys is what
+/// is gone by path.
 pub fn log()
     ensures installs { InstallsNew }
     ensures updates { UpdatesStale }
+    ensures there { CountedIsThere }
+    ensures destroys { DestroysGone }
+    ensures ordered { DestroysInOrder }
+    ensures modifiers { ModifiersInOrder }
+{}
+
+/// The items moved in a turn are those moved in each list.
+pub fn moved()
+    ensures { MovedByList }
 {}

@@ -7,3 +7,9 @@
 mod ops;
 #[cfg(test)]
 mod pools;
+#[cfg(test)]
+mod programs;
+#[cfg(test)]
+mod wirein;
+#[cfg(test)]
+mod wires;

@@ -9,8 +9,6 @@ mod rows;
 mod same;
 mod statement;
 mod tag;
-#[cfg(test)]
-mod tests;
 mod tree;
 mod wire;
 

@@ -1,0 +1,105 @@
+// What a reference means, worked out with nothing kept.
+ghost use Rattle.std.specs.Prelude.{◌≡◌, IfOk, IfNone, take};
+ghost use Rattle.gl_value.specs.View.{view};
+ghost use Rattle.gl_refs.specs.Forms.{Each, AreLower, meaning};
+ghost use Rattle.gl_refs.specs.State.{forms};
+ghost use Rattle.gl_refs.specs.View.{rows_of, reads_in, IsFound, IsTable};
+
+use crate::RefId;
+use crate::row::{Kind, Rows, found_value, part_at};
+use crate::settling::{Stale, Waiting, put_off};
+use crate::table::Table;
+use crate::values::form_value;
+use gl_value::Value;
+use std::alloc::{AllocError, Global};
+
+// The first part from a place on that was not worked out yet.
+fn next_missing(
+    rows: &Rows,
+    table: &Table,
+    id: RefId,
+    next: usize,
+) -> Result<Option<Stale>, AllocError>
+    ensures { Each (IsFound table.now (rows_of rows.now)) (take next (reads_in table.now (rows_of rows.now) id)) → IfOk result (λ o. IfNone o (Each (IsFound table.now (rows_of rows.now)) (reads_in table.now (rows_of rows.now) id))) }
+{
+    for at in next..usize::MAX {
+        let Some(part) = part_at(rows, Some(table), id, at) else {
+            return Ok(None);
+        };
+        if found_value(rows, table, part).is_none() {
+            return Ok(Some(Stale { at, part }));
+        }
+    }
+    Err(AllocError)
+}
+
+// Works one reference out, of whose parts all that is read was.
+fn work_out(alloc: Global, rows: &Rows, table: &mut Table, id: RefId) -> Result<(), AllocError>
+    requires lower { AreLower (forms (rows_of rows.now)) }
+    requires right { IsTable table.old (rows_of rows.now) }
+    ensures { IsTable table.new (rows_of rows.now) }
+{
+    rows.stamps();
+    if !rows.live(id) {
+        return Ok(());
+    }
+    match &rows.get(id).kind {
+        Kind::Bound(form) => {
+            if next_missing(rows, table, id, 0)?.is_some() {
+                return Err(AllocError);
+            }
+            let value = form_value(alloc, rows, Some(table), form)?;
+            table.put(rows.stamp(id), value)
+        }
+        _ => Ok(()),
+    }
+}
+
+// Works a reference out, or puts off until a part of it is.
+fn visit(
+    alloc: Global,
+    rows: &Rows,
+    table: &mut Table,
+    waiting: Waiting,
+    stack: &mut Vec<Waiting>,
+) -> Result<(), AllocError>
+    requires lower { AreLower (forms (rows_of rows.now)) }
+    requires right { IsTable table.old (rows_of rows.now) }
+    ensures { IsTable table.new (rows_of rows.now) }
+{
+    let id = waiting.id;
+    match next_missing(rows, table, id, waiting.next)? {
+        Some(stale) => put_off(stack, id, stale),
+        None => work_out(alloc, rows, table, id),
+    }
+}
+
+// Works out all that a reference wants, parts first.
+fn work_all_out(alloc: Global, rows: &Rows, table: &mut Table, id: RefId) -> Result<(), AllocError>
+    requires lower { AreLower (forms (rows_of rows.now)) }
+    requires right { IsTable table.old (rows_of rows.now) }
+    ensures { IsTable table.new (rows_of rows.now) }
+{
+    let mut stack = Vec::new(alloc);
+    stack.push(Waiting { id, next: 0 })?;
+    for _ in 0..u64::MAX {
+        match stack.pop() {
+            None => return Ok(()),
+            Some(waiting) => visit(alloc, rows, table, waiting, &mut stack)?,
+        }
+    }
+    Err(AllocError)
+}
+
+// The value of a reference.
+pub(crate) fn look(alloc: Global, rows: &Rows, id: RefId) -> Result<Value, AllocError>
+    requires { AreLower (forms (rows_of rows.now)) }
+    ensures { IfOk result (λ v. view v ≡ (meaning (forms (rows_of rows.now)) id).value) }
+{
+    let mut table = Table::new(alloc);
+    work_all_out(alloc, rows, &mut table, id)?;
+    match found_value(rows, &table, id) {
+        Some(value) => value.copy(),
+        None => Err(AllocError),
+    }
+}
