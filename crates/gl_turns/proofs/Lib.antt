@@ -22,4 +22,5 @@ pub mod Walked
 pub mod Ordered
 pub mod Moved
 pub mod Turning
+pub mod TurnLogs
 mod Cases

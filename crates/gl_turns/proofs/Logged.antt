@@ -158,7 +158,7 @@ module _ (first : ℕ) where
     by None g k = skip (due r) k
     by (Some m) g k = one m (due r) (nat_le first m) refl refl (g m refl) k
 
-ids_found : (ts : List PathTag) → tag_ids (map (λ z. z.1) ts) ≡ map (λ y. y.1) (filter_map modifier_tag ts)
+pub ids_found : (ts : List PathTag) → tag_ids (map (λ z. z.1) ts) ≡ map (λ y. y.1) (filter_map modifier_tag ts)
 ids_found [] = refl
 ids_found ((p, (r, None)) ∷ ts) = ids_found ts
 ids_found ((p, (r, Some m)) ∷ ts) = ap (λ ys. m ∷ ys) (ids_found ts)

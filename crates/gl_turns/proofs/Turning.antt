@@ -71,16 +71,16 @@ sets_next app l (h ∷ hs) st = sets_next app l hs (set_one app l h st) ∙ set_
 
 -- Turns
 
-abbrev turn_after : App → session.State → Option Event → Turn
+abbrev pub turn_after : App → session.State → Option Event → Turn
 turn_after app s e = let a = applied app s e in turn_of app s e a (draw app (lay a.sets s.store))
 
-step_is : (app : App) (s : session.State) (e : Option Event) (t : Turn) → step app s e ≡ Some t → turn_after app s e ≡ t
+pub step_is : (app : App) (s : session.State) (e : Option Event) (t : Turn) → step app s e ≡ Some t → turn_after app s e ≡ t
 step_is app s e t h = by (fits (draw app (lay (applied app s e).sets s.store))) h where
   by : (b : Bool) → (if b then Some (turn_after app s e) else None) ≡ Some t → turn_after app s e ≡ t
   by true g = some_same (turn_after app s e) t g
   by false g = absurd (none_some t g)
 
-rendered : (app : App) (s : session.State) → Reached app s → draw app s.store ≡ s.rendering
+pub rendered : (app : App) (s : session.State) → Reached app s → draw app s.store ≡ s.rendering
 rendered app s r = by (fits (draw app s.store)) (state_is_rendered app s r) where
   by : (b : Bool) → (if b then Some (draw app s.store) else None) ≡ Some s.rendering → draw app s.store ≡ s.rendering
   by true g = some_same (draw app s.store) s.rendering g

@@ -158,3 +158,17 @@ abbrev pub MovedByList : Type 0
 MovedByList =
     (old new : List Item) (qs : List Path) → NoRepeat qs → ((i : Item) → Among i new → Among (list_path i.path) qs)
     → moved_between old new ≡ moved_in old new qs
+
+-- The log of a session's turns
+
+-- What is appended first installs each of its modifiers, in the order in which they stand, and updates none.
+abbrev pub FirstLog : Type 0
+FirstLog = (app : App) (τ : Store) (st : State) → let r = grow_app app τ st in (r.1.installs ≡ st.installs ++ map (λ z. z.1) (filter_map modifier_in (places [] r.0))) × (r.1.updates ≡ st.updates)
+
+-- In a turn of a session a machine that follows it installs exactly the modifiers whose path is new, and updates exactly those that are stale.
+abbrev pub NextLog : Type 0
+NextLog =
+    (app : App) (s : session.State) (e : Event) (t : Turn) (st : State) (l : Live) → Reached app s → step app s (Some e) ≡ Some t → Follows app s st l
+    → let sets = (applied app s (Some e)).sets in let r = renew_app app (lay sets s.store) l (set_all app l sets (begin st)) in let ms = filter_map modifier_in (places [] r.0) in
+    (r.1.installs ≡ map (λ z. z.1) (filter (λ z. not (has_path z.0 (modifier_paths s.rendering))) ms))
+    × (r.1.updates ≡ map (λ z. z.1) (filter (λ z. stale s.rendering t.state.rendering sets z.0) ms))

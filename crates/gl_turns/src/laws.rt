@@ -1,6 +1,6 @@
 //! The laws of the machine's turns. Each function does nothing: its contract is the law.
 
-ghost use Rattle.gl_turns.specs.Laws.{AppendedNumbers, UpdatedNumbers, UpdatedMadeCount, TouchedIsTouched, EvaluatesNewOrStale, EvaluatedCount, SetsAreLaid, InstallsNew, UpdatesStale, CountedIsThere, DestroysGone, DestroysInOrder, ModifiersInOrder, MovedByList, SettledStands, FirstTurn, NextTurn};
+ghost use Rattle.gl_turns.specs.Laws.{AppendedNumbers, UpdatedNumbers, UpdatedMadeCount, TouchedIsTouched, EvaluatesNewOrStale, EvaluatedCount, SetsAreLaid, InstallsNew, UpdatesStale, CountedIsThere, DestroysGone, DestroysInOrder, ModifiersInOrder, MovedByList, SettledStands, FirstTurn, NextTurn, FirstLog, NextLog};
 
 /// The ids of nodes are the numbers that the meaning gives to their paths, and as many are made as it counts.
 pub fn numbers()
@@ -27,6 +27,8 @@ pub fn turns()
     ensures settled { SettledStands }
     ensures first { FirstTurn }
     ensures next { NextTurn }
+    ensures first_log { FirstLog }
+    ensures next_log { NextLog }
 {}
 
 /// An update installs the modifiers that are new and updates those that are stale, in the order in which they stand. What it destroys is what
