@@ -45,3 +45,4 @@ pub mod MarkRenews
 pub mod MarkRoots
 pub mod Given
 pub mod Touches
+pub mod TouchedIs

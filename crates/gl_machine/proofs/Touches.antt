@@ -233,7 +233,7 @@ module _ (app : App) (τ : Store) where
   left_one a b h = omega (arith, h)
 
   -- an instance, with what is in it
-  instance_gives : (i : Inst) (made : List Id) (ls : Lives) (st : State) (r : Lives × State) → Given.Gives st r.1 (rows_in i.path 0 ls) (rows_in i.path 0 r.0) (λ q. times_in q ls)
+  pub instance_gives : (i : Inst) (made : List Id) (ls : Lives) (st : State) (r : Lives × State) → Given.Gives st r.1 (rows_in i.path 0 ls) (rows_in i.path 0 r.0) (λ q. times_in q ls)
       → Given.Gives st r.1 (instance_rows i ++ rows_in i.path 0 ls) (instance_rows i ++ rows_in i.path 0 r.0) (λ q. occurs q made + times_in q ls)
   instance_gives i made ls st r h =
       with_made st r.1 (instance_rows i ++ rows_in i.path 0 ls) (instance_rows i ++ rows_in i.path 0 r.0) made (λ q. times_in q ls)
@@ -244,7 +244,7 @@ module _ (app : App) (τ : Store) where
       without i xs w u c m = elim (among_either (Given.item_row w u c) (instance_rows i) xs m) [ inl j ↦ absurd (Given.none_instance i w u c j) | inr j ↦ j ]
 
   -- a body at the place of its component
-  at_place : (m : ℕ) (ms : MScope) (p : Path) (q : Path) (ls : Lives) (st : State) → p ≡ q
+  pub at_place : (m : ℕ) (ms : MScope) (p : Path) (q : Path) (ls : Lives) (st : State) → p ≡ q
       → (let r = renew_body app τ m ms q 0 (class_at app q).template ls st in SitsIn q 0 ls → SitsIn q 0 r.0 → Given.Gives st r.1 (rows_in q 0 ls) (rows_in q 0 r.0) (λ i. times_in i ls))
       → (let r = renew_body app τ m ms q 0 (class_at app q).template ls st in SitsIn p 0 ls → SitsIn p 0 r.0 → Given.Gives st r.1 (rows_in p 0 ls) (rows_in p 0 r.0) (λ i. times_in i ls))
   at_place m ms p q ls st e h =
@@ -345,7 +345,7 @@ module _ (app : App) (τ : Store) where
               (λ c g y''. body_gives m _ _ (with_names (named_as c.params rs) (mwriter (passed_in ms))) (slot n ∷ p) 0 c.body ls st g.3 y (own_rest st made (λ q. times_in q ls) o) y'') y') s s')
       stmt_gives m b v ms p _ _ st h s o s' = absurd h
 
-      body_gives : (m b : ℕ) (v : Scope) (ms : MScope) (p : Path) (i : ℕ) (c : t.Body) (ls : Lives) (st : State) → StandIn app σ υ look m b v ms p i c ls → SitsIn p i ls → Given.Owns st (λ q. times_in q ls)
+      pub body_gives : (m b : ℕ) (v : Scope) (ms : MScope) (p : Path) (i : ℕ) (c : t.Body) (ls : Lives) (st : State) → StandIn app σ υ look m b v ms p i c ls → SitsIn p i ls → Given.Owns st (λ q. times_in q ls)
           → let r = renew_body app τ m ms p i c ls st in SitsIn p i r.0 → Given.Gives st r.1 (rows_in p i ls) (rows_in p i r.0) (λ q. times_in q ls)
       body_gives m b v ms p i t.end Live.no_lives st h s o s' = Given.idle_gives st [] [] (λ q. 0)
       body_gives m b v ms p i (t.stmt x c) (Live.live_and l ls) st h s o s' =

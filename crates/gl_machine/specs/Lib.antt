@@ -15,5 +15,6 @@ pub mod Rows
 pub mod Gone
 pub mod Scopes
 pub mod Marks
+pub mod Touched
 pub mod UpdateLaws
 pub mod Laws

@@ -1,0 +1,5 @@
+use Rattle.gl_machine.proofs.update_laws.touches.Goals as goal
+use Rattle.gl_machine.proofs.TouchedIs.{touched_is_touched}
+
+pub returns : goal.returns
+returns c = touched_is_touched
