@@ -1,38 +1,32 @@
 -- What an update touches of items: just those that are kept and given another value.
-use Rattle.std.proofs.Common.{◌≡◌, ◌<◌, ◌≤◌, ℕ, zero, suc, ◌+◌, List, [], ◌∷◌, ◌++◌, map, Bool, true, false, true≢false, Option, Some, None, cond, refl, sym, ◌∙◌, ap, ap₂, subst, arith, inl, inr, ◌⊎◌}
-use Rattle.std.specs.Prelude.{if◌then◌else◌, not, ◌||◌, ◌&&◌, nat_eq}
-use Rattle.std.proofs.lemmas.List.{append-nil}
+use Rattle.std.proofs.Common.{◌≡◌, ◌<◌, ◌≤◌, ℕ, suc, ◌+◌, List, [], ◌∷◌, ◌++◌, Bool, true, false, true≢false, Option, Some, None, refl, sym, ◌∙◌, ap, ap₂, subst, arith, inl, inr}
+use Rattle.std.specs.Prelude.{if◌then◌else◌, not, ◌||◌, nat_eq}
 use Rattle.std.proofs.lemmas.Bool.{eqb-true}
 use Rattle.std.proofs.lemmas.Bool.Decides.{Decides-eqb}
 use Rattle.gl_base.specs.Texts.{Text}
-use Rattle.gl_value.specs.Value.{Values, no_values, value, same, count_value}
-use Rattle.gl_ast.specs.Template as t
-use Rattle.gl_meaning.specs.App.{App}
-use Rattle.gl_meaning.specs.Path.{PathStep, at, main, otherwise, items, item, into, slot, Path, V, path_eq, no_owners}
+use Rattle.gl_value.specs.Value.{same, count_value}
+use Rattle.gl_meaning.specs.Path.{PathStep, at, item, Path, V, path_eq, no_owners}
 use Rattle.gl_meaning.specs.Scope.{Source, cell, item_value, item_index, sources_of}
-use Rattle.gl_meaning.specs.Eval.{Store, class_at, takes_first}
-use Rattle.gl_meaning.specs.Render.{Entry, entries, values_listed, Block, block_named}
+use Rattle.gl_meaning.specs.Render.{Entry}
 use Rattle.gl_meaning.specs.Known.{Among}
 use Rattle.gl_meaning.specs.Laws.{Within, source_path}
 use Rattle.gl_meaning.proofs.Equal.{both_left, both_right, same_means, same_itself, no_owners-Decides, path_itself}
 use Rattle.gl_meaning.proofs.Pieces.{among_either, among_left, among_right}
-use Rattle.gl_meaning.proofs.Under.{within_itself, steps_apart}
+use Rattle.gl_meaning.proofs.Under.{steps_apart}
 use Rattle.gl_plain.specs.Ids.{a_ref, Id, ref, node, modifier_id, hit, occurs, id_eq}
-use Rattle.gl_plain.specs.State.{Inst, MScope, mscope, mnothing, mpassed, passed_in, mslots, mwriter, named_as, with_names, source_form, all_form, row, any_of, Thing, State, dropped, touch, held_value, source_eq}
-use Rattle.gl_plain.specs.Binding.{Spot, first_value}
+use Rattle.gl_plain.specs.State.{Inst, MScope, with_names, source_form, all_form, row, any_of, Thing, State, dropped, touch, held_value, source_eq}
+use Rattle.gl_plain.specs.Binding.{Spot}
 use Rattle.gl_plain.specs.Live
 use Rattle.gl_plain.specs.Live.{Live, Lives, Items, AttrSpot, ModSpot, ItemSpot, item_made, times, times_in, times_items, times_comment, times_attrs, times_mods}
-use Rattle.gl_plain.specs.Grow.{Arm, or_comment, ItemGrown, grow_entries, branch_from, unlisted_from, listed_from, grow_components, grow_yields}
-use Rattle.gl_plain.specs.Renew.{spot_ids, spot_pairs, is_stale, evaluate, reread, renew_text, renew_attrs, renew_mods, give, Handle, times_handle, times_handles, is_of, with_front, taken, renew_item, sync_one, sync, where_values, where_block, fresh_body, fresh_items, renew, renew_body, handles, renew_root}
-use Rattle.gl_plain.proofs.Counts.{Steps, Leaves}
-use Rattle.gl_plain.proofs.CountGrows.{CountedIn, CountedItems, CountedArm, arm_steps, entries_steps, item_steps, body_steps, yields_steps, components_steps}
+use Rattle.gl_plain.specs.Renew.{spot_ids, spot_pairs, is_stale, evaluate, reread, renew_text, renew_attrs, renew_mods, give, Handle, times_handle, times_handles, is_of, with_front, taken, renew_item}
+use Rattle.gl_plain.proofs.Counts.{Steps}
 use Rattle.gl_plain.proofs.Moves.{IdCase, id_case, hit_self, hit_other, unhit, id_itself}
 use Rattle.gl_plain.proofs.Stay.{left_above, right_above}
 use Rattle.gl_plain.proofs.Syncs.{path-Decides}
-use Rattle.gl_machine.specs.Rows.{Role, a_node, a_position, an_instance, a_modifier, a_value, an_index, Row, row_of, comment_rows, attr_rows, mod_spot_rows, mod_rows, tag_rows, instance_rows, rows, rows_items, rows_in, row_ids}
+use Rattle.gl_machine.specs.Rows.{Role, a_node, a_position, an_instance, a_modifier, a_value, an_index, Row, row_of, comment_rows, attr_rows, mod_spot_rows, mod_rows, tag_rows, instance_rows, rows_in, row_ids}
 use Rattle.gl_machine.proofs.Sits.{Own, AttrsOwn, ModsOwn, item_step, NotAt, Sits, SitsItems, SitsIn}
-use Rattle.gl_machine.proofs.RowsOf.{arm_rows, item_rows, rows_within, rows_from, items_within, arm_within, item_within, not_there, among_ids, ids_arm, ids_items, ids_item, rows_ids, rows_in_ids}
-use Rattle.gl_machine.proofs.ByPath.{main_otherwise, otherwise_main, otherwise_items, items_otherwise, apart, above, off_tag, step_number}
+use Rattle.gl_machine.proofs.RowsOf.{item_rows, rows_from, item_within, among_ids, ids_item, rows_in_ids}
+use Rattle.gl_machine.proofs.ByPath.{above}
 use Rattle.gl_machine.proofs.MarkRenews.{attr_thing, attr_put, mod_thing, mod_put, text_thing, text_put}
 
 -- The rows of an item: its value, and its index
@@ -153,7 +147,8 @@ idle_gives st xs ys count = record {
 pub reshape : (st st' : State) (xs ys xs' ys' : List Row) (count : Id → ℕ) → ((w : Which) (q : Path) (r : ℕ) → Among (item_row w q r) xs' → Among (item_row w q r) xs) → ((w : Which) (q : Path) (r : ℕ) → Among (item_row w q r) ys' → Among (item_row w q r) ys)
     → ((w : Which) (q : Path) (r : ℕ) → Among (item_row w q r) xs → Among (item_row w q r) xs') → ((w : Which) (q : Path) (r : ℕ) → Among (item_row w q r) ys → Among (item_row w q r) ys') → Gives st st' xs ys count → Gives st st' xs' ys' count
 reshape st st' xs ys xs' ys' count f g f' g' h = record {
-  more = h.more; frame = h.frame;
+  more = h.more;
+  frame = h.frame;
   given = λ w q r m n. h.given w q r (f w q r m) (g w q r n);
   quiet = λ y k. h.quiet y (λ w q r m n e. k w q r (f' w q r m) (g' w q r n) e);
 }
@@ -171,20 +166,20 @@ then_gives st st1 st2 xs ys xs' ys' a b o ca cb off off' h g = record {
       elim (among_either (item_row w q r) xs xs' m) [
         | inl k ↦ elim (among_either (item_row w q r) ys ys' n) [
           | inl j ↦
-            (let p = ca w q r k in let z = o.once r in
-             let look = g.frame r (let i = o.low r (omega (arith, p)) in let u = h.more in omega (arith, i, u)) (omega (arith, p, z)) in
-             g.quiet (source_of w q) (λ v p' s m' n' e. off' w q s r (subst (λ c. Among c xs') (same_row v w p' q e s) m') j)
-             ∙ (h.given w q r k j ∙ ap (λ x. st.touched (source_of w q) || not (same path_eq (held st r) (held_value x))) (sym look)))
+              (let p = ca w q r k in let z = o.once r in
+              let look = g.frame r (let i = o.low r (omega (arith, p)) in let u = h.more in omega (arith, i, u)) (omega (arith, p, z)) in
+              g.quiet (source_of w q) (λ v p' s m' n' e. off' w q s r (subst (λ c. Among c xs') (same_row v w p' q e s) m') j)
+              ∙ (h.given w q r k j ∙ ap (λ x. st.touched (source_of w q) || not (same path_eq (held st r) (held_value x))) (sym look)))
           | inr j ↦ absurd (off w q r r k j)
         ]
         | inr k ↦ elim (among_either (item_row w q r) ys ys' n) [
           | inl j ↦ absurd (off' w q r r k j)
           | inr j ↦
-            (let p = cb w q r k in let z = o.once r in
-             let look = h.frame r (o.low r (omega (arith, p))) (omega (arith, p, z)) in
-             g.given w q r k j
-             ∙ ap₂ (λ b x. b || not (same path_eq (held_value x) (held st2 r)))
-               (h.quiet (source_of w q) (λ v p' s m' n' e. off w q s r (subst (λ c. Among c xs) (same_row v w p' q e s) m') j)) look)
+              (let p = cb w q r k in let z = o.once r in
+              let look = h.frame r (o.low r (omega (arith, p))) (omega (arith, p, z)) in
+              g.given w q r k j
+              ∙ ap₂ (λ b x. b || not (same path_eq (held_value x) (held st2 r)))
+              (h.quiet (source_of w q) (λ v p' s m' n' e. off w q s r (subst (λ c. Among c xs) (same_row v w p' q e s) m') j)) look)
         ]
       ];
   quiet = λ y k.
@@ -241,7 +236,7 @@ pub none_tag : (p : Path) (n : ℕ) (xs : List AttrSpot) (zs : List ModSpot) →
 none_tag p n xs zs =
     none_both (attr_rows p xs) (mod_spot_rows p 0 zs ++ (mod_rows p 0 zs ++ row_of a_node p (node n) ∷ [])) (none_attrs p xs)
     (none_both (mod_spot_rows p 0 zs) (mod_rows p 0 zs ++ row_of a_node p (node n) ∷ []) (none_spots p 0 zs)
-      (none_both (mod_rows p 0 zs) (row_of a_node p (node n) ∷ []) (none_mods p 0 zs) (none_nodes p (node n) [] none_empty)))
+    (none_both (mod_rows p 0 zs) (row_of a_node p (node n) ∷ []) (none_mods p 0 zs) (none_nodes p (node n) [] none_empty)))
 
 pub none_comment : (q : Path) (k : Option ℕ) → NoItem (comment_rows q k)
 none_comment q None = none_empty
@@ -307,8 +302,8 @@ attrs_gives n (a ∷ xs) st us vs f w = by (is_stale st a.spot.ref) (λ st1. att
       let g = rec (attr_put n a st) in
       still_gives st (renew_attrs n xs (attr_put n a st)) us vs (λ q. times_attrs q (a ∷ xs)) (off_none us vs f) g.more
       (λ r lt e.
-        g.frame r lt (omega (arith, e))
-        ∙ (put_frame (node n) (attr_thing n a st) (evaluate a.spot.ref st).look r (λ q. occurs q a.spot.made) (let h = not_ref_node r n in omega (arith, h)) (omega (arith, e)) ∙ put_frame (ref a.spot.ref) (read_thing a.spot st) st.look r (λ q. occurs q a.spot.made) (own_hit a.spot w.0 r) (omega (arith, e))))
+      g.frame r lt (omega (arith, e))
+      ∙ (put_frame (node n) (attr_thing n a st) (evaluate a.spot.ref st).look r (λ q. occurs q a.spot.made) (let h = not_ref_node r n in omega (arith, h)) (omega (arith, e)) ∙ put_frame (ref a.spot.ref) (read_thing a.spot st) st.look r (λ q. occurs q a.spot.made) (own_hit a.spot w.0 r) (omega (arith, e))))
       (λ y. g.quiet y (λ v q r m k c. f v q r m))
   by false rec = gives_count st (renew_attrs n xs st) us vs (λ q. times_attrs q xs) (λ q. times_attrs q (a ∷ xs)) (λ r e. omega (arith, e)) (rec st)
 
@@ -320,8 +315,8 @@ mods_gives (z ∷ zs) st us vs f w = by (is_stale st z.spot.ref) (λ st1. mods_g
       let g = rec (mod_put z st) in
       still_gives st (renew_mods zs (mod_put z st)) us vs (λ q. times_mods q (z ∷ zs)) (off_none us vs f) g.more
       (λ r lt e.
-        g.frame r lt (omega (arith, e))
-        ∙ (put_frame (modifier_id z.id) (mod_thing z st) (evaluate z.spot.ref st).look r (λ q. occurs q z.spot.made) (let h = not_ref_modifier r z.id in omega (arith, h)) (omega (arith, e)) ∙ put_frame (ref z.spot.ref) (read_thing z.spot st) st.look r (λ q. occurs q z.spot.made) (own_hit z.spot w.0 r) (omega (arith, e))))
+      g.frame r lt (omega (arith, e))
+      ∙ (put_frame (modifier_id z.id) (mod_thing z st) (evaluate z.spot.ref st).look r (λ q. occurs q z.spot.made) (let h = not_ref_modifier r z.id in omega (arith, h)) (omega (arith, e)) ∙ put_frame (ref z.spot.ref) (read_thing z.spot st) st.look r (λ q. occurs q z.spot.made) (own_hit z.spot w.0 r) (omega (arith, e))))
       (λ y. g.quiet y (λ v q r m k c. f v q r m))
   by false rec = gives_count st (renew_mods zs st) us vs (λ q. times_mods q zs) (λ q. times_mods q (z ∷ zs)) (λ r e. omega (arith, e)) (rec st)
 
@@ -390,7 +385,7 @@ module _ (ns : List Text) (ms : MScope) where
   pub record HandleOk (p : Path) (h : Handle) : Type 0 where
     pub sits : SitsIn (item_step h.spot ∷ p) 0 h.lives
     pub goes : (st : State) → Owns st (λ q. times_in q h.lives) → let r = h.go (with_names (Live.item_names ns h.spot) ms) (item_step h.spot ∷ p) st in SitsIn (item_step h.spot ∷ p) 0 r.0
-      → Gives st r.1 (rows_in (item_step h.spot ∷ p) 0 h.lives) (rows_in (item_step h.spot ∷ p) 0 r.0) (λ q. times_in q h.lives)
+        → Gives st r.1 (rows_in (item_step h.spot ∷ p) 0 h.lives) (rows_in (item_step h.spot ∷ p) 0 r.0) (λ q. times_in q h.lives)
 
   abbrev pub AllOk : Path → List Handle → Type 0
   AllOk p [] = Unit {0}
@@ -415,7 +410,7 @@ module _ (ns : List Text) (ms : MScope) where
   pub of_step : (x : Entry) (h : Handle) → is_of x h ≡ true → item_step h.spot ≡ item x.key x.occurrence
   of_step x h e =
       sym (ap₂ item (same_means ⊥ no_owners no_owners-Decides x.key h.spot.key (both_left (same no_owners x.key h.spot.key) (nat_eq x.occurrence h.spot.occurrence) e))
-        (eqb-true x.occurrence h.spot.occurrence (both_right (same no_owners x.key h.spot.key) (nat_eq x.occurrence h.spot.occurrence) e)))
+      (eqb-true x.occurrence h.spot.occurrence (both_right (same no_owners x.key h.spot.key) (nat_eq x.occurrence h.spot.occurrence) e)))
 
   pub not_of : (x : Entry) (h : Handle) → is_of x h ≡ false → item x.key x.occurrence ≡ item_step h.spot → ⊥
   not_of x h e f = absurd (true≢false (sym (step_of x h f) ∙ e)) where
@@ -548,10 +543,10 @@ module _ (ns : List Text) (ms : MScope) (p : Path) where
       let body = rows_in q 0 h.lives in
       let body' = rows_in q 0 r.0 in
       let BC = then_gives st1 st2 r.1 (i ∷ []) (i ∷ []) body body' ci cl o1 (counted_one of_index q h.spot.index) (counted_by body cl (λ z. rows_in_ids z q 0 h.lives ok.sits))
-        (off_body of_index q h.spot.index r.0 s) (off_body' of_index q h.spot.index h.lives ok.sits) B C in
+      (off_body of_index q h.spot.index r.0 s) (off_body' of_index q h.spot.index h.lives ok.sits) B C in
       let all = then_gives st st1 r.1 (v ∷ []) (v ∷ []) (i ∷ body) (i ∷ body') cv (λ z. ci z + cl z) o' (counted_one of_value q h.spot.value)
-        (counted_both (i ∷ []) body ci cl (counted_one of_index q h.spot.index) (counted_by body cl (λ z. rows_in_ids z q 0 h.lives ok.sits)))
-        (off_value q h.spot.value h.spot.index r.0 s) (off_value' q h.spot.value h.spot.index h.lives ok.sits) A BC in
+      (counted_both (i ∷ []) body ci cl (counted_one of_index q h.spot.index) (counted_by body cl (λ z. rows_in_ids z q 0 h.lives ok.sits)))
+      (off_value q h.spot.value h.spot.index r.0 s) (off_value' q h.spot.value h.spot.index h.lives ok.sits) A BC in
       reshape st r.1 (v ∷ (i ∷ body)) (v ∷ (i ∷ body')) (h_rows p h) (item_rows p h.spot h.comment r.0) (λ z. times_handle z h)
       (λ w u c m. less q h.spot h.comment body w u c m) (λ w u c m. less q h.spot h.comment body' w u c m) (λ w u c m. more_rows q h.spot h.comment body w u c m) (λ w u c m. more_rows q h.spot h.comment body' w u c m)
       (gives_count st r.1 (v ∷ (i ∷ body)) (v ∷ (i ∷ body')) (λ z. cv z + (ci z + cl z)) (λ z. times_handle z h) (λ c e. omega (arith, e)) all)

@@ -1,36 +1,35 @@
 -- What an update touches is what the meaning of a turn says.
 use Rattle.std.proofs.Common.{◌≡◌, ◌<◌, ◌≤◌, ℕ, zero, suc, ◌+◌, List, [], ◌∷◌, ◌++◌, map, Bool, true, false, true≢false, Option, Some, None, refl, sym, ◌∙◌, ap, ap₂, subst, arith, inl, inr, ◌⊎◌}
 use Rattle.std.specs.Prelude.{filter_map, not, ◌||◌}
-use Rattle.std.specs.List.{cons_option}
 use Rattle.gl_base.specs.Texts.{Text}
 use Rattle.gl_value.specs.Value.{Values, no_values, value, same, key_of, count_value}
 use Rattle.gl_ast.specs.Template as t
 use Rattle.gl_meaning.specs.App.{App}
 use Rattle.gl_meaning.specs.Path.{at, main, otherwise, items, item, into, slot, empty, Path, V, path_eq}
-use Rattle.gl_meaning.specs.Scope.{Source, cell, item_value, item_index, Scope, Pair}
+use Rattle.gl_meaning.specs.Scope.{cell, item_value, item_index, Scope, Pair}
 use Rattle.gl_meaning.specs.Eval.{Store, class_at}
-use Rattle.gl_meaning.specs.Render.{Piece, element_node, text_node, comment_node, component, branch, item_region, position, too_deep, Forest, no_pieces, piece, single, join, forest_of, Entry, entries, occurrences, Block, block_named, draw}
-use Rattle.gl_meaning.specs.Changes.{pieces_in, pieces, Item, item_in, rendered_items, item_of, both_differ, same_value, same_index, Sets, touched}
+use Rattle.gl_meaning.specs.Render.{Piece, element_node, text_node, comment_node, component, branch, item_region, position, too_deep, Forest, no_pieces, piece, single, join, forest_of, entries, Block, block_named, draw}
+use Rattle.gl_meaning.specs.Changes.{pieces_in, pieces, Item, item_in, rendered_items, item_of, both_differ}
 use Rattle.gl_meaning.specs.Known.{Among}
 use Rattle.gl_meaning.proofs.Equal.{path_means, path_itself}
 use Rattle.gl_meaning.proofs.Pieces.{among_either, among_left, among_right, filter_map_append}
-use Rattle.gl_plain.specs.Ids.{Id, ref, node, hit, occurs, instance_id}
+use Rattle.gl_plain.specs.Ids.{Id, ref, node}
 use Rattle.gl_plain.specs.State.{Inst, MScope, mscope, mnothing, mpassed, passed_in, mslots, mwriter, named_as, with_names, content, Thing, State, held_value}
 use Rattle.gl_plain.specs.Live
 use Rattle.gl_plain.specs.Live.{Live, Lives, Items, AttrSpot, ModSpot, ItemSpot, item_names, times, times_in}
 use Rattle.gl_plain.specs.Renew.{where_block, renew_body, renew_root, renew_app}
-use Rattle.gl_plain.specs.Drawn.{leaf_piece, tag_of, attrs_of, pairs_at, drawn_comment, drawn_attrs, drawn_modifiers, drawn_places, drawn_scope, drawn, drawn_items, drawn_in, drawn_app}
+use Rattle.gl_plain.specs.Drawn.{leaf_piece, tag_of, attrs_of, pairs_at, drawn_comment, drawn_attrs, drawn_modifiers, drawn_places, drawn, drawn_items, drawn_in, drawn_app}
 use Rattle.gl_plain.specs.Stands.{WhereValues, WhereBlock, Stands, StandIn, ItemsStand, BlockStands, ListStands, ElseStands}
 use Rattle.gl_plain.specs.Machine.{RootStands, StandsFor, OnlyTouched}
 use Rattle.gl_plain.proofs.Moves.{is_old}
 use Rattle.gl_plain.proofs.Roots.{updated_stands, standing_shows}
-use Rattle.gl_machine.specs.Rows.{Role, a_value, an_index, Row, row_of, comment_rows, tag_rows, instance_rows, rows, rows_items, rows_in, page_rows}
-use Rattle.gl_machine.specs.Touched.{OnlySet, TouchedIsTouched}
-use Rattle.gl_machine.proofs.Sits.{item_step, SitsIn, RootSits, page_sits}
+use Rattle.gl_machine.specs.Rows.{a_value, an_index, Row, comment_rows, tag_rows, rows, rows_items, rows_in, page_rows}
+use Rattle.gl_machine.specs.Touched.{TouchedIsTouched}
+use Rattle.gl_machine.proofs.Sits.{item_step, RootSits, page_sits}
 use Rattle.gl_machine.proofs.RowsOf.{arm_rows, item_rows}
 use Rattle.gl_machine.proofs.ByPath.{Known, ids_by_path}
 use Rattle.gl_machine.proofs.NestShown.{rows_are_drawn}
-use Rattle.gl_machine.proofs.PlacesOnce.{of_role, row_paths, values_at, indexes_at, there, places_stand_once}
+use Rattle.gl_machine.proofs.PlacesOnce.{of_role, values_at, indexes_at, there, places_stand_once}
 use Rattle.gl_machine.proofs.Given.{Which, of_value, of_index, role_of, source_of, item_row, held, differs, Gives, Owns, same_row, number_of}
 use Rattle.gl_machine.proofs.Touches.{instance_gives, at_place, body_gives}
 
@@ -193,14 +192,16 @@ module _ (look : Id → Option Thing) where
           (has_arm (otherwise ∷ p) k ls f (else_has _ (ElseStands app σ τ look m b s ms p d k ls) (Has (rows_in (otherwise ∷ p) 0 ls) f) (λ g. body_has m b s ms (otherwise ∷ p) 0 d ls g.1) h.1))
       stmt_has m b s ms p (t.let_stmt es ns c) (Live.let_live made rs ls) h = body_has m _ _ (with_names (named_as ns rs) ms) (main ∷ p) 0 c ls h.3
       stmt_has (suc m) b s ms p (t.component_stmt c ps given bs) (Live.component_live i made gm args (Some k) ls) h =
-          let ms' = mscope i args [] (mpassed k ps bs ms) in
-          (wider (rows_in i.path 0 ls) (rows p (Live.component_live i made gm args (Some k) ls)) (λ x n. inr n) _
-            (subst (λ q. Has (rows_in q 0 ls) (drawn_in app look ms' q 0 (class_at app q).template ls)) (sym h.2) (body_has m _ _ ms' (into c ∷ p) 0 (class_at app (into c ∷ p)).template ls h.7)), tt)
+          let ms' = mscope i args [] (mpassed k ps bs ms) in (
+            wider (rows_in i.path 0 ls) (rows p (Live.component_live i made gm args (Some k) ls)) (λ x n. inr n) _
+                (subst (λ q. Has (rows_in q 0 ls) (drawn_in app look ms' q 0 (class_at app q).template ls)) (sym h.2) (body_has m _ _ ms' (into c ∷ p) 0 (class_at app (into c ∷ p)).template ls h.7)),
+            tt,
+          )
       stmt_has zero b s ms p (t.component_stmt c ps given bs) (Live.deep_live q) h = (tt, tt)
       stmt_has m b s ms p (t.yield es n) (Live.yield_live k made rs ls) h =
           block_has (block_named n (mslots (passed_in ms))) (BlockStands app σ τ look m b s ms p es n made rs ls) (ls ≡ Live.no_lives) (λ c. drawn_in app look (with_names (named_as c.params rs) (mwriter (passed_in ms))) (slot k ∷ p) 0 c.body ls) (rows_in (slot k ∷ p) 0 ls)
           (λ c g. subst (λ j. Has (rows_in (slot j ∷ p) 0 ls) (drawn_in app look (with_names (named_as c.params rs) (mwriter (passed_in ms))) (slot j ∷ p) 0 c.body ls)) (sym h.0)
-            (body_has m _ _ (with_names (named_as c.params rs) (mwriter (passed_in ms))) (slot n ∷ p) 0 c.body ls g.3)) h.1
+          (body_has m _ _ (with_names (named_as c.params rs) (mwriter (passed_in ms))) (slot n ∷ p) 0 c.body ls g.3)) h.1
       stmt_has m b s ms p _ _ h = absurd h
 
       body_has : (m b : ℕ) (s : Scope) (ms : MScope) (p : Path) (i : ℕ) (c : t.Body) (ls : Lives) → StandIn app σ τ look m b s ms p i c ls → Has (rows_in p i ls) (drawn_in app look ms p i c ls)
@@ -218,17 +219,23 @@ module _ (look : Id → Option Thing) where
           let D = drawn_in app look (with_names (item_names ns z) ms) q 0 c ls in
           let e = ap₂ (λ a n. item a n ∷ p) h.0.0 h.0.1 in
           let g = has_arm q o ls D (subst (λ j. Has (rows_in j 0 ls) (drawn_in app look (with_names (item_names ns z) ms) j 0 c ls)) (sym e) (body_has m _ _ (with_names (item_names ns z) ms) _ 0 c ls h.4)) in
-          has_join us (rows_items p is) (single (item_region q (held_value (look (ref z.value))) i (join D (drawn_comment look q o)))) (drawn_items app look ns ms c p (suc i) is)
-          ((record { value_ref = z.value; index_ref = z.index; has_value = inl refl; has_index = inr (inl refl); value_is = refl; index_is = sym (ap held_value h.0.3) },
-            wider (arm_rows q o ls) us (λ x n. inr (inr n)) (join D (drawn_comment look q o)) g), tt)
+          has_join us (rows_items p is) (single (item_region q (held_value (look (ref z.value))) i (join D (drawn_comment look q o)))) (drawn_items app look ns ms c p (suc i) is) (
+            (
+              record { value_ref = z.value; index_ref = z.index; has_value = inl refl; has_index = inr (inl refl); value_is = refl; index_is = sym (ap held_value h.0.3) },
+              wider (arm_rows q o ls) us (λ x n. inr (inr n)) (join D (drawn_comment look q o)) g,
+            ),
+            tt,
+          )
           (items_has m b s ms p ns c key (suc i) (key_of key i v ∷ before) vs is h.5)
       items_has m b s ms p ns c key i before _ _ h = absurd h
 
     root_has : (m : ℕ) (l : Live) → RootStands app σ τ look m l → Has (rows [] l) (drawn_app app look l)
     root_has (suc m) (Live.component_live i made gm args None ls) h =
-        let ms' = mscope i args [] mnothing in
-        (wider (rows_in i.path 0 ls) (rows [] (Live.component_live i made gm args None ls)) (λ x n. inr n) _
-          (subst (λ q. Has (rows_in q 0 ls) (drawn_in app look ms' q 0 (class_at app q).template ls)) (sym h.1) (body_has m _ _ ms' [] 0 (class_at app []).template ls h.5)), tt)
+        let ms' = mscope i args [] mnothing in (
+          wider (rows_in i.path 0 ls) (rows [] (Live.component_live i made gm args None ls)) (λ x n. inr n) _
+              (subst (λ q. Has (rows_in q 0 ls) (drawn_in app look ms' q 0 (class_at app q).template ls)) (sym h.1) (body_has m _ _ ms' [] 0 (class_at app []).template ls h.5)),
+          tt,
+        )
     root_has zero (Live.deep_live q) h = (tt, tt)
     root_has _ _ h = absurd h
 

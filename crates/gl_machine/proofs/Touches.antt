@@ -1,5 +1,5 @@
 -- What an update touches of items, statement by statement.
-use Rattle.std.proofs.Common.{◌≡◌, ◌<◌, ◌≤◌, ℕ, zero, suc, ◌+◌, List, [], ◌∷◌, ◌++◌, Bool, true, false, Option, Some, None, cond, refl, sym, ◌∙◌, ap, ap₂, subst, arith, inl, inr, ◌⊎◌}
+use Rattle.std.proofs.Common.{◌≡◌, ◌<◌, ℕ, zero, suc, ◌+◌, List, [], ◌∷◌, ◌++◌, Bool, true, false, Option, Some, None, cond, refl, sym, ◌∙◌, ap, ap₂, subst, arith, inl, inr}
 use Rattle.std.proofs.lemmas.List.{append-nil}
 use Rattle.gl_base.specs.Texts.{Text}
 use Rattle.gl_value.specs.Value.{Values, no_values, value}
@@ -11,17 +11,17 @@ use Rattle.gl_meaning.specs.Eval.{Store, class_at, takes_first}
 use Rattle.gl_meaning.specs.Render.{Entry, entries, values_listed, Block, block_named}
 use Rattle.gl_meaning.specs.Known.{Among}
 use Rattle.gl_meaning.specs.Laws.{Within}
-use Rattle.gl_meaning.proofs.Pieces.{among_either, among_left, among_right}
-use Rattle.gl_plain.specs.Ids.{Id, ref, node, hit, occurs}
-use Rattle.gl_plain.specs.State.{Inst, MScope, mscope, mnothing, mpassed, passed_in, mslots, mwriter, named_as, with_names, Thing, State, dropped}
+use Rattle.gl_meaning.proofs.Pieces.{among_either, among_left}
+use Rattle.gl_plain.specs.Ids.{Id, ref, node, occurs}
+use Rattle.gl_plain.specs.State.{Inst, MScope, mscope, mpassed, passed_in, mslots, mwriter, named_as, with_names, Thing, State, dropped}
 use Rattle.gl_plain.specs.Binding.{Spot, first_value}
 use Rattle.gl_plain.specs.Live
 use Rattle.gl_plain.specs.Live.{Live, Lives, Items, AttrSpot, ModSpot, ItemSpot, item_made, times, times_in, times_items, times_comment, times_attrs, times_mods}
 use Rattle.gl_plain.specs.Grow.{Arm, or_comment, ItemGrown, grow_entries, branch_from, unlisted_from, listed_from, grow_components, grow_yields}
-use Rattle.gl_plain.specs.Renew.{spot_pairs, reread, renew_text, renew_attrs, renew_mods, Handle, times_handle, times_handles, taken, renew_item, sync_one, sync, where_values, where_block, fresh_body, fresh_items, renew, renew_body, handles, renew_root}
+use Rattle.gl_plain.specs.Renew.{spot_pairs, reread, renew_text, renew_attrs, renew_mods, Handle, times_handle, times_handles, taken, renew_item, sync_one, sync, where_values, where_block, fresh_body, fresh_items, renew, renew_body, handles}
 use Rattle.gl_plain.specs.Stands.{WhereValues, WhereBlock, Stands, StandIn, ItemsStand, BlockStands, ListStands, ElseStands}
 use Rattle.gl_plain.specs.Counts.{nodes_in, nodes_items, positions_in, positions_items, comment_node}
-use Rattle.gl_plain.proofs.CountGrows.{CountedIn, CountedItems, CountedArm, arm_steps, entries_steps, item_steps, body_steps, yields_steps, components_steps}
+use Rattle.gl_plain.proofs.CountGrows.{CountedIn, CountedArm, arm_steps, entries_steps, item_steps, body_steps, yields_steps, components_steps}
 use Rattle.gl_machine.specs.Rows.{a_position, Row, row_of, comment_rows, tag_rows, instance_rows, rows, rows_items, rows_in}
 use Rattle.gl_machine.proofs.Sits.{item_step, NotAt, Sits, SitsItems, SitsIn}
 use Rattle.gl_machine.proofs.RowsOf.{arm_rows, item_rows, rows_within, rows_from, items_within, arm_within, item_within, not_there, ids_arm, ids_items, rows_ids, rows_in_ids}
@@ -40,7 +40,7 @@ off_position p i xs ys off w q r s (inr m) (inr n) = off w q r s m n
 
 -- A list of items.
 module _ (ns : List Text) (ms : MScope) (p : Path) (one : Path → Entry → State → ItemGrown) (ones : (q : Path) (x : Entry) (st : State) → CountedArm st (one q x st).arm)
-  (spots : (q : Path) (x : Entry) (st : State) → item_step (one q x st).spot ≡ item x.key x.occurrence) where
+    (spots : (q : Path) (x : Entry) (st : State) → item_step (one q x st).spot ≡ item x.key x.occurrence) where
   sync_gives : (xs : List Entry) (olds : List Handle) (st : State) → Given.AllOk ns ms p olds → Given.Owns st (λ q. times_handles q olds)
       → let r = sync one ns ms p xs olds st in SitsItems p r.0 → Given.Gives st r.1 (Given.all_rows p olds) (rows_items p r.0) (λ q. times_handles q olds)
   sync_gives [] olds st a o s = Given.drop_gives (λ q. times_handles q olds) st (Given.all_rows p olds) [] (Given.off_empty (Given.all_rows p olds) [] Given.none_empty)
@@ -48,7 +48,7 @@ module _ (ns : List Text) (ms : MScope) (p : Path) (one : Path → Entry → Sta
     by : (k : Option (Handle × List Handle)) → Given.TakenOk ns ms p x olds k
         → (let g = sync_one one ns ms (item x.key x.occurrence ∷ p) x olds k st in let r = sync one ns ms p xs g.1 g.0.arm.state in SitsItems p (Live.item_live g.0.spot g.0.arm.comment g.0.arm.lives r.0))
         → ((olds' : List Handle) (st' : State) → Given.AllOk ns ms p olds' → Given.Owns st' (λ q. times_handles q olds')
-          → let r = sync one ns ms p xs olds' st' in SitsItems p r.0 → Given.Gives st' r.1 (Given.all_rows p olds') (rows_items p r.0) (λ q. times_handles q olds'))
+        → let r = sync one ns ms p xs olds' st' in SitsItems p r.0 → Given.Gives st' r.1 (Given.all_rows p olds') (rows_items p r.0) (λ q. times_handles q olds'))
         → let g = sync_one one ns ms (item x.key x.occurrence ∷ p) x olds k st in let r = sync one ns ms p xs g.1 g.0.arm.state in
         Given.Gives st r.1 (Given.all_rows p olds) (item_rows p g.0.spot g.0.arm.comment g.0.arm.lives ++ rows_items p r.0) (λ q. times_handles q olds)
     by None t s rec =
@@ -63,7 +63,7 @@ module _ (ns : List Text) (ms : MScope) (p : Path) (one : Path → Entry → Sta
         (Given.then_gives st g.arm.state r.1 [] new (Given.all_rows p olds) (rows_items p r.0) (λ i. 0) (λ i. times_handles i olds) o0 (Given.counted_none [] (λ i. 0) Given.none_empty) (Given.all_counted ns ms p olds a)
         (Given.off_none [] (rows_items p r.0) Given.none_empty)
         (λ w u c d m n. Given.none_there ns ms (item x.key x.occurrence) p olds t a (Given.item_row w u c) m
-          (subst (λ l. Within (l ∷ p) u) (spots q x st) (item_within p g.spot g.arm.comment g.arm.lives s.1 (Given.item_row w u d) n))) A B)
+        (subst (λ l. Within (l ∷ p) u) (spots q x st) (item_within p g.spot g.arm.comment g.arm.lives s.1 (Given.item_row w u d) n))) A B)
     by (Some y) t s rec =
         let h = y.0 in
         let q = item x.key x.occurrence ∷ p in
@@ -72,12 +72,12 @@ module _ (ns : List Text) (ms : MScope) (p : Path) (one : Path → Entry → Sta
         let new = item_rows p h.spot g.arm.comment g.arm.lives in
         let o' : Given.Owns st (λ i. times_handle i h + times_handles i y.1) = Given.own_less st (λ i. times_handle i h + times_handles i y.1) (λ i. times_handles i olds) (λ c. let e = t.count (ref c) in omega (arith, e)) o in
         let A = subst (λ l. (let z = renew_item ns ms (l ∷ p) x h st in SitsIn (item_step h.spot ∷ p) 0 z.arm.lives → Given.Gives st z.arm.state (Given.h_rows p h) (item_rows p h.spot h.comment z.arm.lives) (λ i. times_handle i h))) t.is
-          (λ k. Given.item_gives_at ns ms p x h st t.ok (Given.own_less st (λ i. times_handle i h) (λ i. times_handle i h + times_handles i y.1) (λ c. omega arith) o') k) s.1 in
+        (λ k. Given.item_gives_at ns ms p x h st t.ok (Given.own_less st (λ i. times_handle i h) (λ i. times_handle i h + times_handles i y.1) (λ c. omega arith) o') k) s.1 in
         let B = rec y.1 g.arm.state t.all (Given.own_later st g.arm.state (λ i. times_handles i y.1) A.more (Given.own_less st (λ i. times_handles i y.1) (λ i. times_handle i h + times_handles i y.1) (λ c. omega arith) o')) s.2 in
         let all = Given.then_gives st g.arm.state r.1 (Given.h_rows p h) new (Given.all_rows p y.1) (rows_items p r.0) (λ i. times_handle i h) (λ i. times_handles i y.1) o'
-          (Given.counted_by (Given.h_rows p h) (λ i. times_handle i h) (λ i. Rattle.gl_machine.proofs.RowsOf.ids_item i p h.spot h.comment h.lives t.ok.sits)) (Given.all_counted ns ms p y.1 t.all)
-          (λ w u c d m n. not_there (item_step h.spot) p r.0 s.0 s.2 (Given.item_row w u d) n (item_within p h.spot h.comment h.lives t.ok.sits (Given.item_row w u c) m))
-          (λ w u c d m n. Given.none_there ns ms (item_step h.spot) p y.1 t.apart t.all (Given.item_row w u c) m (item_within p h.spot g.arm.comment g.arm.lives s.1 (Given.item_row w u d) n)) A B in
+        (Given.counted_by (Given.h_rows p h) (λ i. times_handle i h) (λ i. Rattle.gl_machine.proofs.RowsOf.ids_item i p h.spot h.comment h.lives t.ok.sits)) (Given.all_counted ns ms p y.1 t.all)
+        (λ w u c d m n. not_there (item_step h.spot) p r.0 s.0 s.2 (Given.item_row w u d) n (item_within p h.spot h.comment h.lives t.ok.sits (Given.item_row w u c) m))
+        (λ w u c d m n. Given.none_there ns ms (item_step h.spot) p y.1 t.apart t.all (Given.item_row w u c) m (item_within p h.spot g.arm.comment g.arm.lives s.1 (Given.item_row w u d) n)) A B in
         Given.reshape st r.1 (Given.h_rows p h ++ Given.all_rows p y.1) (new ++ rows_items p r.0) (Given.all_rows p olds) (new ++ rows_items p r.0) (λ i. times_handles i olds)
         (λ w u c m. t.splits (Given.item_row w u c) m) (λ w u c m. m) (λ w u c m. t.joins (Given.item_row w u c) m) (λ w u c m. m)
         (Given.gives_count st r.1 (Given.h_rows p h ++ Given.all_rows p y.1) (new ++ rows_items p r.0) (λ i. times_handle i h + times_handles i y.1) (λ i. times_handles i olds) (λ c e. let k = t.count (ref c) in omega (arith, e, k)) all)
@@ -90,7 +90,7 @@ arm_gives : (q : Path) (k k' : Option ℕ) (ls : Lives) (st : State) (r : Lives 
 arm_gives q k k' ls st r h =
     Given.gives_count st r.1 (arm_rows q k ls) (arm_rows q k' r.0) (λ i. times_in i ls) (λ i. times_in i ls + times_comment i k) (λ c e. omega (arith, e))
     (Given.reshape st r.1 (rows_in q 0 ls) (rows_in q 0 r.0) (arm_rows q k ls) (arm_rows q k' r.0) (λ i. times_in i ls) (without q k (rows_in q 0 ls)) (without q k' (rows_in q 0 r.0))
-      (λ w u c m. among_left (Given.item_row w u c) (rows_in q 0 ls) (comment_rows q k) m) (λ w u c m. among_left (Given.item_row w u c) (rows_in q 0 r.0) (comment_rows q k') m) h)
+    (λ w u c m. among_left (Given.item_row w u c) (rows_in q 0 ls) (comment_rows q k) m) (λ w u c m. among_left (Given.item_row w u c) (rows_in q 0 r.0) (comment_rows q k') m) h)
   where
     without : (q : Path) (k : Option ℕ) (xs : List Row) (w : Given.Which) (u : Path) (c : ℕ) → Among (Given.item_row w u c) (xs ++ comment_rows q k) → Among (Given.item_row w u c) xs
     without q k xs w u c m = elim (among_either (Given.item_row w u c) xs (comment_rows q k) m) [ inl j ↦ j | inr j ↦ absurd (Given.none_comment q k w u c j) ]
@@ -116,7 +116,7 @@ over_gives p z st st' xs ys ms qs count w off h =
     let B = Given.drop_gives count st1 [] [] (Given.off_none [] [] Given.none_empty) in
     Given.still_gives st st' us vs (λ i. occurs i z.made + count i) (off_position p (ref z.ref) xs ys off) (let a = A.more in let b = B.more in let c = h.leaves.more in omega (arith, a, b, c))
     (λ r lt e.
-      h.leaves.rows r (let a = A.more in let b = B.more in omega (arith, lt, a, b)) ∙ (B.frame r (let a = A.more in omega (arith, lt, a)) (omega (arith, e)) ∙ A.frame r lt (omega (arith, e))))
+    h.leaves.rows r (let a = A.more in let b = B.more in omega (arith, lt, a, b)) ∙ (B.frame r (let a = A.more in omega (arith, lt, a)) (omega (arith, e)) ∙ A.frame r lt (omega (arith, e))))
     (λ y. h.leaves.touches y ∙ (B.quiet y (λ v q r m n f. m) ∙ A.quiet y (λ v q r m n f. m)))
 
 module _ (app : App) (τ : Store) where
@@ -133,8 +133,8 @@ module _ (app : App) (τ : Store) where
       → Given.AllOk ns ms (items ∷ p) (handles app τ m c is) → ((x : Row) → Among x (Given.all_rows (items ∷ p) (handles app τ m c is)) → Among x (rows_items (items ∷ p) is)) → ((x : Row) → Among x (rows_items (items ∷ p) is) → Among x (Given.all_rows (items ∷ p) (handles app τ m c is)))
       → ((q : Id) → times_handles q (handles app τ m c is) ≡ times_items q is) → (vs : Values Path)
       → (let r = where_values vs (λ vs. listed_from z (sync (fresh_items app τ m ms ns c) ns ms (items ∷ p) (entries key 0 [] vs) (handles app τ m c is) (reread z.ref st)))
-          (unlisted_from z (or_comment (fresh_body app τ m ms (otherwise ∷ p) d (dropped (λ q. times_items q is) (reread z.ref st))))) in
-        Sits p r.0 → Given.Gives st r.1 (rows p (Live.listed z is)) (rows p r.0) (λ q. times q (Live.listed z is)))
+      (unlisted_from z (or_comment (fresh_body app τ m ms (otherwise ∷ p) d (dropped (λ q. times_items q is) (reread z.ref st))))) in
+      Sits p r.0 → Given.Gives st r.1 (rows p (Live.listed z is)) (rows p r.0) (λ q. times q (Live.listed z is)))
   listed_by m ms p key ns c d z is st s o a f g e no_values s' =
       let count : Id → ℕ = λ q. times_items q is in
       let x = or_comment (fresh_body app τ m ms (otherwise ∷ p) d (dropped count (reread z.ref st))) in
@@ -149,13 +149,13 @@ module _ (app : App) (τ : Store) where
       let B = sync_gives ns ms (items ∷ p) (fresh_items app τ m ms ns c) (λ q x st'. fresh_ones m ms ns c q x st') (λ q x st'. refl) (entries key 0 [] (value v vs)) hs st1 a (Given.own_later st st1 (λ q. times_handles q hs) A.more oi) s'.1 in
       on_position p z st r.1 (rows_items (items ∷ p) is) (rows_items (items ∷ p) r.0) (λ q. times_items q is) s.0 o (Given.counted_by (rows_items (items ∷ p) is) (λ q. times_items q is) (λ q. ids_items q (items ∷ p) is s.1))
       (Given.gives_count st1 r.1 (rows_items (items ∷ p) is) (rows_items (items ∷ p) r.0) (λ q. times_handles q hs) (λ q. times_items q is) (λ k i. let j = e (ref k) in omega (arith, i, j))
-        (Given.reshape st1 r.1 (Given.all_rows (items ∷ p) hs) (rows_items (items ∷ p) r.0) (rows_items (items ∷ p) is) (rows_items (items ∷ p) r.0) (λ q. times_handles q hs) (λ w u k i. g (Given.item_row w u k) i) (λ w u k i. i) (λ w u k i. f (Given.item_row w u k) i) (λ w u k i. i) B))
+      (Given.reshape st1 r.1 (Given.all_rows (items ∷ p) hs) (rows_items (items ∷ p) r.0) (rows_items (items ∷ p) is) (rows_items (items ∷ p) r.0) (λ q. times_handles q hs) (λ w u k i. g (Given.item_row w u k) i) (λ w u k i. i) (λ w u k i. f (Given.item_row w u k) i) (λ w u k i. i) B))
 
   unlisted_by : (m : ℕ) (ms : MScope) (p : Path) (key : Text) (ns : List Text) (c d : t.Body) (z : Spot) (k : Option ℕ) (ls : Lives) (st : State) → Sits p (Live.unlisted z k ls) → Given.Owns st (λ q. times q (Live.unlisted z k ls))
       → (let r = renew_body app τ m ms (otherwise ∷ p) 0 d ls (reread z.ref st) in SitsIn (otherwise ∷ p) 0 r.0 → Given.Gives (reread z.ref st) r.1 (rows_in (otherwise ∷ p) 0 ls) (rows_in (otherwise ∷ p) 0 r.0) (λ q. times_in q ls)) → (vs : Values Path)
       → (let r = where_values vs (λ vs. listed_from z (grow_entries (fresh_items app τ m ms ns c) (items ∷ p) (entries key 0 [] vs) (dropped (λ q. times_in q ls + times_comment q k) (reread z.ref st))))
-          (unlisted_from z (let r = renew_body app τ m ms (otherwise ∷ p) 0 d ls (reread z.ref st) in record { comment = k; lives = r.0; state = r.1 })) in
-        Sits p r.0 → Given.Gives st r.1 (rows p (Live.unlisted z k ls)) (rows p r.0) (λ q. times q (Live.unlisted z k ls)))
+      (unlisted_from z (let r = renew_body app τ m ms (otherwise ∷ p) 0 d ls (reread z.ref st) in record { comment = k; lives = r.0; state = r.1 })) in
+      Sits p r.0 → Given.Gives st r.1 (rows p (Live.unlisted z k ls)) (rows p r.0) (λ q. times q (Live.unlisted z k ls)))
   unlisted_by m ms p key ns c d z k ls st s o h no_values s' =
       let r = renew_body app τ m ms (otherwise ∷ p) 0 d ls (reread z.ref st) in
       on_position p z st r.1 (arm_rows (otherwise ∷ p) k ls) (arm_rows (otherwise ∷ p) k r.0) (λ q. times_in q ls + times_comment q k) s.0 o
@@ -238,7 +238,7 @@ module _ (app : App) (τ : Store) where
   instance_gives i made ls st r h =
       with_made st r.1 (instance_rows i ++ rows_in i.path 0 ls) (instance_rows i ++ rows_in i.path 0 r.0) made (λ q. times_in q ls)
       (Given.reshape st r.1 (rows_in i.path 0 ls) (rows_in i.path 0 r.0) (instance_rows i ++ rows_in i.path 0 ls) (instance_rows i ++ rows_in i.path 0 r.0) (λ q. times_in q ls)
-        (without i (rows_in i.path 0 ls)) (without i (rows_in i.path 0 r.0)) (λ w u c m. inr m) (λ w u c m. inr m) h)
+      (without i (rows_in i.path 0 ls)) (without i (rows_in i.path 0 r.0)) (λ w u c m. inr m) (λ w u c m. inr m) h)
     where
       without : (i : Inst) (xs : List Row) (w : Given.Which) (u : Path) (c : ℕ) → Among (Given.item_row w u c) (instance_rows i ++ xs) → Among (Given.item_row w u c) xs
       without i xs w u c m = elim (among_either (Given.item_row w u c) (instance_rows i) xs m) [ inl j ↦ absurd (Given.none_instance i w u c j) | inr j ↦ j ]
@@ -261,7 +261,7 @@ module _ (app : App) (τ : Store) where
   -- an item's body at the item's own place
   item_goes : (m b : ℕ) (v : Scope) (ms : MScope) (p : Path) (ns : List Text) (c : t.Body) (x : Entry) (z : ItemSpot) (ls : Lives) → z.key ≡ x.key → z.occurrence ≡ x.occurrence
       → ((st : State) → SitsIn (item x.key x.occurrence ∷ p) 0 ls → Given.Owns st (λ q. times_in q ls) → let r = renew_body app τ m (with_names (Live.item_names ns z) ms) (item x.key x.occurrence ∷ p) 0 c ls st in SitsIn (item x.key x.occurrence ∷ p) 0 r.0
-        → Given.Gives st r.1 (rows_in (item x.key x.occurrence ∷ p) 0 ls) (rows_in (item x.key x.occurrence ∷ p) 0 r.0) (λ q. times_in q ls))
+      → Given.Gives st r.1 (rows_in (item x.key x.occurrence ∷ p) 0 ls) (rows_in (item x.key x.occurrence ∷ p) 0 r.0) (λ q. times_in q ls))
       → (st : State) → Given.Owns st (λ q. times_in q ls) → SitsIn (item_step z ∷ p) 0 ls → let r = renew_body app τ m (with_names (Live.item_names ns z) ms) (item_step z ∷ p) 0 c ls st in SitsIn (item_step z ∷ p) 0 r.0
       → Given.Gives st r.1 (rows_in (item_step z ∷ p) 0 ls) (rows_in (item_step z ∷ p) 0 r.0) (λ q. times_in q ls)
   item_goes m b v ms p ns c x z ls ek eo h st o s =
@@ -340,9 +340,9 @@ module _ (app : App) (τ : Store) where
           let r = where_block (block_named n (mslots (passed_in ms))) (λ c. renew_body app τ m (with_names (named_as c.params rs) (mwriter (passed_in ms))) (slot n ∷ p) 0 c.body ls st) (ls, st) in
           with_made st r.1 (rows_in (slot k ∷ p) 0 ls) (rows_in (slot k ∷ p) 0 r.0) made (λ q. times_in q ls)
           (subst (λ j. SitsIn (slot j ∷ p) 0 ls → SitsIn (slot j ∷ p) 0 r.0 → Given.Gives st r.1 (rows_in (slot j ∷ p) 0 ls) (rows_in (slot j ∷ p) 0 r.0) (λ q. times_in q ls)) (sym h.0)
-            (λ y y'. block_by p n (block_named n (mslots (passed_in ms))) (BlockStands app σ υ look m b v ms p es n made rs ls) (ls ≡ Live.no_lives) ls st
-              (λ c. renew_body app τ m (with_names (named_as c.params rs) (mwriter (passed_in ms))) (slot n ∷ p) 0 c.body ls st) h.1
-              (λ c g y''. body_gives m _ _ (with_names (named_as c.params rs) (mwriter (passed_in ms))) (slot n ∷ p) 0 c.body ls st g.3 y (own_rest st made (λ q. times_in q ls) o) y'') y') s s')
+          (λ y y'. block_by p n (block_named n (mslots (passed_in ms))) (BlockStands app σ υ look m b v ms p es n made rs ls) (ls ≡ Live.no_lives) ls st
+          (λ c. renew_body app τ m (with_names (named_as c.params rs) (mwriter (passed_in ms))) (slot n ∷ p) 0 c.body ls st) h.1
+          (λ c g y''. body_gives m _ _ (with_names (named_as c.params rs) (mwriter (passed_in ms))) (slot n ∷ p) 0 c.body ls st g.3 y (own_rest st made (λ q. times_in q ls) o) y'') y') s s')
       stmt_gives m b v ms p _ _ st h s o s' = absurd h
 
       pub body_gives : (m b : ℕ) (v : Scope) (ms : MScope) (p : Path) (i : ℕ) (c : t.Body) (ls : Lives) (st : State) → StandIn app σ υ look m b v ms p i c ls → SitsIn p i ls → Given.Owns st (λ q. times_in q ls)
@@ -356,9 +356,9 @@ module _ (app : App) (τ : Store) where
           Given.then_gives st r.1 z.1 (rows (at i ∷ p) l) (rows (at i ∷ p) r.0) (rows_in p (suc i) ls) (rows_in p (suc i) z.0) (λ q. times q l) (λ q. times_in q ls) o
           (Given.counted_by (rows (at i ∷ p) l) (λ q. times q l) (λ q. rows_ids q (at i ∷ p) l s.0)) (Given.counted_by (rows_in p (suc i) ls) (λ q. times_in q ls) (λ q. rows_in_ids q p (suc i) ls s.1))
           (λ w q k j a e. let y = rows_from p (suc i) z.0 s'.1 (Given.item_row w q j) e in
-            apart (at i) (at y.0) p (Given.item_row w q k) (Given.item_row w q j) (λ d. let f : i ≡ y.0 = ap step_number d in let g = y.1 in omega (arith, f, g)) (rows_within (at i ∷ p) l s.0 (Given.item_row w q k) a) y.2 refl)
+          apart (at i) (at y.0) p (Given.item_row w q k) (Given.item_row w q j) (λ d. let f : i ≡ y.0 = ap step_number d in let g = y.1 in omega (arith, f, g)) (rows_within (at i ∷ p) l s.0 (Given.item_row w q k) a) y.2 refl)
           (λ w q k j a e. let y = rows_from p (suc i) ls s.1 (Given.item_row w q k) a in
-            apart (at y.0) (at i) p (Given.item_row w q k) (Given.item_row w q j) (λ d. let f : y.0 ≡ i = ap step_number d in let g = y.1 in omega (arith, f, g)) y.2 (rows_within (at i ∷ p) r.0 s'.0 (Given.item_row w q j) e) refl) A B
+          apart (at y.0) (at i) p (Given.item_row w q k) (Given.item_row w q j) (λ d. let f : y.0 ≡ i = ap step_number d in let g = y.1 in omega (arith, f, g)) y.2 (rows_within (at i ∷ p) r.0 s'.0 (Given.item_row w q j) e) refl) A B
       body_gives m b v ms p i _ _ st h s o s' = absurd h
 
       handles_ok : (m b : ℕ) (v : Scope) (ms : MScope) (p : Path) (ns : List Text) (c : t.Body) (xs : List Entry) (is : Items) → ItemsStand app σ υ look m b v ms p ns c xs is → SitsItems p is → Given.AllOk ns ms p (handles app τ m c is)
