@@ -5,12 +5,12 @@ use Rattle.std.proofs.lemmas.List.{map-append}
 use Rattle.gl_base.specs.Texts.{Text}
 use Rattle.gl_base.specs.Names.{at_place, named}
 use Rattle.gl_value.specs.Value.{undefined, null, boolean, integer, text, list, pairs, action, truthy, text_of, is_missing, join_kept, join_values, properties, property}
-use Rattle.gl_value.specs.Helpers.{Helper, helper_value}
+use Rattle.gl_value.specs.Helpers.{Helper, helper_table, helper_value}
 use Rattle.gl_value.specs.Owners.{with_owners}
 use Rattle.gl_value.proofs.Owners.{rules_leave_owners, property_keeps_owners}
 use Rattle.gl_meaning.specs.Path.{Path, V, path_eq}
 use Rattle.gl_meaning.specs.Scope.{Source, Pair, absent, sources_of, NamedPairs}
-use Rattle.gl_meaning.specs.Eval.{values_in, branch_pair, all_pair, branch_of, pair_read, helper_pair, call_pair, cat_pair, takes_first, helper_table, after_reading}
+use Rattle.gl_meaning.specs.Eval.{values_in, branch_pair, all_pair, branch_of, pair_read, helper_pair, call_pair, cat_pair, takes_first, after_reading}
 use Rattle.gl_labels.specs.Laws.{names_with}
 use Rattle.gl_labels.proofs.Owners.{helpers_keep_owners}
 use Rattle.gl_plain.specs.Ids.{Id, ref}

@@ -8,6 +8,7 @@ use Rattle.gl_labels.specs.Laws.{names_with}
 use Rattle.gl_plain.specs.Ids.{Id}
 use Rattle.gl_plain.specs.State.{Form, constant_form, source_form, property_form, call_form, joined_form, all_form, Row, Names, Inst, MScope, mscope, MPassed, mnothing, mpassed, Installed, Thing, row, content, instance_row, block_row, modifier_row, State}
 use Rattle.gl_plain.specs.Naming.{Naming, by_number}
+use Rattle.gl_plain.specs.Binding.{Bound, BoundAll, BoundNames, Placed}
 use Rattle.gl_plain.specs.Live.{ItemSpot, Live, element_live, branch_live, listed, unlisted, let_live, component_live, yield_live, Items, no_items, item_live, Lives, no_lives, live_and}
 
 -- f gives each owner its other name, and g each source.
@@ -44,6 +45,19 @@ module _ (f : Path → Path) (g : Source → Source) where
   -- the state, in which just the sources of t are touched
   abbrev pub state_with : (Source → Bool) → State → State
   state_with t st = record { look = λ q. there_with (st.look q); next = st.next; touched = t; evaluated = st.evaluated; installs = st.installs; updates = st.updates }
+
+  -- what was bound and placed
+  abbrev pub bound_with : (Source → Bool) → Bound → Bound
+  bound_with t b = record { id = b.id; made = b.made; state = state_with t b.state }
+
+  abbrev pub bound_all_with : (Source → Bool) → BoundAll → BoundAll
+  bound_all_with t b = record { ids = b.ids; made = b.made; state = state_with t b.state }
+
+  abbrev pub bound_names_with : (Source → Bool) → BoundNames → BoundNames
+  bound_names_with t b = record { names = b.names; made = b.made; state = state_with t b.state }
+
+  abbrev pub placed_with : (Source → Bool) → Placed → Placed
+  placed_with t x = record { spot = x.spot; pairs = map pair_with x.pairs; state = state_with t x.state }
 
 -- Where the names of numbers are right: f gives the owner of an instance its path, and g each source of a tree that of its path.
 module _ (f : Path → Path) (g : Source → Source) where
