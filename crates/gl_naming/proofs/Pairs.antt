@@ -65,7 +65,7 @@ module _ (f : Path → Path) (g : Source → Source) where
   joined_on [] = refl
   joined_on (v ∷ vs) = ap text (texts_on (v ∷ vs))
 
-  values_to : (ps : List Pair) → values_in (map to ps) ≡ map on (values_in ps)
+  pub values_to : (ps : List Pair) → values_in (map to ps) ≡ map on (values_in ps)
   values_to [] = refl
   values_to (p ∷ ps) = ap (λ vs. on p.value ∷ vs) (values_to ps)
 

@@ -4,11 +4,14 @@ use Rattle.gl_base.specs.Texts.{Text}
 use Rattle.gl_value.specs.Owners.{with_owners}
 use Rattle.gl_meaning.specs.Path.{Path, V, main, otherwise, items, item, slot}
 use Rattle.gl_meaning.specs.Scope.{Source, cell, item_value, item_index, Pair}
+use Rattle.gl_meaning.specs.Render.{Entry}
 use Rattle.gl_labels.specs.Laws.{names_with}
 use Rattle.gl_plain.specs.Ids.{Id}
 use Rattle.gl_plain.specs.State.{Form, constant_form, source_form, property_form, call_form, joined_form, all_form, Row, Names, Inst, MScope, mscope, MPassed, mnothing, mpassed, Installed, Thing, row, content, instance_row, block_row, modifier_row, State}
 use Rattle.gl_plain.specs.Naming.{Naming, by_number}
 use Rattle.gl_plain.specs.Binding.{Bound, BoundAll, BoundNames, Placed}
+use Rattle.gl_plain.specs.Tags.{BoundParts, AttrsGiven, ModsGrown}
+use Rattle.gl_plain.specs.Grow.{Arm, ItemGrown}
 use Rattle.gl_plain.specs.Live.{ItemSpot, Live, element_live, branch_live, listed, unlisted, let_live, component_live, yield_live, Items, no_items, item_live, Lives, no_lives, live_and}
 
 -- f gives each owner its other name, and g each source.
@@ -58,6 +61,28 @@ module _ (f : Path → Path) (g : Source → Source) where
 
   abbrev pub placed_with : (Source → Bool) → Placed → Placed
   placed_with t x = record { spot = x.spot; pairs = map pair_with x.pairs; state = state_with t x.state }
+
+  abbrev pub parts_with : (Source → Bool) → BoundParts → BoundParts
+  parts_with t b = record { parts = b.parts; made = b.made; state = state_with t b.state }
+
+  abbrev pub attrs_with : (Source → Bool) → AttrsGiven → AttrsGiven
+  attrs_with t b = record { attrs = b.attrs; spots = b.spots; state = state_with t b.state }
+
+  abbrev pub mods_with : (Source → Bool) → ModsGrown → ModsGrown
+  mods_with t b = record { spots = b.spots; state = state_with t b.state }
+
+  -- what was appended
+  abbrev pub run_with : {A : Type 0} → (Source → Bool) → A × State → A × State
+  run_with t r = (r.0, state_with t r.1)
+
+  abbrev pub arm_with : (Source → Bool) → Arm → Arm
+  arm_with t a = record { comment = a.comment; lives = a.lives; state = state_with t a.state }
+
+  abbrev pub grown_with : (Source → Bool) → ItemGrown → ItemGrown
+  grown_with t x = record { spot = x.spot; arm = arm_with t x.arm }
+
+  abbrev pub entry_with : Entry → Entry
+  entry_with x = record { key = x.key; occurrence = x.occurrence; value = with_owners f x.value; index = x.index }
 
 -- Where the names of numbers are right: f gives the owner of an instance its path, and g each source of a tree that of its path.
 module _ (f : Path → Path) (g : Source → Source) where
