@@ -43,6 +43,3 @@ pub mod Makes
 pub mod MarkGrows
 pub mod MarkRenews
 pub mod MarkRoots
-pub mod Given
-pub mod Touches
-pub mod TouchedIs

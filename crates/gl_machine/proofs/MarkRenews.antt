@@ -15,7 +15,7 @@ use Rattle.gl_meaning.specs.Parts.{attribute_value}
 use Rattle.gl_meaning.specs.Render.{Entry, entries, values_listed, Block, block_named}
 use Rattle.gl_meaning.proofs.Pieces.{filter_map_append}
 use Rattle.gl_plain.specs.Ids.{a_block, a_modifier, Id, ref, node, modifier_id}
-use Rattle.gl_plain.specs.State.{MScope, mscope, mpassed, passed_in, mslots, mwriter, named_as, with_names, text_content, content, modifier_row, Thing, State, put_thing, note_updated, dropped, touch, held_value}
+use Rattle.gl_plain.specs.State.{MScope, mscope, mpassed, passed_in, mslots, mwriter, named_as, with_names, text_content, content, modifier_row, State, put_thing, note_updated, dropped, touch, held_value}
 use Rattle.gl_plain.specs.Binding.{Spot, first_value}
 use Rattle.gl_plain.specs.Live
 use Rattle.gl_plain.specs.Live.{Live, Lives, Items, AttrSpot, ModSpot, ItemSpot, times_in, times_items, times_comment}
@@ -26,29 +26,20 @@ use Rattle.gl_machine.specs.Marks.{Mark, attr_marks, mod_marks, marked, marked_i
 use Rattle.gl_machine.proofs.MarkGrows.{Marks, GrownIn, GrownItems, GrownArm, rises_more, rises_more_in, rises_more_items, arm_grown, entries_grown, item_grown, body_grown, yields_grown, components_grown}
 
 -- the state once an attribute, or a modifier, was read again
-abbrev pub attr_thing : ℕ → AttrSpot → State → Thing
-attr_thing n a st = content (changed_attr a.name (attribute_value (spot_pairs st a.spot.ref)) (st.look (node n)))
+abbrev attr_put : ℕ → AttrSpot → State → State
+attr_put n a st = put_thing (node n) (content (changed_attr a.name (attribute_value (spot_pairs st a.spot.ref)) (st.look (node n)))) (evaluate a.spot.ref st)
 
-abbrev pub attr_put : ℕ → AttrSpot → State → State
-attr_put n a st = put_thing (node n) (attr_thing n a st) (evaluate a.spot.ref st)
-
-abbrev pub attr_step : ℕ → AttrSpot → State → State
+abbrev attr_step : ℕ → AttrSpot → State → State
 attr_step n a st = if is_stale st a.spot.ref then attr_put n a st else st
 
-abbrev pub mod_thing : ModSpot → State → Thing
-mod_thing m st = modifier_row (refreshed m (values_in (spot_pairs st m.spot.ref)) (st.look (modifier_id m.id)))
+abbrev mod_put : ModSpot → State → State
+mod_put m st = note_updated m.id (put_thing (modifier_id m.id) (modifier_row (refreshed m (values_in (spot_pairs st m.spot.ref)) (st.look (modifier_id m.id)))) (evaluate m.spot.ref st))
 
-abbrev pub mod_put : ModSpot → State → State
-mod_put m st = note_updated m.id (put_thing (modifier_id m.id) (mod_thing m st) (evaluate m.spot.ref st))
-
-abbrev pub mod_step : ModSpot → State → State
+abbrev mod_step : ModSpot → State → State
 mod_step m st = if is_stale st m.spot.ref then mod_put m st else st
 
-abbrev pub text_thing : Spot → State → Thing
-text_thing z st = content (text_content (text_of (first_value (spot_pairs st z.ref))))
-
-abbrev pub text_put : ℕ → Spot → State → State
-text_put n z st = put_thing (node n) (text_thing z st) (evaluate z.ref st)
+abbrev text_put : ℕ → Spot → State → State
+text_put n z st = put_thing (node n) (content (text_content (text_of (first_value (spot_pairs st z.ref))))) (evaluate z.ref st)
 
 module _ (n0 : ℕ) where
   abbrev pub old : Mark → Option ℕ

@@ -8,7 +8,7 @@ use Rattle.gl_meaning.specs.Path.{Path}
 use Rattle.gl_meaning.specs.Eval.{Store}
 use Rattle.gl_meaning.specs.Parts.{Modifier}
 use Rattle.gl_meaning.specs.Render.{Piece, element_node, text_node, comment_node, component, branch, item_region, position, too_deep, Forest, no_pieces, piece, draw}
-use Rattle.gl_meaning.specs.Changes.{pieces_in, pieces, node_path, instance_path, position_in, item_in, modifiers_on, instances, rendered_items}
+use Rattle.gl_meaning.specs.Changes.{pieces_in, pieces, node_path, instance_path, position_in, item_in, modifiers_on, instances}
 use Rattle.gl_meaning.specs.Print.{modifier_paths}
 use Rattle.gl_meaning.specs.Known.{Among}
 use Rattle.gl_meaning.specs.Laws.{NoRepeat}
@@ -154,19 +154,13 @@ modifiers_at f = ap (of_role a_modifier) (in_forest f) ∙ are_modifiers (pieces
 pub instances_at : (f : Forest) → of_role an_instance (places f) ≡ instances f
 instances_at f = ap (of_role an_instance) (in_forest f) ∙ are_instances (pieces f)
 
-pub values_at : (f : Forest) → of_role a_value (places f) ≡ map (λ x. x.path) (rendered_items f)
-values_at f = ap (of_role a_value) (in_forest f) ∙ are_values (pieces f)
-
-pub indexes_at : (f : Forest) → of_role an_index (places f) ≡ map (λ x. x.path) (rendered_items f)
-indexes_at f = ap (of_role an_index) (in_forest f) ∙ are_indexes (pieces f)
-
 no_repeat : (app : App) (σ : Store) (r : Role) → NoRepeat (of_role r (places (draw app σ)))
 no_repeat app σ a_node = subst NoRepeat (sym (ap (of_role a_node) (in_forest (draw app σ)) ∙ are_nodes (pieces (draw app σ)))) (nodes_once app σ)
 no_repeat app σ a_position = subst NoRepeat (sym (ap (of_role a_position) (in_forest (draw app σ)) ∙ are_positions (pieces (draw app σ)))) (positions_once app σ)
 no_repeat app σ an_instance = subst NoRepeat (sym (instances_at (draw app σ))) (instances_once app σ)
 no_repeat app σ a_modifier = subst NoRepeat (sym (modifiers_at (draw app σ))) (modifiers_once app σ)
-no_repeat app σ a_value = subst NoRepeat (sym (values_at (draw app σ))) (items_once app σ)
-no_repeat app σ an_index = subst NoRepeat (sym (indexes_at (draw app σ))) (items_once app σ)
+no_repeat app σ a_value = subst NoRepeat (sym (ap (of_role a_value) (in_forest (draw app σ)) ∙ are_values (pieces (draw app σ)))) (items_once app σ)
+no_repeat app σ an_index = subst NoRepeat (sym (ap (of_role an_index) (in_forest (draw app σ)) ∙ are_indexes (pieces (draw app σ)))) (items_once app σ)
 
 -- Rows
 

@@ -15,6 +15,5 @@ pub mod Rows
 pub mod Gone
 pub mod Scopes
 pub mod Marks
-pub mod Touched
 pub mod UpdateLaws
 pub mod Laws

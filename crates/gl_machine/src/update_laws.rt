@@ -3,7 +3,6 @@
 ghost use Rattle.gl_machine.specs.Marks.{AppendedInstalls, BlocksRise, UpdatedInstalls, UpdatedUpdates};
 ghost use Rattle.gl_machine.specs.Placed.{RenewsRight};
 ghost use Rattle.gl_machine.specs.Scopes.{PageNamesOwn, SightsNameOwn};
-ghost use Rattle.gl_machine.specs.Touched.{TouchedIsTouched};
 ghost use Rattle.gl_machine.specs.UpdateLaws.{FreedIsGone, FreedIsLogged, IdsByPath, IdsStandOnce, NestHasNodes, NestIsDrawn, NestIsOrdered, NestIsPlaced, PageFollows, PlacesStandOnce, RowsAreDrawn};
 
 /// An update of the recorded program does what one of the tree does, and leaves it recorded well.
@@ -39,11 +38,6 @@ pub fn handed_out()
     ensures appended { AppendedInstalls }
     ensures installed { UpdatedInstalls }
     ensures updated { UpdatedUpdates }
-{}
-
-/// What an update touches is what the meaning of a turn says.
-pub fn touches()
-    ensures sources { TouchedIsTouched }
 {}
 
 /// The scopes that are recorded name blocks and instances that the page has.

@@ -11,3 +11,4 @@ mod Seen
 mod Stacks
 mod Tagging
 mod Found
+mod Telling

@@ -1,10 +1,12 @@
 -- What references mean, and what keeps it.
-use Rattle.std.specs.Prelude.{◌≡◌, ◌⊎◌, Bool, true, false, Some}
+use Rattle.std.specs.Prelude.{◌≡◌, ℕ, ◌≤◌, ◌⊎◌, Bool, true, false, Some, option_map}
 use Rattle.std.specs.List.{list_any}
 use Rattle.gl_arena.specs.Id.{Id}
+use Rattle.gl_arena.specs.Arena.{IsStamped, by_stamp}
 use Rattle.gl_tags.specs.Tags as t
-use Rattle.gl_refs.specs.Forms.{V, Form, Look, form_at, parts, own_sources, pair_by, below, meaning, Each}
-use Rattle.gl_refs.specs.State.{Rows, forms, held, IsKept, IsSound, Sets, Binds, Evaluates, Frees, is_bound}
+use Rattle.gl_refs.specs.Forms.{V, Form, Look, form_at, parts, own_sources, pair_by, below, meaning, Like, Each}
+use Rattle.gl_refs.specs.State.{Row, Rows, forms, held, held_value, held_tag, has_tag, IsKept, IsValid, IsSound, Sets, Binds, Evaluates, Frees, is_bound}
+use Rattle.gl_refs.specs.Refs.{Refs, Reads}
 
 -- A reference means what its form gives where its parts mean what they mean. No rank and no graph is needed: only what
 -- was made before it is read for it.
@@ -43,3 +45,21 @@ EvaluationKeeps = (tags tags' : t.Tags) (rows rows' : Rows) (i : Id) → IsSound
 -- A reference that is no source, and that no live one reads, is ended, and all others stay as they are.
 abbrev pub FreeKeeps : Type 0
 FreeKeeps = (tags tags' : t.Tags) (rows rows' : Rows) (i : Id) → IsSound tags rows → Frees tags tags' rows rows' i → IsSound tags' rows'
+
+-- What is kept and may be used has the sources of now too: those are what its tag leads to.
+abbrev pub KeptLike : Type 0
+KeptLike =
+    (tags : t.Tags) (rows : Rows) (i : Id) → IsSound tags rows → IsKept tags rows i →
+    Like (record { value = held_value rows i; sources = t.leads_of tags.tags (held_tag tags rows i) }) (meaning (forms rows) i)
+
+-- A reference that has a tag is valid since a revision exactly where the tag's value isn't greater.
+abbrev pub ValidByTag : Type 0
+ValidByTag =
+    (tags : t.Tags) (rows : Rows) (i : Id) (since : ℕ) → IsSound tags rows → has_tag (rows i) ≡ true →
+    (IsValid tags since (rows i) → t.value_of tags (held_tag tags rows i) ≤ since) × (t.value_of tags (held_tag tags rows i) ≤ since → IsValid tags since (rows i))
+
+-- By stamps, as by ids: no read and no evaluation changes the form that stands at a stamp.
+abbrev pub FormsByStamp : Type 0
+FormsByStamp =
+    (old new : Refs) (id : Id) → IsStamped old.rows → IsStamped new.rows → Reads old new id → (s : ℕ) →
+    option_map (λ (r : Row). r.form) (by_stamp new.rows s) ≡ option_map (λ (r : Row). r.form) (by_stamp old.rows s)

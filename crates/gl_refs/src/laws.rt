@@ -1,7 +1,7 @@
 //! What references mean, and what keeps it. Each function does nothing: its contract is the law. The words of
 //! the contracts stand in `specs/Laws.antt`, each with its sentence.
 
-ghost use Rattle.gl_refs.specs.Laws.{MeaningIs, UntouchedStays, ApartStays, KeptIsNow, SetKeeps, BindKeeps, EvaluationKeeps, FreeKeeps};
+ghost use Rattle.gl_refs.specs.Laws.{MeaningIs, UntouchedStays, ApartStays, KeptIsNow, SetKeeps, BindKeeps, EvaluationKeeps, FreeKeeps, KeptLike, ValidByTag, FormsByStamp};
 
 /// What a reference means is one equation, whatever stands in the others.
 pub fn meaning_is()
@@ -25,4 +25,15 @@ pub fn changes_keep()
     ensures bind { BindKeeps }
     ensures evaluation { EvaluationKeeps }
     ensures free { FreeKeeps }
+{}
+
+/// What tags tell: the sources of what is kept and may be used, and whether a reference is valid.
+pub fn tags_tell()
+    ensures sources { KeptLike }
+    ensures valid { ValidByTag }
+{}
+
+/// For whoever speaks of references by stamps: a read and an evaluation leave the form at each stamp.
+pub fn forms_by_stamp()
+    ensures { FormsByStamp }
 {}
