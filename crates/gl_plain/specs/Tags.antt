@@ -12,7 +12,8 @@ use Rattle.gl_meaning.specs.Eval.{values_in}
 use Rattle.gl_meaning.specs.Parts.{Attrs, attribute_value, last_only, Written}
 use Rattle.gl_plain.specs.Ids.{a_modifier, Id}
 use Rattle.gl_plain.specs.State.{constant_form, Names, MScope, modifier_row, State, make, note_installed}
-use Rattle.gl_plain.specs.Binding.{BoundAll, Bound, old_ref, new_ref, bind_expr, bind_exprs, bind_pairs, Placed, place}
+use Rattle.gl_plain.specs.Naming.{Naming, by_path}
+use Rattle.gl_plain.specs.Binding.{BoundAll, Bound, old_ref, new_ref, bind_expr_as, bind_exprs_as, bind_pairs_as, Placed, place}
 use Rattle.gl_plain.specs.Live.{AttrSpot, ModSpot}
 
 -- Binding
@@ -28,21 +29,33 @@ pub record BoundParts : Type 0 where
   pub made : List Id
   pub state : State
 
+module _ (naming : Naming) where
+  abbrev pub bind_attribute_as : App → MScope → Text → AttrValue → State → BoundParts
+  bind_attribute_as app ms n (fixed t) st = record { parts = fixed_part n t ∷ []; made = []; state = st }
+  bind_attribute_as app ms n (live e) st = let b = bind_expr_as naming app ms e st in record { parts = live_part n b.id ∷ []; made = b.made; state = b.state }
+
+  abbrev pub bind_part_as : App → MScope → Part → State → BoundParts
+  bind_part_as app ms (attribute n v) st = bind_attribute_as app ms n v st
+  bind_part_as app ms (modifier n es ns) st =
+      let b = bind_exprs_as naming app ms es st in let c = bind_pairs_as naming app ms ns b.state in
+      record { parts = modifier_part n b.ids c.names ∷ []; made = b.made ++ c.made; state = c.state }
+  bind_part_as app ms spread st = record { parts = []; made = []; state = st }
+
+  abbrev pub bind_written_as : App → List (Written MScope) → State → BoundParts
+  bind_written_as app [] st = record { parts = []; made = []; state = st }
+  bind_written_as app (w ∷ ws) st =
+      let b = bind_part_as app w.by w.part st in let c = bind_written_as app ws b.state in record { parts = b.parts ++ c.parts; made = b.made ++ c.made; state = c.state }
+
+-- By paths.
+
 abbrev pub bind_attribute : App → MScope → Text → AttrValue → State → BoundParts
-bind_attribute app ms n (fixed t) st = record { parts = fixed_part n t ∷ []; made = []; state = st }
-bind_attribute app ms n (live e) st = let b = bind_expr app ms e st in record { parts = live_part n b.id ∷ []; made = b.made; state = b.state }
+bind_attribute = bind_attribute_as by_path
 
 abbrev pub bind_part : App → MScope → Part → State → BoundParts
-bind_part app ms (attribute n v) st = bind_attribute app ms n v st
-bind_part app ms (modifier n es ns) st =
-    let b = bind_exprs app ms es st in let c = bind_pairs app ms ns b.state in
-    record { parts = modifier_part n b.ids c.names ∷ []; made = b.made ++ c.made; state = c.state }
-bind_part app ms spread st = record { parts = []; made = []; state = st }
+bind_part = bind_part_as by_path
 
 abbrev pub bind_written : App → List (Written MScope) → State → BoundParts
-bind_written app [] st = record { parts = []; made = []; state = st }
-bind_written app (w ∷ ws) st =
-    let b = bind_part app w.by w.part st in let c = bind_written app ws b.state in record { parts = b.parts ++ c.parts; made = b.made ++ c.made; state = c.state }
+bind_written = bind_written_as by_path
 
 -- Attributes
 

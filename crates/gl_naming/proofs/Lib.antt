@@ -1,0 +1,3 @@
+pub mod Pairs
+pub mod Bound
+pub mod Tagged

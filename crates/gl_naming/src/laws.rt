@@ -1,0 +1,15 @@
+//! The laws of naming. Each function does nothing: its contract is the law.
+
+ghost use Rattle.gl_naming.specs.Laws.{MeansRenamed, BoundRenamed, PartsRenamed, PlacedRenamed};
+
+/// What is read is the same but for names, where owners have theirs one-to-one.
+pub fn reads()
+    ensures { MeansRenamed }
+{}
+
+/// What is bound and placed by numbers is what is bound and placed by paths, but for names.
+pub fn binds()
+    ensures bound { BoundRenamed }
+    ensures parts { PartsRenamed }
+    ensures placed { PlacedRenamed }
+{}
