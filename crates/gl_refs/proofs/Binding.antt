@@ -6,9 +6,10 @@ use Rattle.gl_tags.specs.Tags as t
 use Rattle.gl_refs.specs.Forms.{Form, constant_form, source_form, prop_form, call_form, cat_form, all_form, form_or, form_at, meaning, Like, AreLower, Each, parts}
 use Rattle.gl_refs.specs.State.{Row, Rows, forms, kept_by, kept_row, kept, kept_pair, IsRight, own_tag, own_by, RowFits, is_bound, IsSound, Binds}
 use Rattle.gl_refs.proofs.Meanings.{within, each_map}
-use Rattle.gl_refs.proofs.Rows.{fits_bound}
+use Rattle.gl_refs.proofs.Rows.{fits_bound, row_right}
 
-module _ (tags : t.Tags) (rows rows' : Rows) (n : Id) (form : Form) (sound : IsSound tags rows) (b : Binds rows rows' n form) (bound : is_bound form ≡ true) where
+module _ (tags : t.Tags) (rows rows' : Rows) (n : Id) (form : Form) (sound : IsSound tags rows) (b : Binds rows rows' n form) (fits : RowFits tags form None)
+    (fresh : (i u : Id) → own_by form None ≡ Some u → own_tag (rows i) ≢ Some u) where
   not_new : (q : Id) → IsSome (forms rows q) → q ≢ n
   not_new q h e = let z : false ≡ true = subst (λ o. IsSome (option_map (λ (r : Row). r.form) o)) (ap rows e ∙ b.vacant) h in cc
 
@@ -30,19 +31,19 @@ module _ (tags : t.Tags) (rows rows' : Rows) (n : Id) (form : Form) (sound : IsS
   each_lives : (i : Id) (xs : List Id) → Each (λ q. (q.1 < i.1) × IsSome (forms rows q)) xs → Each (λ q. (q.1 < i.1) × IsSome (forms rows' q)) xs
   each_lives i xs e = each_map (λ q. (q.1 < i.1) × IsSome (forms rows q)) (λ q. (q.1 < i.1) × IsSome (forms rows' q)) xs (λ q h. (h.0, lives q h.1)) e
 
-  own_none : (g : Form) → is_bound g ≡ true → own_by g None ≡ None
-  own_none (constant_form v) e = refl
-  own_none (source_form k s v) e = absurd (let z : false ≡ true = e in cc)
-  own_none (prop_form r m) e = refl
-  own_none (call_form m ids ns) e = refl
-  own_none (cat_form ids) e = refl
-  own_none (all_form ids) e = refl
+  own_at : (i u : Id) → own_tag (rows' i) ≡ Some u → ((i ≡ n) × (own_by form None ≡ Some u)) ⊎ ((i ≢ n) × (own_tag (rows i) ≡ Some u))
+  own_at i u e = by (id_cases i n) where
+    by : (i ≡ n) ⊎ (i ≢ n) → ((i ≡ n) × (own_by form None ≡ Some u)) ⊎ ((i ≢ n) × (own_tag (rows i) ≡ Some u))
+    by (inl q) = inl (q, sym (ap own_tag (ap rows' q ∙ b.given)) ∙ e)
+    by (inr ne) = inr (ne, ap own_tag (sym (b.others i ne)) ∙ e)
 
-  own_old : (i u : Id) → own_tag (rows' i) ≡ Some u → own_tag (rows i) ≡ Some u
-  own_old i u e = by (id_cases i n) where
-    by : (i ≡ n) ⊎ (i ≢ n) → own_tag (rows i) ≡ Some u
-    by (inl q) = absurd (let z : None ≡ Some u = sym (ap own_tag (ap rows' q ∙ b.given) ∙ own_none form bound) ∙ e in cc)
-    by (inr ne) = ap own_tag (sym (b.others i ne)) ∙ e
+  owned_now : (i k u : Id) → own_tag (rows' i) ≡ Some u → own_tag (rows' k) ≡ Some u → i ≡ k
+  owned_now i k u e f = by (own_at i u e) (own_at k u f) where
+    by : ((i ≡ n) × (own_by form None ≡ Some u)) ⊎ ((i ≢ n) × (own_tag (rows i) ≡ Some u)) → ((k ≡ n) × (own_by form None ≡ Some u)) ⊎ ((k ≢ n) × (own_tag (rows k) ≡ Some u)) → i ≡ k
+    by (inl x) (inl y) = x.0 ∙ sym y.0
+    by (inl x) (inr y) = absurd (fresh k u x.1 y.1)
+    by (inr x) (inl y) = absurd (fresh i u y.1 x.1)
+    by (inr x) (inr y) = sound.owned i k u x.1 y.1
 
   lower_now : AreLower (forms rows')
   lower_now i g e = by (id_cases i n) where
@@ -63,16 +64,8 @@ module _ (tags : t.Tags) (rows rows' : Rows) (n : Id) (form : Form) (sound : IsS
     by : (i ≡ n) ⊎ (i ≢ n) → RowFits tags r.form r.last
     by (inl q) =
         let f = row_is (record { form = form; last = None }) r (sym (ap rows' q ∙ b.given) ∙ e) in
-        subst (λ (x : Row). RowFits tags x.form x.last) f (fits_bound tags form None bound tt)
+        subst (λ (x : Row). RowFits tags x.form x.last) f fits
     by (inr ne) = sound.fits i r (sym (b.others i ne) ∙ e)
-
-  none_kept : (g : Form) → is_bound g ≡ true → kept_by tags g None ≡ None
-  none_kept (constant_form v) e = absurd (let z : false ≡ true = e in cc)
-  none_kept (source_form k s v) e = absurd (let z : false ≡ true = e in cc)
-  none_kept (prop_form r m) e = refl
-  none_kept (call_form m ids ns) e = refl
-  none_kept (cat_form ids) e = refl
-  none_kept (all_form ids) e = refl
 
   right_now : IsRight tags rows'
   right_now i k h = by (id_cases i n) where
@@ -81,16 +74,29 @@ module _ (tags : t.Tags) (rows rows' : Rows) (n : Id) (form : Form) (sound : IsS
     live (Some r) e = refl
 
     by : (i ≡ n) ⊎ (i ≢ n) → Like (kept_pair tags k) (meaning (forms rows') i)
-    by (inl q) = absurd (let z : None ≡ Some k = sym (ap (kept_row tags) (ap rows' q ∙ b.given) ∙ none_kept form bound) ∙ h in cc)
+    by (inl q) = subst (λ x. Like (kept_pair tags k) (meaning (forms rows') x)) (sym q)
+        (row_right tags rows' sound.tags_sound.still n form None b.given fits (λ l bound f d. absurd (let z : None ≡ Some l = f in cc)) k (ap (kept tags rows') (sym q) ∙ h))
     by (inr ne) =
         let was : kept tags rows i ≡ Some k = ap (kept_row tags) (sym (b.others i ne)) ∙ h in
         subst (Like (kept_pair tags k)) (sym (means i (live (rows i) was))) (sound.right i k was)
 
-  pub bind_sound : IsSound tags rows'
-  bind_sound = record {
+  pub made_sound : IsSound tags rows'
+  made_sound = record {
     tags_sound = sound.tags_sound;
     lower = lower_now;
     fits = fits_now;
-    owned = λ i k u e f. sound.owned i k u (own_old i u e) (own_old k u f);
+    owned = owned_now;
     right = right_now;
   }
+
+own_none : (g : Form) → is_bound g ≡ true → own_by g None ≡ None
+own_none (constant_form v) e = refl
+own_none (source_form k s v) e = absurd (let z : false ≡ true = e in cc)
+own_none (prop_form r m) e = refl
+own_none (call_form m ids ns) e = refl
+own_none (cat_form ids) e = refl
+own_none (all_form ids) e = refl
+
+-- one that is bound has no tag yet
+pub bind_sound : (tags : t.Tags) (rows rows' : Rows) (n : Id) (form : Form) → IsSound tags rows → Binds rows rows' n form → is_bound form ≡ true → IsSound tags rows'
+bind_sound tags rows rows' n form sound b bound = made_sound tags rows rows' n form sound b (fits_bound tags form None bound tt) (λ i u e. absurd (let z : None ≡ Some u = sym (own_none form bound) ∙ e in cc))

@@ -6,3 +6,7 @@ pub mod Computing
 pub mod Binding
 pub mod Freeing
 pub mod Waits
+mod Joined
+mod Seen
+mod Stacks
+mod Tagging

@@ -1,4 +1,7 @@
 pub mod Forms
 pub mod State
+pub mod Code
+pub mod Refs
 pub mod View
+pub mod Lends
 pub mod Laws

@@ -1,5 +1,5 @@
 -- The references with what each keeps, their tags, and the counts.
-use Rattle.std.specs.Prelude.{◌≡◌, ◌≢◌, ℕ, ◌+◌, ◌<◌, ◌≤◌, Bool, true, false, cond, ltb, List, [], ◌∷◌, map, flat_map, take, unwrap_or, Option, Some, None, IsSome, option_map, ◌⊎◌}
+use Rattle.std.specs.Prelude.{◌≡◌, ◌≢◌, ℕ, ◌+◌, ◌<◌, ◌≤◌, Bool, true, false, cond, ltb, List, [], ◌∷◌, map, flat_map, take, unwrap_or, Option, Some, None, IsSome, is_some, option_map, ◌⊎◌}
 use Rattle.gl_value.specs.Value.{undefined}
 use Rattle.gl_arena.specs.Id.{Id}
 use Rattle.gl_arena.specs.Arena.{with_value}
@@ -209,6 +209,41 @@ by_form g = false
 abbrev pub is_source : Option Row → Bool
 is_source None = false
 is_source (Some r) = by_form r.form
+
+-- the tag of the last evaluation of a bound reference
+abbrev pub last_by : Form → Option Last → Option Id
+last_by (constant_form v) l = None
+last_by (source_form k s v) l = None
+last_by g l = option_map (λ x. x.tag) l
+
+abbrev pub last_tag : Row → Option Id
+last_tag r = last_by r.form r.last
+
+abbrev pub cell_form : Form → Bool
+cell_form (source_form false s v) = true
+cell_form g = false
+
+abbrev pub item_form : Form → Bool
+item_form (source_form true s v) = true
+item_form g = false
+
+abbrev pub is_cell : Option Form → Bool
+is_cell None = false
+is_cell (Some g) = cell_form g
+
+abbrev pub is_item : Option Form → Bool
+is_item None = false
+is_item (Some g) = item_form g
+
+-- a constant, a cell or an item, or a reference that was evaluated
+abbrev pub form_tagged : Form → Option Last → Bool
+form_tagged (constant_form v) l = true
+form_tagged (source_form k s v) l = true
+form_tagged g l = is_some l
+
+abbrev pub has_tag : Option Row → Bool
+has_tag None = false
+has_tag (Some r) = form_tagged r.form r.last
 
 -- a source gets another value
 pub record Values (rows rows' : Rows) (i : Id) (value : V) : Type 0 where

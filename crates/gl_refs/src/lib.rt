@@ -1,11 +1,19 @@
 //! References: values that are computed from cells and items, and kept while nothing that was read for them is touched.
 #![tactic(auto)]
 
+mod evaluation;
 mod form;
 mod ids;
 pub mod laws;
+mod making;
+mod refs;
+mod row;
+mod settling;
 #[cfg(test)]
 mod tests;
+mod values;
+mod writing;
 
 pub use form::{Form, RefId};
 pub use ids::{Ids, NamedIds};
+pub use refs::Refs;

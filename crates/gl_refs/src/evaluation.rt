@@ -1,0 +1,156 @@
+// The evaluation of one reference, from what is kept of those that it reads.
+ghost use Rattle.std.specs.Prelude.{◌≡◌, ◌++◌, Some, IfOk, OnErr, IfSome, map, is_some, IsSome, IsTrue, ◌↔◌, true, not, ltb, option_map};
+ghost use Rattle.gl_value.specs.View.{view};
+ghost use Rattle.gl_tags.specs.Tags as t;
+ghost use Rattle.gl_refs.specs.Forms.{Each};
+ghost use Rattle.gl_refs.specs.State.{kept, held_tag, reads_of, IsKept, IsSound, Gathers, Swaps, Settles, IsValid, is_combined};
+ghost use Rattle.gl_refs.specs.View.{rows_of};
+
+use crate::RefId;
+use crate::row::{Kind, Last, Rows, held_tag, own_tag, part_at, put_last};
+use crate::values::form_value;
+use gl_tags::{TagId, Tags};
+use gl_value::Value;
+use std::alloc::{AllocError, Global};
+
+// Whether the tag has not been dirtied since there were so many dirtyings.
+fn is_fresh(tags: &mut Tags, tag: TagId, order: u128) -> bool
+    requires { IsSome (t.tag_at tags.old tag) }
+    ensures value { result ≡ not (ltb order (t.order_of tags.old tag)) }
+    ensures stays { tags.new ≡ tags.old }
+{
+    tags.order(tag) <= order
+}
+
+// Whether what is held of a reference is its value of now.
+pub(crate) fn is_kept(tags: &mut Tags, rows: &Rows, id: RefId) -> bool
+    requires { IsSound tags.old (rows_of rows.now) }
+    ensures value { result ≡ is_some (kept tags.old (rows_of rows.now) id) }
+    ensures stays { tags.new ≡ tags.old }
+{
+    if rows.live(id) {
+        let row = rows.get(id);
+        match &row.kind {
+            Kind::Bound(_) => match &row.last {
+                Some(last) => is_fresh(tags, last.tag, last.order),
+                None => false,
+            },
+            _ => true,
+        }
+    } else {
+        false
+    }
+}
+
+// Whether there was an evaluation, and no source of the last one was touched at a greater revision.
+pub(crate) fn is_valid(tags: &mut Tags, rows: &Rows, id: RefId, since: u128) -> bool
+    requires { IsSound tags.old (rows_of rows.now) }
+    ensures value { IsTrue result ↔ IsValid tags.old since (rows_of rows.now id) }
+    ensures stays { tags.new ≡ tags.old }
+{
+    if rows.live(id) {
+        let row = rows.get(id);
+        match &row.kind {
+            Kind::Constant(_) => true,
+            Kind::Source { tag, .. } => tags.validate(*tag, since),
+            Kind::Bound(_) => match &row.last {
+                Some(last) => tags.validate(last.tag, since),
+                None => false,
+            },
+        }
+    } else {
+        false
+    }
+}
+
+// The tags of what is held of those that a reference reads.
+fn tags_of(
+    alloc: Global,
+    tags: &Tags,
+    rows: &Rows,
+    id: RefId,
+) -> Result<Vec<TagId>, AllocError>
+    ensures { IfOk result (λ ids. ids.items ≡ map (held_tag tags.now (rows_of rows.now)) (reads_of (rows_of rows.now) id)) }
+{
+    let mut ids = Vec::new(alloc);
+    for at in 0..usize::MAX {
+        let Some(part) = part_at(rows, id, at) else {
+            return Ok(ids);
+        };
+        ids.push(held_tag(tags, rows, part))?;
+    }
+    Err(AllocError)
+}
+
+// Makes a combined tag, and ends the old one.
+fn swap_tag(tags: &mut Tags, parts: &[TagId], old: Option<TagId>) -> Result<TagId, AllocError>
+    requires { (o : _) → old ≡ Some o → is_combined (t.tag_at tags.old o) ≡ true }
+    ensures ok { IfOk result (λ u. Swaps tags.old tags.new old u parts.now) }
+    ensures err { OnErr result (tags.new ≡ tags.old) }
+{
+    let _ = tags.constant();
+    let tag = tags.combine(parts)?;
+    if let Some(old) = old {
+        tags.free(old);
+    }
+    let _ = tags.constant();
+    Ok(tag)
+}
+
+// What was computed for a bound reference: its value, the tags of what it read, and the tag that it has.
+#[derive(Drop)]
+pub(crate) struct Found {
+    value: Value,
+    tags: Vec<TagId>,
+    old: Option<TagId>,
+}
+
+fn gather(
+    alloc: Global,
+    tags: &Tags,
+    rows: &Rows,
+    id: RefId,
+) -> Result<Option<Found>, AllocError>
+    ensures { IfOk result (λ o. IfSome o (λ f. Gathers tags.now (rows_of rows.now) id (view f.value) f.tags.items f.old)) }
+{
+    if rows.live(id) {
+        match &rows.get(id).kind {
+            Kind::Bound(form) => {
+                let value = form_value(alloc, rows, form)?;
+                let tags = tags_of(alloc, tags, rows, id)?;
+                let old = own_tag(rows, id);
+                Ok(Some(Found { value, tags, old }))
+            }
+            _ => Ok(None),
+        }
+    } else {
+        Ok(None)
+    }
+}
+
+// Evaluates one reference, of whose parts all that is read may be used.
+pub(crate) fn compute(
+    alloc: Global,
+    tags: &mut Tags,
+    rows: &mut Rows,
+    id: RefId,
+) -> Result<(), AllocError>
+    requires sound { IsSound tags.old (rows_of rows.old) }
+    requires ready { Each (IsKept tags.old (rows_of rows.old)) (reads_of (rows_of rows.old) id) }
+    ensures settles { Settles (λ k. k ≡ id) tags.old tags.new (rows_of rows.old) (rows_of rows.new) }
+    ensures made { rows.new.made ≡ rows.old.made }
+{
+    match gather(alloc, tags, rows, id)? {
+        None => Ok(()),
+        Some(found) => {
+            let tag = swap_tag(tags, found.tags.as_slice(), found.old)?;
+            let last = Last {
+                value: found.value,
+                order: tags.count(),
+                tag,
+            };
+            put_last(rows, id, last);
+            Ok(())
+        }
+    }
+}

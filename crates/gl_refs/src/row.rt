@@ -1,0 +1,235 @@
+// The references by id, with what each keeps.
+ghost use Rattle.std.specs.Prelude.{◌≡◌, ◌++◌, Some, IfOk, OnErr, IsSome, option_map, slice_get, true};
+ghost use Rattle.gl_arena.specs.Arena.{named, with_value, Gives};
+ghost use Rattle.gl_value.specs.Value.{truthy};
+ghost use Rattle.gl_value.specs.View.{view};
+ghost use Rattle.gl_refs.specs.Forms.{reads, chosen, ids_of};
+ghost use Rattle.gl_refs.specs.State.{held, held_value, held_tag, own_tag, reads_of, IsSource, is_source, Puts};
+ghost use Rattle.gl_refs.specs.View.{rows_of, seen_form, seen_last, seen_row, row_with, kind_with};
+
+use crate::{Form, Ids, NamedIds, RefId};
+use gl_arena::{Arena, RefMark};
+use gl_tags::{TagId, Tags};
+use gl_value::Value;
+use std::alloc::AllocError;
+use std::mem;
+
+// What a reference computes, or holds by itself.
+#[derive(Drop)]
+pub(crate) enum Kind {
+    Constant(Value),
+    Source {
+        item: bool,
+        tag: TagId,
+        value: Value,
+    },
+    Bound(Form),
+}
+
+// The last evaluation: its value, how many dirtyings there were then, and the tag that leads to its sources.
+#[derive(Drop)]
+pub(crate) struct Last {
+    pub(crate) value: Value,
+    pub(crate) order: u128,
+    pub(crate) tag: TagId,
+}
+
+#[derive(Drop)]
+pub(crate) struct Row {
+    pub(crate) kind: Kind,
+    pub(crate) last: Option<Last>,
+}
+
+pub(crate) type Rows = Arena<Row, RefMark>;
+
+pub(crate) fn insert_row(rows: &mut Rows, row: Row) -> Result<RefId, AllocError>
+    ensures ok { IfOk result (λ id. Gives rows.old rows.new id row) }
+    ensures err { OnErr result (rows.new ≡ rows.old) }
+{
+    match rows.insert(row) {
+        Ok(id) => Ok(id),
+        Err((_, error)) => Err(error),
+    }
+}
+
+// The value that a row has by itself, or that of its last evaluation.
+fn held_in(row: &Row) -> Option<&Value>
+    ensures { option_map (λ v. view v.now) result ≡ held (Some (seen_row row.now)) }
+{
+    match &row.kind {
+        Kind::Constant(value) => Some(value),
+        Kind::Source { value, .. } => Some(value),
+        Kind::Bound(_) => match &row.last {
+            Some(last) => Some(&last.value),
+            None => None,
+        },
+    }
+}
+
+// What is held of a reference.
+pub(crate) fn held(rows: &Rows, id: RefId) -> Option<&Value>
+    ensures { option_map (λ v. view v.now) result ≡ held (rows_of rows.now id) }
+{
+    if rows.live(id) {
+        held_in(rows.get(id))
+    } else {
+        None
+    }
+}
+
+// The tag that a row owns.
+fn tag_in(row: &Row) -> Option<TagId>
+    ensures { result ≡ own_tag (Some (seen_row row.now)) }
+{
+    match &row.kind {
+        Kind::Constant(_) => None,
+        Kind::Source { tag, .. } => Some(*tag),
+        Kind::Bound(_) => match &row.last {
+            Some(last) => Some(last.tag),
+            None => None,
+        },
+    }
+}
+
+pub(crate) fn own_tag(rows: &Rows, id: RefId) -> Option<TagId>
+    ensures { result ≡ own_tag (rows_of rows.now id) }
+{
+    if rows.live(id) {
+        tag_in(rows.get(id))
+    } else {
+        None
+    }
+}
+
+// The tag of what is held of a reference.
+pub(crate) fn held_tag(tags: &Tags, rows: &Rows, id: RefId) -> TagId
+    ensures { result ≡ held_tag tags.now (rows_of rows.now) id }
+{
+    match own_tag(rows, id) {
+        Some(tag) => tag,
+        None => tags.constant(),
+    }
+}
+
+// The condition at 0, and the branch that it takes at 1.
+pub(crate) fn chosen_at(rows: &Rows, way: bool, ids: &[RefId], at: usize) -> Option<RefId>
+    ensures { result ≡ slice_get (chosen (held_value (rows_of rows.now)) way ids.now) at }
+{
+    match ids.first() {
+        None => None,
+        Some(test) => {
+            if at == 0 {
+                Some(*test)
+            } else if at == 1 {
+                if truth(rows, *test) == way {
+                    ids.get(1).copied()
+                } else {
+                    ids.get(2).copied()
+                }
+            } else {
+                None
+            }
+        }
+    }
+}
+
+// The truth of what is held of a reference.
+fn truth(rows: &Rows, id: RefId) -> bool
+    ensures { result ≡ truthy (held_value (rows_of rows.now) id) }
+{
+    match held(rows, id) {
+        Some(value) => value.truthy(),
+        None => false,
+    }
+}
+
+// One of the arguments of a call: the positional ones come first.
+fn argument_at(ids: &Ids, named: &NamedIds, at: usize) -> Option<RefId>
+    ensures { result ≡ slice_get (ids.now ++ ids_of named.now) at }
+{
+    if at < ids.len() {
+        ids.as_slice().get(at).copied()
+    } else {
+        match named.as_slice().get(at - ids.len()) {
+            Some(entry) => Some(entry.1),
+            None => None,
+        }
+    }
+}
+
+fn form_part(rows: &Rows, form: &Form, at: usize) -> Option<RefId>
+    ensures { result ≡ slice_get (reads (held_value (rows_of rows.now)) (seen_form form.now)) at }
+{
+    match form {
+        Form::Prop(part, _) => {
+            if at == 0 {
+                Some(*part)
+            } else {
+                None
+            }
+        }
+        Form::Call(helper, ids, named) => {
+            if *helper < 2 {
+                chosen_at(rows, *helper == 0, ids.as_slice(), at)
+            } else {
+                argument_at(ids, named, at)
+            }
+        }
+        Form::Cat(ids) => ids.as_slice().get(at).copied(),
+        Form::All(ids) => ids.as_slice().get(at).copied(),
+    }
+}
+
+// The reference that is read at a place, by what is held of those before it.
+pub(crate) fn part_at(rows: &Rows, id: RefId, at: usize) -> Option<RefId>
+    ensures { result ≡ slice_get (reads_of (rows_of rows.now) id) at }
+{
+    if rows.live(id) {
+        match &rows.get(id).kind {
+            Kind::Bound(form) => form_part(rows, form, at),
+            _ => None,
+        }
+    } else {
+        None
+    }
+}
+
+pub(crate) fn put_last(rows: &mut Rows, id: RefId, last: Last)
+    requires { IsSome (named rows.old id) }
+    ensures puts { Puts (rows_of rows.old) (rows_of rows.new) id (seen_last last) }
+    ensures made { rows.new.made ≡ rows.old.made }
+{
+    last_in(rows.get_mut(id), last);
+}
+
+fn last_in(row: &mut Row, last: Last)
+    ensures { row.new ≡ record row.old { last = Some last } }
+{
+    row.last = Some(last);
+}
+
+pub(crate) fn source_tag(rows: &Rows, id: RefId) -> TagId
+    requires { is_source (rows_of rows.now id) ≡ true }
+    ensures { IsSource (rows_of rows.now) id result }
+{
+    match &rows.get(id).kind {
+        Kind::Source { tag, .. } => *tag,
+        _ => unreachable!(),
+    }
+}
+
+pub(crate) fn put_value(rows: &mut Rows, id: RefId, value: Value)
+    requires { IsSome (named rows.old id) }
+    ensures { (row : _) → named rows.old id ≡ Some row → rows.new ≡ with_value rows.old id (row_with row value) }
+{
+    value_in(&mut rows.get_mut(id).kind, value);
+}
+
+fn value_in(kind: &mut Kind, new: Value)
+    ensures { kind.new ≡ kind_with kind.old new }
+{
+    match kind {
+        Kind::Source { value, .. } => drop(mem::replace(value, new)),
+        _ => drop(new),
+    }
+}
