@@ -1,2 +1,5 @@
 pub mod States
 pub mod Rows
+pub mod Sources
+pub mod Sets
+pub mod NodeSteps

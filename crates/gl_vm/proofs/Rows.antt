@@ -19,17 +19,17 @@ use Rattle.gl_vm.specs.Steps.{Does, Numbers}
 use Rattle.gl_vm.specs.declared.vm.Vm.{Vm}
 use Rattle.gl_vm.proofs.States.{test_yes, amended_here, amended_off, amended_is, with_row, row_made}
 
-below_same : (f g : ℕ → Bool) (n : ℕ) → ((k : ℕ) → k < n → f k ≡ g k) → some_below f n ≡ some_below g n
+pub below_same : (f g : ℕ → Bool) (n : ℕ) → ((k : ℕ) → k < n → f k ≡ g k) → some_below f n ≡ some_below g n
 below_same f g zero h = refl
 below_same f g (suc n) h = ap₂ (λ a b. a || b) (h n (omega arith)) (below_same f g n (λ k lt. h k (omega (arith, lt))))
 
-none_not : {A : Type 0} (x : A) → None ≡ Some x → ⊥
+pub none_not : {A : Type 0} (x : A) → None ≡ Some x → ⊥
 none_not x e = let no : None ≡ Some x = e in cc
 
-some_same : {A : Type 0} (x y : A) → Some x ≡ Some y → x ≡ y
+pub some_same : {A : Type 0} (x y : A) → Some x ≡ Some y → x ≡ y
 some_same x y e = ap (λ o. unwrap_or o x) e
 
-last_none : (tags : t.Tags) (rows : ℕ → Option s.Row) (made : ℕ) (g : f.Form) → last_of tags rows made g None ≡ any_of []
+pub last_none : (tags : t.Tags) (rows : ℕ → Option s.Row) (made : ℕ) (g : f.Form) → last_of tags rows made g None ≡ any_of []
 last_none tags rows made (f.constant_form v) = refl
 last_none tags rows made (f.source_form k u v) = refl
 last_none tags rows made (f.prop_form r n) = refl

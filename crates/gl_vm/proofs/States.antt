@@ -14,10 +14,10 @@ test_yes s q e = grind arith
 pub test_no : (s q : ℕ) → q ≢ s → (q == s) ≡ false
 test_no s q ne = grind arith
 
-num_yes : (s q : ℕ) → q ≡ s → nat_eq q s ≡ true
+pub num_yes : (s q : ℕ) → q ≡ s → nat_eq q s ≡ true
 num_yes s q e = grind arith
 
-num_no : (s q : ℕ) → q ≢ s → nat_eq q s ≡ false
+pub num_no : (s q : ℕ) → q ≢ s → nat_eq q s ≡ false
 num_no s q ne = grind arith
 
 module _ {T : Type 0} (l : ℕ → Option T) (s : ℕ) (o : Option T) where
@@ -168,6 +168,38 @@ module _ (k : Kept) (touched : Source → Bool) where
     at a_modifier n = refl
 
     same : (i : Kind) → next_of (record k { node = amended k.node s (Some x) }) i ≡ next_of k i
+    same a_ref = refl
+    same a_node = refl
+    same an_instance = refl
+    same a_block = refl
+    same a_modifier = refl
+
+  pub row_put : (s : ℕ) (x : Row) → state_by (record k { row = amended k.row s (Some x) }) touched ≡ put_thing (ref s) (row x) st
+  row_put s x = put (ref s) (row x) (record k { row = amended k.row s (Some x) }) at (λ z j. same j z) refl refl refl where
+    at : (i : Kind) (n : ℕ) → thing_at (record k { row = amended k.row s (Some x) }) i n ≡ (put_thing (ref s) (row x) (state_by k touched)).look (record { kind = i; num = n })
+    at a_ref n = amended_thing k.row s (Some x) row n
+    at a_node n = refl
+    at an_instance n = refl
+    at a_block n = refl
+    at a_modifier n = refl
+
+    same : (i : Kind) → next_of (record k { row = amended k.row s (Some x) }) i ≡ next_of k i
+    same a_ref = refl
+    same a_node = refl
+    same an_instance = refl
+    same a_block = refl
+    same a_modifier = refl
+
+  pub modifier_put : (s : ℕ) (x : Installed) → state_by (record k { modifier = amended k.modifier s (Some x) }) touched ≡ put_thing (modifier_id s) (modifier_row x) st
+  modifier_put s x = put (modifier_id s) (modifier_row x) (record k { modifier = amended k.modifier s (Some x) }) at (λ z j. same j z) refl refl refl where
+    at : (i : Kind) (n : ℕ) → thing_at (record k { modifier = amended k.modifier s (Some x) }) i n ≡ (put_thing (modifier_id s) (modifier_row x) (state_by k touched)).look (record { kind = i; num = n })
+    at a_ref n = refl
+    at a_node n = refl
+    at an_instance n = refl
+    at a_block n = refl
+    at a_modifier n = amended_thing k.modifier s (Some x) modifier_row n
+
+    same : (i : Kind) → next_of (record k { modifier = amended k.modifier s (Some x) }) i ≡ next_of k i
     same a_ref = refl
     same a_node = refl
     same an_instance = refl

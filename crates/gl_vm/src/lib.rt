@@ -1,6 +1,7 @@
 //! What the machine keeps, and its primitive steps. Contracts see it as the state of the plain machine.
 #![tactic(auto)]
 
+mod nodes;
 mod references;
 mod vm;
 
