@@ -3,3 +3,4 @@ pub mod Rows
 pub mod Sources
 pub mod Sets
 pub mod NodeSteps
+pub mod ThingSteps

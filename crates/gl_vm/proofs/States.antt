@@ -1,11 +1,11 @@
 -- Steps of the state, by what is kept.
-use Rattle.std.proofs.Common.{◌≡◌, ◌≢◌, ℕ, suc, Bool, true, false, cond, Option, Some, None, option_map, List, [], ◌∷◌, refl, sym, ap, ◌∙◌, inl, inr, arith}
+use Rattle.std.proofs.Common.{◌≡◌, ◌≢◌, ℕ, suc, Bool, true, false, cond, Option, Some, None, option_map, List, [], ◌∷◌, refl, sym, ap, ◌∙◌, inl, inr, arith, Result, Ok, Err, OnOk, IfOk}
 use Rattle.std.specs.Prelude.{◌==◌, nat_eq, ◌++◌}
 use Rattle.std.proofs.lemmas.Bool.{cases_eq}
 use Rattle.gl_arena.specs.Arena.{amended}
 use Rattle.gl_meaning.specs.Scope.{Source}
 use Rattle.gl_plain.specs.Ids.{Kind, a_ref, a_node, an_instance, a_block, a_modifier, Id, ref, node, modifier_id}
-use Rattle.gl_plain.specs.State.{Row, row, Content, content, Inst, instance_row, block_row, Installed, modifier_row, Thing, State, make, put_thing}
+use Rattle.gl_plain.specs.State.{Row, row, Content, content, Inst, instance_row, block_row, Installed, modifier_row, Thing, State, make, put_thing, dropped}
 use Rattle.gl_vm.specs.Kept.{Kept, thing_at, next_of, state_by}
 
 pub test_yes : (s q : ℕ) → q ≡ s → (q == s) ≡ true
@@ -42,6 +42,14 @@ module _ {T : Type 0} (l : ℕ → Option T) (s : ℕ) (o : Option T) where
     | inl e ↦ ap (λ z. option_map f (amended l s o z)) e ∙ (ap (option_map f) amended_here ∙ sym (ap (λ b. cond b (option_map f o) (option_map f (l q))) (num_yes s q e)))
     | inr ne ↦ ap (option_map f) (amended_off q ne) ∙ sym (ap (λ b. cond b (option_map f o) (option_map f (l q))) (num_no s q ne))
   ]
+
+pub on_ok : {T E : Type 0} {P Q R : Type 0} (r : Result T E) → (P → Q → R) → OnOk r P → OnOk r Q → OnOk r R
+on_ok (Ok v) f p q = f p q
+on_ok (Err e) f p q = p
+
+pub both_if : {T E : Type 0} {P Q R : T → Type 0} (r : Result T E) → ((x : T) → P x → Q x → R x) → IfOk r P → IfOk r Q → IfOk r R
+both_if (Ok v) f p q = f v p q
+both_if (Err e) f p q = p
 
 -- Two states that agree in all are one.
 pub state_is : (a b : State) → a.look ≡ b.look → a.next ≡ b.next → a.touched ≡ b.touched → a.evaluated ≡ b.evaluated → a.installs ≡ b.installs → a.updates ≡ b.updates → a ≡ b
@@ -205,3 +213,8 @@ module _ (k : Kept) (touched : Source → Bool) where
     same an_instance = refl
     same a_block = refl
     same a_modifier = refl
+
+  -- all that are counted are gone
+  pub dropped_is : (count : Id → ℕ) (k' : Kept) → ((i : Kind) (n : ℕ) → thing_at k' i n ≡ cond (nat_eq (count (record { kind = i; num = n })) 0) (thing_at k i n) None) → next_of k' ≡ next_of k
+      → k'.evaluated ≡ k.evaluated → k'.installs ≡ k.installs → k'.updates ≡ k.updates → state_by k' touched ≡ dropped count st
+  dropped_is count k' l n e i u = state_is (state_by k' touched) (dropped count st) (look_is _ _ l) n refl e i u

@@ -50,3 +50,6 @@ given_args vs ns _ = record { on_node = 0; place = 0; name = []; args = []; name
 -- the modifier has other values, and is noted
 abbrev pub put_args : ℕ → List V → List (Text × V) → State → State
 put_args m vs ns st = note_updated m (put_thing (modifier_id m) (modifier_row (given_args vs ns (st.look (modifier_id m)))) st)
+
+abbrev pub installed_at : ℕ → ℕ → Text → List V → List (Text × V) → Installed
+installed_at n i name vs ns = record { on_node = n; place = i; name = name; args = vs; names = ns }

@@ -2,6 +2,7 @@
 #![tactic(auto)]
 
 mod nodes;
+mod placing;
 mod references;
 mod vm;
 

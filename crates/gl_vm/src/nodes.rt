@@ -51,7 +51,7 @@ impl Vm {
     /// Gives a text or a comment another text.
     pub fn set_text(&mut self, node: NodeId, text: &str) -> Result<(), AllocError>
         requires { IfSome (node_at self.old.tree node) n.IsTold × IsSome (node_at self.old.tree node) }
-        ensures step { OnOk result ((was : n.Node) → node_at self.old.tree node ≡ Some was → Does (λ n. put_thing (node_id node.1) (content (seen_node (n.retold (chars text.now) was)))) self.old self.new) }
+        ensures step { OnOk result ((was : n.Node) → node_at self.old.tree node ≡ Some was → Does (λ names. put_thing (node_id node.1) (content (seen_node (n.retold (chars text.now) was)))) self.old self.new) }
         ensures flat { OnOk result (ChangesFlat self.old.tree self.new.tree node.1 (option_map (n.retold (chars text.now)) (node_at self.old.tree node))) }
         ensures rest { self.new ≡ record self.old { tree = self.new.tree } }
         ensures err { OnErr result (self.new ≡ self.old) }
@@ -67,8 +67,8 @@ impl Vm {
         value: Option<&str>,
     ) -> Result<(), AllocError>
         requires { IfSome (node_at self.old.tree node) n.IsElement × IsSome (node_at self.old.tree node) }
-        ensures step { OnOk result ((was : n.Node) → node_at self.old.tree node ≡ Some was → Does (λ n. put_thing (node_id node.1) (content (seen_node (n.attributed (chars name.now) (option_map (λ v. chars v.now) value.entry) was)))) self.old self.new) }
-        ensures once { OnOk result ((tag : _) (attrs : _) → node_at self.old.tree node ≡ Some (n.element tag attrs) → times_named (chars name.now) attrs ≡ 1 → Does (λ n. put_attr node.1 (chars name.now) (option_map (λ v. chars v.now) value.entry)) self.old self.new) }
+        ensures step { OnOk result ((was : n.Node) → node_at self.old.tree node ≡ Some was → Does (λ names. put_thing (node_id node.1) (content (seen_node (n.attributed (chars name.now) (option_map (λ v. chars v.now) value.entry) was)))) self.old self.new) }
+        ensures once { OnOk result ((tag : _) (attrs : _) → node_at self.old.tree node ≡ Some (n.element tag attrs) → times_named (chars name.now) attrs ≡ 1 → Does (λ names. put_attr node.1 (chars name.now) (option_map (λ v. chars v.now) value.entry)) self.old self.new) }
         ensures flat { OnOk result (ChangesFlat self.old.tree self.new.tree node.1 (option_map (n.attributed (chars name.now) (option_map (λ v. chars v.now) value.entry)) (node_at self.old.tree node))) }
         ensures rest { self.new ≡ record self.old { tree = self.new.tree } }
         ensures err { OnErr result (self.new ≡ self.old) }
