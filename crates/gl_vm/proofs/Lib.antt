@@ -4,3 +4,6 @@ pub mod Sources
 pub mod Sets
 pub mod NodeSteps
 pub mod ThingSteps
+pub mod Means
+pub mod Values
+pub mod Settled

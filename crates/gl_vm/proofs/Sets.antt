@@ -154,10 +154,13 @@ module _ (vm : Vm) (r : Refs) (id : Id) (kind : Bool) (v : f.V) (stamped : IsSta
 
 -- An item is given a value
 
-paths_decided : (p q : Path) → Decides (path_eq p q) (p ≡ q)
+pub paths_decided : (p q : Path) → Decides (path_eq p q) (p ≡ q)
 paths_decided p q = (path_means p q, λ e. ap (λ x. path_eq p x) (sym e) ∙ path_itself p)
 
-owners_once : (o p : ℕ) → owner_path o ≡ owner_path p → o ≡ p
+pub nums_decided : (x y : ℕ) → Decides (nat_eq x y) (x ≡ y)
+nums_decided x y = Decides-eqb x y
+
+pub owners_once : (o p : ℕ) → owner_path o ≡ owner_path p → o ≡ p
 owners_once o p e = (Decides-eqb o p).0 (and_left (nat_eq o p) (ap (λ x. path_eq (owner_path o) x) (sym e) ∙ path_itself (owner_path o))) where
   and_left : (b : Bool) → (b && true) ≡ true → b ≡ true
   and_left true e = refl

@@ -1,20 +1,20 @@
 -- What the code keeps, as the plain machine's state.
-use Rattle.std.specs.Prelude.{◌≡◌, ℕ, ◌==◌, List, [], ◌∷◌, map, Bool, false, ◌&&◌, Option, Some, None, option_map}
+use Rattle.std.specs.Prelude.{◌≡◌, ℕ, zero, suc, ◌==◌, List, [], ◌∷◌, map, Bool, true, false, ◌&&◌, if◌then◌else◌, Option, Some, None, option_map, is_some}
 use Rattle.std.specs.List.{list_any}
 use Rattle.gl_base.specs.Texts.{Text}
 use Rattle.gl_base.specs.Names.{at_place}
-use Rattle.gl_value.specs.Helpers.{helper_table}
+use Rattle.gl_value.specs.Helpers.{helper_table, helper_numbered}
 use Rattle.gl_arena.specs.Id.{Id, same_id}
 use Rattle.gl_arena.specs.Arena.{Arena, by_stamp}
 use Rattle.gl_tags.specs.Tags as t
 use Rattle.gl_refs.specs.Forms as f
 use Rattle.gl_refs.specs.State as s
-use Rattle.gl_refs.specs.Refs.{Refs}
+use Rattle.gl_refs.specs.Refs.{Refs, forms_of}
 use Rattle.gl_nodes.specs.Node as n
 use Rattle.gl_nodes.specs.Tree.{Tree}
 use Rattle.gl_nodes.specs.Flat.{node_by}
 use Rattle.gl_mods.specs.Mods as m
-use Rattle.gl_meaning.specs.Scope.{Source}
+use Rattle.gl_meaning.specs.Scope.{Source, Pair}
 use Rattle.gl_plain.specs.State.{any_of, Form, constant_form, source_form, property_form, call_form, joined_form, all_form, Row, Names, Inst, named_as, Content, element_content, text_content, comment_content, Installed, State}
 use Rattle.gl_vm.specs.Labels.{label, labelled, all_labelled, names_labelled}
 use Rattle.gl_vm.specs.Kept.{Kept, some_below, state_by}
@@ -76,6 +76,31 @@ row_of tags rows made k = option_map (seen_row tags rows made k) (rows k)
 
 abbrev pub row_at : Refs → ℕ → Option Row
 row_at r k = row_of r.tags (by_stamp r.rows) r.rows.made k
+
+-- the number of the cell or item with a tag
+abbrev pub holder : (ℕ → Option s.Row) → ℕ → Id → ℕ
+holder rows zero tag = 0
+holder rows (suc n) tag = if is_led (tag ∷ []) (rows n) then n else holder rows n tag
+
+-- what a reference means, with owners and sources named by numbers
+abbrev pub seen_pair : Refs → f.Pair → Pair
+seen_pair r p = record { value = labelled p.value; sources = map (λ t. label (holder (by_stamp r.rows) r.rows.made t)) p.sources }
+
+-- a call is of a helper in the table
+abbrev pub is_known : f.Form → Bool
+is_known (f.call_form h ids named) = is_some (helper_numbered h)
+is_known g = true
+
+abbrev pub AllKnown : Refs → Type 0
+AllKnown r = (i : Id) (g : f.Form) → forms_of r i ≡ Some g → is_known g ≡ true
+
+-- no reference reads a position
+abbrev pub PositionsUnread : Refs → Type 0
+PositionsUnread r = (i : Id) (ids : List Id) → forms_of r i ≡ Some (f.all_form ids) → f.IsUnread (forms_of r) i
+
+abbrev pub is_all : Option f.Form → Bool
+is_all (Some (f.all_form ids)) = true
+is_all o = false
 
 -- Nodes, instances and modifiers
 
