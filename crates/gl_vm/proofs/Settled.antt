@@ -15,11 +15,11 @@ use Rattle.gl_refs.proofs.Meanings.{each_read}
 use Rattle.gl_refs.proofs.Rows.{last_fresh}
 use Rattle.gl_meaning.specs.Scope.{Source, Pair, sources_of}
 use Rattle.gl_plain.specs.Ids.{ref}
-use Rattle.gl_plain.specs.State.{any_of, Row, all_form, row, pair_of, note_evaluated, put_thing}
+use Rattle.gl_plain.specs.State.{any_of, Row, all_form, row, State, pair_of, note_evaluated, put_thing}
 use Rattle.gl_plain.specs.Renew.{spot_ids, spot_pairs, evaluate}
 use Rattle.gl_vm.specs.Labels.{label, labelled}
 use Rattle.gl_vm.specs.Kept.{Kept, some_below, state_by}
-use Rattle.gl_vm.specs.View.{Tables, stamps, seen_form, is_led, form_led, led_by, last_led, last_of, seen_row, row_of, row_at, holder, seen_pair, AllKnown, PositionsUnread, kept_of, state_of, AgreesAt, Agrees}
+use Rattle.gl_vm.specs.View.{Tables, stamps, seen_form, is_led, form_led, led_by, last_led, last_of, seen_row, row_of, row_at, holder, seen_pair, AllKnown, PositionsUnread, is_all, kept_of, state_of, AgreesAt, Agrees}
 use Rattle.gl_vm.specs.Steps.{Does, Follows}
 use Rattle.gl_vm.specs.declared.vm.Vm.{Vm}
 use Rattle.gl_vm.proofs.States.{amended_is, row_put}
@@ -41,14 +41,14 @@ led_form leads (Some x) = refl
 
 none_any : (q : Id) (xs : List Id) → list_any (same_id q) xs ≡ false → f.Each (λ x. same_id q x ≡ false) xs
 none_any q [] e = tt
-none_any q (x ∷ xs) e = (left (same_id q x) e, none_any q xs (right (same_id q x) e)) where
-  left : (a : Bool) {b : Bool} → (a || b) ≡ false → a ≡ false
-  left false e = refl
-  left true e = e
+none_any q (x ∷ xs) e = (left (same_id q x) (list_any (same_id q) xs) e, none_any q xs (right (same_id q x) (list_any (same_id q) xs) e)) where
+  left : (a b : Bool) → (a || b) ≡ false → a ≡ false
+  left false b e = refl
+  left true b e = e
 
-  right : (a : Bool) {b : Bool} → (a || b) ≡ false → b ≡ false
-  right false e = e
-  right true e = let no : true ≡ false = e in absurd (cc)
+  right : (a b : Bool) → (a || b) ≡ false → b ≡ false
+  right false b e = e
+  right true b e = let no : true ≡ false = e in absurd (cc)
 
 any_none : (q : Id) (xs : List Id) → f.Each (λ x. same_id q x ≡ false) xs → list_any (same_id q) xs ≡ false
 any_none q [] e = refl
@@ -201,27 +201,50 @@ module _ (r r' : Refs) (id : Id) (reads : Reads r r' id) (stamped : IsStamped r.
 module _ (vm : Vm) (r' : Refs) (id : Id) (reads : Reads vm.refs r' id) (stamped : IsStamped vm.refs.rows) (stamped' : IsStamped r'.rows) (unread : PositionsUnread vm.refs) (known : AllKnown vm.refs)
     (sound : s.IsSound vm.refs.tags (rows_of vm.refs)) (sound' : s.IsSound r'.tags (rows_of r')) (kept : s.IsKept r'.tags (rows_of r') id) (listed : r'.evaluated ≡ vm.refs.evaluated ++ id ∷ [])
     (ids : List Id) (is : forms_of vm.refs id ≡ Some (f.all_form ids)) where
+  abbrev found : List Source
+  found = map (λ u. label (holder (by_stamp vm.refs.rows) vm.refs.rows.made u)) (meaning_of vm.refs id).sources
+
+  abbrev seen-there : Row
+  seen-there = record { form = all_form (stamps ids); last = any_of found }
+
+  module _ (n : Tables) (touched : Source → Bool) where
+    abbrev st : State
+    st = state_of n vm touched
+
+    ids-are : spot_ids (st.look (ref id.1)) ≡ stamps ids
+    ids-are =
+        let y = some_row (rows_of vm.refs id) (f.all_form ids) is in
+        ap (λ o. spot_ids (option_map row (option_map (seen_row vm.refs.tags (by_stamp vm.refs.rows) vm.refs.rows.made id.1) o))) (by_stamp-live vm.refs.rows id y.0 stamped y.1)
+        ∙ ap (λ g. spot_ids (Some (row (record { form = seen_form id.1 g; last = last_of vm.refs.tags (by_stamp vm.refs.rows) vm.refs.rows.made g y.0.last })))) y.2
+
+    sources-found : sources_of (spot_pairs st id.1) ≡ found
+    sources-found = ap (λ xs. sources_of (map (pair_of st.look) xs)) ids-are ∙ position-sources vm.refs stamped sound known st.look (λ n. refl) id ids is
+
+    kept-is : kept_of n (record vm { refs = r' }) ≡ record (kept_of n vm) { row = amended (row_at vm.refs) id.1 (Some seen-there); evaluated = stamps vm.refs.evaluated ++ id.1 ∷ [] }
+    kept-is = λ z. record (kept_of n vm) {
+      row = rows-settled vm.refs r' id reads stamped stamped' unread sound sound' kept ids is z;
+      rows = reads.made z;
+      evaluated = (ap stamps listed ∙ map-append (λ i. i.1) vm.refs.evaluated (id ∷ [])) z;
+    }
+
+    state-is : state_of n (record vm { refs = r' }) touched ≡ evaluate id.1 st
+    state-is =
+        ap (λ (k : Kept). state_by k touched) kept-is
+        ∙ (ap (note_evaluated id.1) (row_put (kept_of n vm) touched id.1 seen-there)
+        ∙ ap₂ (λ xs ys. note_evaluated id.1 (put_thing (ref id.1) (row (record { form = all_form xs; last = any_of ys })) st)) (sym ids-are) (sym sources-found))
+
   pub evaluate_step : Does (λ n. evaluate id.1) vm (record vm { refs = r' })
-  evaluate_step n touched a = record {
-    state = ap (λ (k : Kept). state_by k touched) kept-is
-        ∙ (ap (note_evaluated id.1) (row_put (kept_of n vm) touched id.1 (record { form = all_form (stamps ids); last = any_of found }))
-        ∙ ap₂ (λ xs ys. note_evaluated id.1 (put_thing (ref id.1) (row (record { form = all_form xs; last = any_of ys })) st)) (sym ids-are) (sym (ap (λ xs. sources_of (map (pair_of st.look) xs)) ids-are ∙ position-sources vm.refs stamped sound known st.look (λ n. refl) id ids is)));
-    agrees = agrees-still vm.refs r' id reads stamped stamped' unread sound touched a;
-  }
-    where
-      abbrev st = state_of n vm touched
+  evaluate_step n touched a = record { state = state-is n touched; agrees = agrees-still vm.refs r' id reads stamped stamped' unread sound touched a }
 
-      abbrev found = map (λ u. label (holder (by_stamp vm.refs.rows) vm.refs.rows.made u)) (meaning_of vm.refs id).sources
+pub is_live : (o : Option f.Form) → is_all o ≡ true → IsSome o
+is_live None e = let no : false ≡ true = e in absurd (cc)
+is_live (Some g) e = refl
 
-      ids-are : spot_ids (st.look (ref id.1)) ≡ stamps ids
-      ids-are =
-          let y = some_row (rows_of vm.refs id) (f.all_form ids) is in
-          ap (λ o. spot_ids (option_map row (option_map (seen_row vm.refs.tags (by_stamp vm.refs.rows) vm.refs.rows.made id.1) o))) (by_stamp-live vm.refs.rows id y.0 stamped y.1)
-          ∙ ap (λ g. spot_ids (Some (row (record { form = seen_form id.1 g; last = last_of vm.refs.tags (by_stamp vm.refs.rows) vm.refs.rows.made g y.0.last })))) y.2
-
-      kept-is : kept_of n (record vm { refs = r' }) ≡ record (kept_of n vm) { row = amended (row_at vm.refs) id.1 (Some (record { form = all_form (stamps ids); last = any_of found })); evaluated = stamps vm.refs.evaluated ++ id.1 ∷ [] }
-      kept-is = λ z. record (kept_of n vm) {
-        row = rows-settled vm.refs r' id reads stamped stamped' unread sound sound' kept ids is z;
-        rows = reads.made z;
-        evaluated = (ap stamps listed ∙ map-append (λ i. i.1) vm.refs.evaluated (id ∷ [])) z;
-      }
+pub position_ids : (o : Option f.Form) → is_all o ≡ true → (ids : List Id) × (o ≡ Some (f.all_form ids))
+position_ids (Some (f.all_form ids)) e = (ids, refl)
+position_ids (Some (f.source_form i u v)) e = let no : false ≡ true = e in absurd (cc)
+position_ids (Some (f.constant_form v)) e = let no : false ≡ true = e in absurd (cc)
+position_ids (Some (f.prop_form i n)) e = let no : false ≡ true = e in absurd (cc)
+position_ids (Some (f.call_form i ids ns)) e = let no : false ≡ true = e in absurd (cc)
+position_ids (Some (f.cat_form ids)) e = let no : false ≡ true = e in absurd (cc)
+position_ids None e = let no : false ≡ true = e in absurd (cc)

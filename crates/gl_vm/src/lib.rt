@@ -3,6 +3,7 @@
 
 mod nodes;
 mod placing;
+mod positions;
 mod references;
 mod vm;
 
