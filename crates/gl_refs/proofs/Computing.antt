@@ -7,7 +7,7 @@ use Rattle.gl_arena.proofs.Ids.{id_cases}
 use Rattle.gl_value.specs.Value.{undefined}
 use Rattle.gl_tags.specs.Tags as t
 use Rattle.gl_refs.specs.Forms.{V, Form, constant_form, source_form, prop_form, call_form, cat_form, all_form, Pair, form_or, form_at, value_by, meaning, Like, Each, reads, pair_by, below, own_sources}
-use Rattle.gl_refs.specs.State.{Last, Row, Rows, forms, Kept, kept_by, kept_row, kept, own_tag, own_by, is_combined, LastFits, RowFits, is_bound, IsSound, Evaluates, Swaps, Settles, Gathers, Puts, IsKept, held_value, held_tag, reads_of, held}
+use Rattle.gl_refs.specs.State.{Last, Row, Rows, forms, Kept, kept_by, kept_row, kept, own_tag, own_by, is_combined, LastFits, RowFits, is_bound, IsSound, Evaluates, Swaps, StaysOr, Settles, Gathers, Puts, IsKept, held_value, held_tag, reads_of, held}
 use Rattle.gl_refs.proofs.Meanings.{meaning_is, below_is, by_like, each_read}
 use Rattle.gl_refs.proofs.Rows.{combined_is, bound_kept, fresh_last, last_fresh, kept_held}
 use Rattle.gl_refs.proofs.Evaluating.{forms_stay, evaluated, order_stays, others_own}
@@ -203,7 +203,13 @@ module _ (tags tags' : t.Tags) (rows rows' : Rows) (i : Id) (sound : IsSound tag
     keeps = λ k h. keeps k h (id_cases k i);
     clock = clock;
     count = s.count;
+    dirtyable = s.dirtyable;
+    stays = λ k. stays k (id_cases k i);
   } where
+    stays : (k : Id) → (k ≡ i) ⊎ (k ≢ i) → StaysOr Own tags tags' rows rows' k
+    stays k (inl e) = inr (subst Own (sym e) own)
+    stays k (inr n) = inl (s.others k n, λ u e. s.tags_others k u n e)
+
     rest : (k : Id) → (k ≡ i) ⊎ (k ≢ i) → (rows' k ≡ rows k) ⊎ (Own k × IsKept tags' rows' k)
     rest k (inl e) = inr (subst Own (sym e) own, subst (IsKept tags' rows') (sym e) kept_now)
     rest k (inr n) = inl (s.others k n)
@@ -214,7 +220,7 @@ module _ (tags tags' : t.Tags) (rows rows' : Rows) (i : Id) (sound : IsSound tag
 
 -- nothing changes
 pub settles_none : (Own : Id → Type 0) (tags : t.Tags) (rows : Rows) → IsSound tags rows → Settles Own tags tags rows rows
-settles_none Own tags rows s = record { sound = s; forms = refl; rest = λ k. inl refl; keeps = λ k h. h; clock = refl; count = refl }
+settles_none Own tags rows s = record { sound = s; forms = refl; rest = λ k. inl refl; keeps = λ k h. h; clock = refl; count = refl; dirtyable = λ u e. refl; stays = λ k. inl (refl, λ u e. refl) }
 
 pub settles_same : (Own : Id → Type 0) (tags tags' : t.Tags) (rows rows' : Rows) → IsSound tags rows → tags' ≡ tags → rows' ≡ rows → Settles Own tags tags' rows rows'
 settles_same Own tags tags' rows rows' s e f = subst (λ x. Settles Own tags x rows rows') (sym e) (subst (λ x. Settles Own tags tags rows x) (sym f) (settles_none Own tags rows s))
@@ -228,7 +234,14 @@ settles_then Own ta tb tc ra rb rc a b = record {
   keeps = λ k h. b.keeps k (a.keeps k h);
   clock = b.clock ∙ a.clock;
   count = b.count ∙ a.count;
+  dirtyable = λ u d. b.dirtyable u (ap t.is_dirtyable (a.dirtyable u d) ∙ d) ∙ a.dirtyable u d;
+  stays = λ k. stays k (a.stays k) (b.stays k);
 } where
+  stays : (k : Id) → StaysOr Own ta tb ra rb k → StaysOr Own tb tc rb rc k → StaysOr Own ta tc ra rc k
+  stays k (inl e) (inl f) = inl (f.0 ∙ e.0, λ u o. f.1 u (ap own_tag e.0 ∙ o) ∙ e.1 u o)
+  stays k (inr h) f = inr h
+  stays k (inl e) (inr h) = inr h
+
   rest : (k : Id) → (rb k ≡ ra k) ⊎ (Own k × IsKept tb rb k) → (rc k ≡ rb k) ⊎ (Own k × IsKept tc rc k) → (rc k ≡ ra k) ⊎ (Own k × IsKept tc rc k)
   rest k (inl e) (inl f) = inl (f ∙ e)
   rest k (inr h) f = inr (h.0, b.keeps k h.1)
@@ -243,7 +256,13 @@ settles_more Own More ta tb ra rb h s = record {
   keeps = s.keeps;
   clock = s.clock;
   count = s.count;
+  dirtyable = s.dirtyable;
+  stays = λ k. stays k (s.stays k);
 } where
+  stays : (k : Id) → StaysOr Own ta tb ra rb k → StaysOr More ta tb ra rb k
+  stays k (inl e) = inl e
+  stays k (inr o) = inr (h k o)
+
   rest : (k : Id) → (rb k ≡ ra k) ⊎ (Own k × IsKept tb rb k) → (rb k ≡ ra k) ⊎ (More k × IsKept tb rb k)
   rest k (inl e) = inl e
   rest k (inr o) = inr (h k o.0, o.1)

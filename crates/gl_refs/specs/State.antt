@@ -160,7 +160,12 @@ pub record Swaps (tags tags' : t.Tags) (old : Option Id) (u : Id) (parts : List 
   pub rest : t.Rest tags tags'
   pub sound : t.IsSound tags'
 
--- Each reference stays, or is one of these and has an evaluation of now that may be used. What may be used stays so.
+-- the reference stays with its tag, or is one of these
+abbrev pub StaysOr : (Id → Type 0) → t.Tags → t.Tags → Rows → Rows → Id → Type 0
+StaysOr Own tags tags' rows rows' k = ((rows' k ≡ rows k) × ((u : Id) → own_tag (rows k) ≡ Some u → t.tag_at tags' u ≡ t.tag_at tags u)) ⊎ Own k
+
+-- Each reference stays, or is one of these and has an evaluation of now that may be used. What may be used stays so, and so do the tags of
+-- sources and of those that stay.
 pub record Settles (Own : Id → Type 0) (tags tags' : t.Tags) (rows rows' : Rows) : Type 0 where
   pub sound : IsSound tags' rows'
   pub forms : forms rows' ≡ forms rows
@@ -168,6 +173,8 @@ pub record Settles (Own : Id → Type 0) (tags tags' : t.Tags) (rows rows' : Row
   pub keeps : (k : Id) → IsKept tags rows k → IsKept tags' rows' k
   pub clock : tags'.clock ≡ tags.clock
   pub count : tags'.count ≡ tags.count
+  pub dirtyable : (u : Id) → t.is_dirtyable (t.tag_at tags u) ≡ true → t.tag_at tags' u ≡ t.tag_at tags u
+  pub stays : (k : Id) → StaysOr Own tags tags' rows rows' k
 
 -- a reference of which the first parts that it reads may be used
 pub record Waiting : Type 0 where

@@ -1,6 +1,6 @@
 // The blocks by id.
 ghost use Rattle.std.specs.Prelude.{◌≡◌, [], Some, None, IfOk, OnErr, IsSome};
-ghost use Rattle.gl_arena.specs.Arena.{named, Gives, Ends};
+ghost use Rattle.gl_arena.specs.Arena.{named, Gives, Ends, IsStamped};
 ghost use Rattle.gl_scope.specs.View.{seen_block};
 
 use crate::Block;
@@ -53,6 +53,13 @@ impl BlockStack {
         ensures { named self.now id ≡ Some (seen_block result.now) }
     {
         self.blocks.get(id)
+    }
+
+    /// The law that each live id was given before, and that no two live ids have one stamp.
+    pub fn stamps(&self)
+        ensures { IsStamped self.now }
+    {
+        let _ = &self.blocks;
     }
 
     /// Ends a block.

@@ -1,0 +1,9 @@
+pub mod States
+pub mod Rows
+pub mod Sources
+pub mod Sets
+pub mod NodeSteps
+pub mod ThingSteps
+pub mod Means
+pub mod Values
+pub mod Settled

@@ -1,0 +1,13 @@
+use Rattle.gl_vm.proofs.States.{on_ok}
+use Rattle.gl_vm.proofs.Settled.{position_ids, evaluate_step, is_live}
+use Rattle.gl_vm.proofs.vm.Vm.evaluate.Goals as goal
+
+pub renew-done-requires : goal.renew-done-requires
+renew-done-requires c = is_live _ c.requires.position
+
+pub returns-clause-step : goal.returns-clause-step
+returns-clause-step c =
+    let p = position_ids _ c.requires.position in
+    on_ok c.renew-done.result
+    (λ kept listed. evaluate_step c.args.self.now c.renew-done.new.self c.args.id c.renew-done.ensures.reads c.sound.ensures.stamped c.sound-2.ensures.stamped c.requires.unread c.requires.known c.sound.ensures.sound c.sound-2.ensures.sound kept listed p.0 p.1)
+    c.renew-done.ensures.kept c.renew-done.ensures.evaluated

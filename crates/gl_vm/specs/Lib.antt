@@ -1,0 +1,4 @@
+pub mod Labels
+pub mod Kept
+pub mod View
+pub mod Steps

@@ -1,0 +1,55 @@
+-- What a step of the code does to the state.
+use Rattle.std.specs.Prelude.{◌≡◌, ℕ, ◌+◌, List, [], ◌∷◌, Bool, ◌||◌, if◌then◌else◌, Option, Some}
+use Rattle.std.specs.Str.{bytes_eq}
+use Rattle.gl_base.specs.Texts.{Text}
+use Rattle.gl_arena.specs.Id.{Id}
+use Rattle.gl_arena.specs.Arena.{Arena, IsOwn}
+use Rattle.gl_meaning.specs.Path.{V}
+use Rattle.gl_meaning.specs.Scope.{Source}
+use Rattle.gl_meaning.specs.Parts.{Attrs}
+use Rattle.gl_plain.specs.Ids.{node, modifier_id}
+use Rattle.gl_plain.specs.State.{source_form, content, Installed, modifier_row, Thing, State, source_eq, put_thing, note_updated}
+use Rattle.gl_plain.specs.Renew.{changed_attr}
+use Rattle.gl_plain.specs.Binding.{made_row}
+use Rattle.gl_vm.specs.View.{Tables, state_of, Agrees}
+use Rattle.gl_vm.specs.declared.vm.Vm.{Vm}
+
+-- the code keeps this state now
+pub record Follows (n : Tables) (r : State) (new : Vm) : Type 0 where
+  pub state : state_of n new r.touched ≡ r
+  pub agrees : Agrees r.touched new
+
+-- The code does this step of the state, whichever sources were touched, and whatever the manifest's names are.
+abbrev pub Does : (Tables → State → State) → Vm → Vm → Type 0
+Does f old new = (n : Tables) (touched : Source → Bool) → Agrees touched old → Follows n (f n (state_of n old touched)) new
+
+-- The next id of an arena is given: its number is how many were made before. Whatever id was given before is its own id still.
+pub record Numbers {T : Type 0} (old new : Arena T) (id : Id) : Type 0 where
+  pub stamp : id.1 ≡ old.made
+  pub own : IsOwn new id
+  pub olds : (i : Id) → IsOwn old i → IsOwn new i
+
+-- a source is made, and counts as touched
+abbrev pub made_source : Source → V → State → State
+made_source x v st = let r = made_row (source_form x v) st in record r { touched = λ y. source_eq y x || r.touched y }
+
+-- the node's attribute of a name is changed
+abbrev pub put_attr : ℕ → Text → Option Text → State → State
+put_attr s name value st = put_thing (node s) (content (changed_attr name value (st.look (node s)))) st
+
+-- how many of these attributes have that name
+abbrev pub times_named : Text → Attrs → ℕ
+times_named n [] = 0
+times_named n (a ∷ xs) = (if bytes_eq n a.0 then 1 else 0) + times_named n xs
+
+-- a modifier with other values of its arguments
+abbrev pub given_args : List V → List (Text × V) → Option Thing → Installed
+given_args vs ns (Some (modifier_row x)) = record { on_node = x.on_node; place = x.place; name = x.name; args = vs; names = ns }
+given_args vs ns _ = record { on_node = 0; place = 0; name = []; args = []; names = [] }
+
+-- the modifier has other values, and is noted
+abbrev pub put_args : ℕ → List V → List (Text × V) → State → State
+put_args m vs ns st = note_updated m (put_thing (modifier_id m) (modifier_row (given_args vs ns (st.look (modifier_id m)))) st)
+
+abbrev pub installed_at : ℕ → ℕ → Text → List V → List (Text × V) → Installed
+installed_at n i name vs ns = record { on_node = n; place = i; name = name; args = vs; names = ns }

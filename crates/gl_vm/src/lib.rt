@@ -1,0 +1,10 @@
+//! What the machine keeps, and its primitive steps. Contracts see it as the state of the plain machine.
+#![tactic(auto)]
+
+mod nodes;
+mod placing;
+mod positions;
+mod references;
+mod vm;
+
+pub use vm::{Instance, Vm};

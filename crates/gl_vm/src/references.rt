@@ -1,0 +1,85 @@
+// References that are made.
+ghost use Rattle.std.specs.Prelude.{◌≡◌, true, IfOk, OnErr, IsSome};
+ghost use Rattle.gl_value.specs.View.{view};
+ghost use Rattle.gl_refs.specs.Forms.{Each, parts};
+ghost use Rattle.gl_refs.specs.Refs.{forms_of, HasRoom};
+ghost use Rattle.gl_refs.specs.State.{is_cell, is_item};
+ghost use Rattle.gl_refs.specs.View as code;
+ghost use Rattle.gl_plain.specs.State.{constant_form, touch};
+ghost use Rattle.gl_plain.specs.Binding.{made_row};
+ghost use Rattle.gl_plain.specs.Renew.{give};
+ghost use Rattle.gl_vm.specs.Labels.{label, labelled};
+ghost use Rattle.gl_vm.specs.View.{seen_form};
+ghost use Rattle.gl_vm.specs.Steps.{Does, Numbers, made_source};
+
+use crate::Vm;
+use gl_refs::{Form, RefId};
+use gl_value::Value;
+use std::alloc::AllocError;
+
+impl Vm {
+    /// Makes a constant.
+    pub fn constant(&mut self, value: Value) -> Result<RefId, AllocError>
+        ensures step { IfOk result (λ id. Does (λ n. made_row (constant_form (labelled (view value)))) self.old self.new) }
+        ensures id { IfOk result (λ id. Numbers self.old.refs.rows self.new.refs.rows id) }
+        ensures rest { self.new ≡ record self.old { refs = self.new.refs } }
+        ensures err { OnErr result (self.new ≡ self.old) }
+    {
+        self.refs.sound();
+        self.refs.constant(value)
+    }
+
+    /// Makes a reference of that form over live references.
+    pub fn bind(&mut self, form: Form) -> Result<RefId, AllocError>
+        requires { Each (λ q. IsSome (forms_of self.old.refs q)) (parts (code.seen_form form)) }
+        ensures step { IfOk result (λ id. Does (λ n. made_row (seen_form self.old.refs.rows.made (code.seen_form form))) self.old self.new) }
+        ensures id { IfOk result (λ id. Numbers self.old.refs.rows self.new.refs.rows id) }
+        ensures rest { self.new ≡ record self.old { refs = self.new.refs } }
+        ensures err { OnErr result (self.new ≡ self.old) }
+    {
+        self.refs.sound();
+        self.refs.bind(form)
+    }
+
+    /// Makes a cell. It counts as touched.
+    pub fn cell(&mut self, value: Value) -> Result<RefId, AllocError>
+        ensures step { IfOk result (λ id. Does (λ n. made_source (label self.old.refs.rows.made) (labelled (view value))) self.old self.new) }
+        ensures id { IfOk result (λ id. Numbers self.old.refs.rows self.new.refs.rows id) }
+        ensures rest { self.new ≡ record self.old { refs = self.new.refs } }
+    {
+        self.refs.sound();
+        self.refs.cell(value)
+    }
+
+    /// Makes an item. It counts as touched.
+    pub fn item(&mut self, value: Value) -> Result<RefId, AllocError>
+        ensures step { IfOk result (λ id. Does (λ n. made_source (label self.old.refs.rows.made) (labelled (view value))) self.old self.new) }
+        ensures id { IfOk result (λ id. Numbers self.old.refs.rows self.new.refs.rows id) }
+        ensures rest { self.new ≡ record self.old { refs = self.new.refs } }
+    {
+        self.refs.sound();
+        self.refs.item(value)
+    }
+
+    /// Gives a cell a value, and touches it, whatever the value was.
+    pub fn set(&mut self, cell: RefId, value: Value)
+        requires room { HasRoom self.old.refs }
+        requires cell { is_cell (forms_of self.old.refs cell) ≡ true }
+        ensures step { Does (λ n. touch cell.1 (label cell.1) (labelled (view value))) self.old self.new }
+        ensures rest { self.new ≡ record self.old { refs = self.new.refs } }
+    {
+        self.refs.sound();
+        self.refs.set(cell, value)
+    }
+
+    /// Gives an item a value, and touches it where that isn't the same.
+    pub fn give(&mut self, item: RefId, value: Value)
+        requires room { HasRoom self.old.refs }
+        requires item { is_item (forms_of self.old.refs item) ≡ true }
+        ensures step { Does (λ n. give item.1 (label item.1) (labelled (view value))) self.old self.new }
+        ensures rest { self.new ≡ record self.old { refs = self.new.refs } }
+    {
+        self.refs.sound();
+        self.refs.give(item, value)
+    }
+}
