@@ -138,9 +138,9 @@ module _ (vm : Vm) (r : Refs) (id : Id) (kind : Bool) (v : f.V) (stamped : IsSta
     set-agrees : Agrees then-touched (record vm { refs = r })
     set-agrees k x e = elim (cases_eq k id.1) [
       | inl q ↦ subst (λ (y : s.Row). AgreesAt r then-touched k y.form) (some_same _ _ (sym (amended_here (by_stamp was.rows) id.1 (Some new-row)) ∙ (ap (amended (by_stamp was.rows) id.1 (Some new-row)) (sym q) ∙ (sym (ap (λ h. h k) rows-are) ∙ e))))
-        (subst (λ (m : ℕ). AgreesAt r then-touched m new-row.form) (sym q) here-agrees)
+          (subst (λ (m : ℕ). AgreesAt r then-touched m new-row.form) (sym q) here-agrees)
       | inr ne ↦ let o = sym (ap (λ h. h k) rows-are ∙ amended_off (by_stamp was.rows) id.1 (Some new-row) k ne) ∙ e in
-        off-agrees k x x.form ne o refl (a k x o)
+          off-agrees k x x.form ne o refl (a k x o)
     ]
 
   kept-is : (n : Tables) → kept_of n (record vm { refs = r }) ≡ record (kept_of n vm) { row = amended (row_at was) id.1 (Some (record { form = seen_form id.1 (f.source_form kind tag v); last = any_of [] })) }

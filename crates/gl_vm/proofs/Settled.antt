@@ -108,17 +108,17 @@ module _ (r r' : Refs) (id : Id) (reads : Reads r r' id) (stamped : IsStamped r.
   other-position : (k : ℕ) (ids : List Id) (x : s.Row) → k ≢ id.1 → rows k ≡ Some x → x.form ≡ f.all_form ids → (y : s.Row) → rows' k ≡ Some y → last_of r'.tags rows' r'.rows.made (f.all_form ids) y.last ≡ last_of r.tags rows r.rows.made (f.all_form ids) x.last
   other-position k ids x ne e g y h =
       let p = by_stamp-id r.rows k x e in by p.0 p.1 p.2 (reads.settles.stays p.0) where
-    same-last : (i : Id) → rows_of r i ≡ Some x → ((u : Id) → s.own_tag (rows_of r i) ≡ Some u → t.tag_at r'.tags u ≡ t.tag_at r.tags u) → (o : Option s.Last) → x.last ≡ o → last_led r'.tags rows' r'.rows.made o ≡ last_led r.tags rows r.rows.made o
-    same-last i q tags None w = refl
-    same-last i q tags (Some l) w =
-        ap (λ leads. led_by leads rows' r'.rows.made) (ap (t.leads_by l.tag) (tags l.tag (ap s.own_tag q ∙ (ap (λ h. s.own_by h x.last) g ∙ ap (λ o. s.own_by (f.all_form ids) o) w))))
-        ∙ led-by-are (t.leads_of r.tags.tags l.tag)
+        same-last : (i : Id) → rows_of r i ≡ Some x → ((u : Id) → s.own_tag (rows_of r i) ≡ Some u → t.tag_at r'.tags u ≡ t.tag_at r.tags u) → (o : Option s.Last) → x.last ≡ o → last_led r'.tags rows' r'.rows.made o ≡ last_led r.tags rows r.rows.made o
+        same-last i q tags None w = refl
+        same-last i q tags (Some l) w =
+            ap (λ leads. led_by leads rows' r'.rows.made) (ap (t.leads_by l.tag) (tags l.tag (ap s.own_tag q ∙ (ap (λ h. s.own_by h x.last) g ∙ ap (λ o. s.own_by (f.all_form ids) o) w))))
+            ∙ led-by-are (t.leads_of r.tags.tags l.tag)
 
-    by : (i : Id) → i.1 ≡ k → rows_of r i ≡ Some x → s.StaysOr (f.IsReadFor (forms_of r) id) r.tags r'.tags (rows_of r) (rows_of r') i → last_led r'.tags rows' r'.rows.made y.last ≡ last_led r.tags rows r.rows.made x.last
-    by i n q (inl w) =
-        let y-is : y ≡ x = some_same y x (sym h ∙ (ap rows' (sym n) ∙ by_stamp-live r'.rows i x stamped' (w.0 ∙ q))) in
-        ap (λ (z : s.Row). last_led r'.tags rows' r'.rows.made z.last) y-is ∙ same-last i q w.1 x.last refl
-    by i n q (inr w) = absurd (ne (sym n ∙ ap (λ (j : Id). j.1) (only_read (forms_of r) id i w (unread i ids (ap (option_map form_in) q ∙ ap (λ h. Some h) g)))))
+        by : (i : Id) → i.1 ≡ k → rows_of r i ≡ Some x → s.StaysOr (f.IsReadFor (forms_of r) id) r.tags r'.tags (rows_of r) (rows_of r') i → last_led r'.tags rows' r'.rows.made y.last ≡ last_led r.tags rows r.rows.made x.last
+        by i n q (inl w) =
+            let y-is : y ≡ x = some_same y x (sym h ∙ (ap rows' (sym n) ∙ by_stamp-live r'.rows i x stamped' (w.0 ∙ q))) in
+            ap (λ (z : s.Row). last_led r'.tags rows' r'.rows.made z.last) y-is ∙ same-last i q w.1 x.last refl
+        by i n q (inr w) = absurd (ne (sym n ∙ ap (λ (j : Id). j.1) (only_read (forms_of r) id i w (unread i ids (ap (option_map form_in) q ∙ ap (λ h. Some h) g)))))
 
   row-stays : (k : ℕ) → k ≢ id.1 → row_at r' k ≡ row_at r k
   row-stays k ne = by (rows k) refl where
@@ -146,15 +146,15 @@ module _ (r r' : Refs) (id : Id) (reads : Reads r r' id) (stamped : IsStamped r.
   agrees-still sound touched a k y e =
       let x = some_row (rows k) y.form (sym (forms-are k) ∙ ap (option_map form_in) e) in
       in_form x.0 x.1 y.form x.2 (subst (AgreesAt r touched k) x.2 (a k x.0 x.1)) where
-    in_form : (x : s.Row) → rows k ≡ Some x → (g : f.Form) → x.form ≡ g → AgreesAt r touched k g → AgreesAt r' touched k g
-    in_form x h (f.source_form i u v) q a =
-        let d = source_dirtyable r stamped sound k x i u v h q in
-        a ∙ sym (ap₂ (λ n c. n == c) (value_stays r.tags r'.tags u d (reads.settles.dirtyable u d)) reads.settles.clock)
-    in_form x h (f.constant_form v) q a = tt
-    in_form x h (f.prop_form i n) q a = tt
-    in_form x h (f.call_form i ids ns) q a = tt
-    in_form x h (f.cat_form ids) q a = tt
-    in_form x h (f.all_form ids) q a = tt
+        in_form : (x : s.Row) → rows k ≡ Some x → (g : f.Form) → x.form ≡ g → AgreesAt r touched k g → AgreesAt r' touched k g
+        in_form x h (f.source_form i u v) q a =
+            let d = source_dirtyable r stamped sound k x i u v h q in
+            a ∙ sym (ap₂ (λ n c. n == c) (value_stays r.tags r'.tags u d (reads.settles.dirtyable u d)) reads.settles.clock)
+        in_form x h (f.constant_form v) q a = tt
+        in_form x h (f.prop_form i n) q a = tt
+        in_form x h (f.call_form i ids ns) q a = tt
+        in_form x h (f.cat_form ids) q a = tt
+        in_form x h (f.all_form ids) q a = tt
 
   module _ (sound : s.IsSound r.tags (rows_of r)) (sound' : s.IsSound r'.tags (rows_of r')) (kept : s.IsKept r'.tags (rows_of r') id) (ids : List Id) (is : forms_of r id ≡ Some (f.all_form ids)) where
     is' : forms_of r' id ≡ Some (f.all_form ids)

@@ -145,9 +145,9 @@ module _ (vm : Vm) (r : Refs) (id : Id) (kind : Bool) (v : f.V) (stamped : IsSta
     made-agrees : Agrees then-touched (record vm { refs = r })
     made-agrees k x e = elim (cases_eq k was.rows.made) [
       | inl q ↦ subst (λ (y : s.Row). AgreesAt r then-touched k y.form) (some_same _ _ (sym (amended_here (by_stamp was.rows) was.rows.made (Some put-in)) ∙ (ap (amended (by_stamp was.rows) was.rows.made (Some put-in)) (sym q) ∙ (sym (ap (λ h. h k) rows-are) ∙ e))))
-        (subst (λ (m : ℕ). AgreesAt r then-touched m form) (sym q) here-agrees)
+          (subst (λ (m : ℕ). AgreesAt r then-touched m form) (sym q) here-agrees)
       | inr ne ↦ let o = sym (ap (λ h. h k) rows-are ∙ amended_off (by_stamp was.rows) was.rows.made (Some put-in) k ne) ∙ e in
-        off-agrees k x x.form ne o refl (a k x o)
+          off-agrees k x x.form ne o refl (a k x o)
     ]
 
   kept-is : (n : Tables) → kept_of n (record vm { refs = r }) ≡ with_row (record { form = seen_form was.rows.made form; last = any_of [] }) (kept_of n vm)

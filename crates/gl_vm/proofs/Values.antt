@@ -137,9 +137,9 @@ module _ (r : Refs) (stamped : IsStamped r.rows) (sound : s.IsSound r.tags (rows
     one-at p zero lt = absurd (omega (arith, lt))
     one-at p (suc n) lt = elim (cases_eq n h.id.1) [
       | inl e ↦
-        ap₂ (λ a b. a || b) (ap (λ k. is_led (t ∷ []) (rows k) && p (label k)) e ∙ ap (λ b. b && p (label h.id.1)) is-led)
-        (below_none (λ k. is_led (t ∷ []) (rows k) && p (label k)) n (λ k lt. ap (λ b. b && p (label k)) (not-led k (λ q. absurd (omega (arith, q, lt, e))))))
-        ∙ or_no (p (label h.id.1))
+          ap₂ (λ a b. a || b) (ap (λ k. is_led (t ∷ []) (rows k) && p (label k)) e ∙ ap (λ b. b && p (label h.id.1)) is-led)
+          (below_none (λ k. is_led (t ∷ []) (rows k) && p (label k)) n (λ k lt. ap (λ b. b && p (label k)) (not-led k (λ q. absurd (omega (arith, q, lt, e))))))
+          ∙ or_no (p (label h.id.1))
       | inr ne ↦ ap (λ b. (b && p (label n)) || some_below (λ k. is_led (t ∷ []) (rows k) && p (label k)) n) (not-led n ne) ∙ one-at p n (omega (arith, lt, ne))
     ]
       where
