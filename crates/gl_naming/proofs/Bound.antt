@@ -8,7 +8,7 @@ use Rattle.gl_value.specs.Owners.{with_owners, values_with, members_with}
 use Rattle.gl_ast.specs.Template as t
 use Rattle.gl_ast.specs.Template.{Expr, Exprs, NamedExprs, AttrValue}
 use Rattle.gl_meaning.specs.App.{App}
-use Rattle.gl_meaning.specs.Path.{Path, V}
+use Rattle.gl_meaning.specs.Path.{Path}
 use Rattle.gl_meaning.specs.Scope.{Source, sources_of}
 use Rattle.gl_meaning.specs.Eval.{class_at, Member, field_member, getter_member, action_member, member_of}
 use Rattle.gl_plain.specs.Ids.{a_ref, Kind, Id, id_eq, ref}
@@ -16,7 +16,7 @@ use Rattle.gl_plain.specs.State.{Form, constant_form, property_form, call_form, 
 use Rattle.gl_plain.specs.Naming.{by_number}
 use Rattle.gl_plain.specs.Binding.{Bound, BoundAll, BoundNames, made_row, old_ref, new_ref, after_made, bind_along, bind_found, bind_bare, bind_member, bind_member_as, bind_in, bind_in_as, bind_all_in, bind_all_in_as, bind_named_in, bind_named_in_as, bind_deep, bind_deep_as, getters_in, bind_expr, bind_expr_as, bind_exprs, bind_exprs_as, bind_pairs, bind_pairs_as, bind_value, bind_value_as, bind_args, bind_args_as, bind_params, Placed, place}
 use Rattle.gl_naming.specs.Renamed.{pair_with, form_with, thing_with, there_with, state_with, bound_with, bound_all_with, bound_names_with, placed_with, OwnerRight}
-use Rattle.gl_naming.proofs.Pairs.{map_map, sources_to, pair_to}
+use Rattle.gl_naming.proofs.Pairs.{sources_to, pair_to}
 
 -- a value without actions has no names in it
 mutual

@@ -4,7 +4,7 @@ use Rattle.std.specs.Prelude.{not, filter, flat_map, if◌then◌else◌, nat_eq
 use Rattle.std.proofs.lemmas.List.{map-append}
 use Rattle.gl_base.specs.Texts.{Text}
 use Rattle.gl_base.specs.Names.{at_place, named}
-use Rattle.gl_value.specs.Value.{undefined, null, boolean, integer, text, list, pairs, action, truthy, text_of, is_missing, join_kept, join_values, properties, property}
+use Rattle.gl_value.specs.Value.{undefined, null, boolean, integer, text, list, pairs, action, text_of, is_missing, join_kept, join_values, properties, property}
 use Rattle.gl_value.specs.Helpers.{Helper, helper_table, helper_value}
 use Rattle.gl_value.specs.Owners.{with_owners}
 use Rattle.gl_value.proofs.Owners.{rules_leave_owners, property_keeps_owners}
@@ -14,7 +14,7 @@ use Rattle.gl_meaning.specs.Eval.{values_in, branch_pair, all_pair, branch_of, p
 use Rattle.gl_labels.specs.Laws.{names_with}
 use Rattle.gl_labels.proofs.Owners.{helpers_keep_owners}
 use Rattle.gl_plain.specs.Ids.{Id, ref}
-use Rattle.gl_plain.specs.State.{Form, constant_form, source_form, property_form, call_form, joined_form, all_form, row, content, instance_row, block_row, modifier_row, Thing, Names, names_by, form_pair, thing_pair, pairs_below, pair_of}
+use Rattle.gl_plain.specs.State.{Form, constant_form, source_form, property_form, call_form, joined_form, all_form, row, content, instance_row, block_row, modifier_row, Thing, names_by, form_pair, thing_pair, pairs_below, pair_of}
 use Rattle.gl_plain.proofs.Syncs.{path-Decides}
 use Rattle.gl_naming.specs.Renamed.{pair_with, form_with, there_with}
 use Rattle.gl_naming.specs.Laws.{MeansRenamed}

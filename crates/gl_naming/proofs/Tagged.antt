@@ -1,9 +1,8 @@
 -- The parts of a tag with other names.
-use Rattle.std.proofs.Common.{◌≡◌, ℕ, zero, suc, List, [], ◌∷◌, ◌++◌, map, length, Bool, true, false, Option, Some, None, refl, ap, ap₂, sym, ◌∙◌}
+use Rattle.std.proofs.Common.{◌≡◌, ℕ, zero, suc, List, [], ◌∷◌, ◌++◌, map, length, Bool, true, false, refl, ap, ap₂, ◌∙◌}
 use Rattle.std.specs.Prelude.{if◌then◌else◌, filter_map}
 use Rattle.std.specs.List.{cons_option}
 use Rattle.gl_base.specs.Texts.{Text}
-use Rattle.gl_base.specs.Names.{at_place}
 use Rattle.gl_value.specs.Value.{text, attribute_text}
 use Rattle.gl_value.specs.Owners.{with_owners}
 use Rattle.gl_value.proofs.Owners.{rules_leave_owners}
@@ -16,12 +15,12 @@ use Rattle.gl_meaning.specs.Eval.{values_in}
 use Rattle.gl_meaning.specs.Parts.{Written, spread_in, attribute_value, joined_texts}
 use Rattle.gl_labels.specs.Laws.{names_with}
 use Rattle.gl_plain.specs.Ids.{a_modifier}
-use Rattle.gl_plain.specs.State.{constant_form, MScope, mscope, MPassed, mnothing, mpassed, inst_of, passed_in, modifier_row, Installed, State, make, note_installed}
+use Rattle.gl_plain.specs.State.{constant_form, MScope, mscope, MPassed, mnothing, mpassed, inst_of, passed_in, modifier_row, State, make, note_installed}
 use Rattle.gl_plain.specs.Naming.{by_number}
-use Rattle.gl_plain.specs.Binding.{Placed, place, first_value, bind_pairs, bind_exprs_as, bind_pairs_as}
+use Rattle.gl_plain.specs.Binding.{Placed, place, first_value, bind_pairs, bind_exprs_as}
 use Rattle.gl_plain.specs.Parts.{mpassed_parts, mwritten_parts}
 use Rattle.gl_plain.specs.Live.{ModSpot}
-use Rattle.gl_plain.specs.Tags.{BoundParts, Waiting, live_part, modifier_part, bind_attribute, bind_attribute_as, bind_part, bind_part_as, bind_written, bind_written_as, Given, fixed_given, live_given, taken_waiting, some_waiting_live, given_ref, given_refs, given_pairs, AttrsGiven, give_attrs, flush_parts, attributes_waiting, names_waiting, WaitingModifier, modifiers_waiting, first_values, named_with, values_from, install, ModsGrown, install_all, install_parts}
+use Rattle.gl_plain.specs.Tags.{Waiting, live_part, modifier_part, bind_attribute, bind_attribute_as, bind_part, bind_part_as, bind_written, bind_written_as, Given, fixed_given, live_given, taken_waiting, some_waiting_live, given_ref, given_refs, given_pairs, AttrsGiven, give_attrs, flush_parts, attributes_waiting, names_waiting, WaitingModifier, modifiers_waiting, first_values, named_with, values_from, install, install_all, install_parts}
 use Rattle.gl_naming.specs.Renamed.{pair_with, installed_with, state_with, bound_all_with, placed_with, parts_with, attrs_with, mods_with, run_with, OwnerRight, ScopeRight, PassedRight}
 use Rattle.gl_naming.proofs.Pairs.{place_map, values_to}
 use Rattle.gl_naming.proofs.Bound.{make_im, new_im, exprs_bound, pairs_bound, live_bound, place_im}
@@ -121,9 +120,6 @@ module _ (f : Path → Path) (g : Source → Source) where
       attrs_im : (ws : List (Text × Given)) (ns : List Text) (st : State) → give_attrs ws ns (im st) ≡ attrs_with f g hot (give_attrs ws ns st)
       attrs_im ws [] st = refl
       attrs_im ws (n ∷ ns) st = by (some_waiting_live (taken_waiting n ws)) (attrs_im ws ns) where
-
-
-
         by : (u : Bool) → ((s : State) → give_attrs ws ns (im s) ≡ attrs_with f g hot (give_attrs ws ns s))
             → let taken = taken_waiting n ws in
             let one : State → AttrsGiven = λ s. (let x = place (given_refs taken s) in let r = give_attrs ws ns x.state in record { attrs = (n, attribute_value x.pairs) ∷ r.attrs; spots = record { name = n; spot = x.spot } ∷ r.spots; state = r.state }) in

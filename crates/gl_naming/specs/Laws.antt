@@ -1,6 +1,5 @@
 -- The laws of naming.
 use Rattle.std.specs.Prelude.{◌≡◌, ℕ, List, Bool, Option}
-use Rattle.gl_base.specs.Texts.{Text}
 use Rattle.gl_ast.specs.Template.{Exprs, Part}
 use Rattle.gl_meaning.specs.App.{App}
 use Rattle.gl_meaning.specs.Path.{Path}

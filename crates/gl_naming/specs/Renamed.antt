@@ -1,14 +1,12 @@
 -- What is kept, with other names of owners and sources.
 use Rattle.std.specs.Prelude.{◌≡◌, ℕ, List, [], ◌∷◌, map, Bool, true, false, Option, Some, None}
-use Rattle.gl_base.specs.Texts.{Text}
 use Rattle.gl_value.specs.Owners.{with_owners}
 use Rattle.gl_meaning.specs.Path.{Path, V, main, otherwise, items, item, slot}
 use Rattle.gl_meaning.specs.Scope.{Source, cell, item_value, item_index, Pair}
 use Rattle.gl_meaning.specs.Render.{Entry}
 use Rattle.gl_labels.specs.Laws.{names_with}
-use Rattle.gl_plain.specs.Ids.{Id}
 use Rattle.gl_plain.specs.State.{Form, constant_form, source_form, property_form, call_form, joined_form, all_form, Row, Names, Inst, MScope, mscope, MPassed, mnothing, mpassed, Installed, Thing, row, content, instance_row, block_row, modifier_row, State}
-use Rattle.gl_plain.specs.Naming.{Naming, by_number}
+use Rattle.gl_plain.specs.Naming.{by_number}
 use Rattle.gl_plain.specs.Binding.{Bound, BoundAll, BoundNames, Placed}
 use Rattle.gl_plain.specs.Tags.{BoundParts, AttrsGiven, ModsGrown}
 use Rattle.gl_plain.specs.Grow.{Arm, ItemGrown}
