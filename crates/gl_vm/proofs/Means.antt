@@ -1,14 +1,13 @@
 -- What a form means, with owners and sources named by numbers.
-use Rattle.std.proofs.Common.{◌≡◌, ◌≢◌, ℕ, zero, suc, ◌+◌, ◌<◌, ◌≤◌, Bool, true, false, cond, Option, Some, None, option_map, IsSome, is_some, List, [], ◌∷◌, ◌++◌, map, flat_map, take, drop, refl, sym, ap, ap₂, subst, ◌∙◌, inl, inr, arith, append-nil, append_assoc, unwrap_or}
-use Rattle.std.specs.Prelude.{◌&&◌, ◌||◌, ◌==◌, not, filter, ltb, eqb, nat_eq, slice_get, if◌then◌else◌}
+use Rattle.std.proofs.Common.{◌≡◌, ℕ, zero, suc, Bool, true, false, cond, Option, Some, None, option_map, IsSome, is_some, List, [], ◌∷◌, ◌++◌, map, flat_map, drop, refl, sym, ap, ap₂, ◌∙◌, arith, append-nil, append_assoc, unwrap_or}
+use Rattle.std.specs.Prelude.{◌&&◌, ◌||◌, not, filter, eqb, nat_eq, slice_get, if◌then◌else◌}
 use Rattle.std.specs.List.{list_any}
 use Rattle.std.specs.Str.{bytes_eq}
 use Rattle.std.proofs.lemmas.Bool.{le-ltb}
 use Rattle.std.proofs.lemmas.List.{map-append}
 use Rattle.gl_base.specs.Texts.{Text}
 use Rattle.gl_base.specs.Names.{at_place, named}
-use Rattle.gl_value.specs.Value.{Value, undefined, null, boolean, integer, text, list, pairs, action, truthy, property, text_of, is_missing, join_values, join_kept}
-use Rattle.gl_value.specs.Owners.{with_owners}
+use Rattle.gl_value.specs.Value.{Value, undefined, null, boolean, integer, text, list, pairs, action, truthy, text_of, is_missing, join_values, join_kept}
 use Rattle.gl_value.specs.Helpers.{Helper, if_helper, unless_helper, helper_table, helper_numbered, helper_value}
 use Rattle.gl_value.proofs.Owners.{rules_leave_owners, property_keeps_owners}
 use Rattle.gl_labels.proofs.Owners.{helpers_keep_owners}
@@ -16,8 +15,8 @@ use Rattle.gl_labels.specs.Laws.{names_with}
 use Rattle.gl_arena.specs.Id.{Id}
 use Rattle.gl_refs.specs.Forms as f
 use Rattle.gl_meaning.specs.Path.{path_eq, Path}
-use Rattle.gl_meaning.specs.Scope.{Source, Pair, absent, of_value, sources_of}
-use Rattle.gl_meaning.specs.Eval.{values_in, after_reading, takes_first, branch_pair, branch_of, pair_read, all_pair, call_pair, helper_pair, cat_pair, with_properties}
+use Rattle.gl_meaning.specs.Scope.{Source, Pair, absent, sources_of}
+use Rattle.gl_meaning.specs.Eval.{values_in, after_reading, takes_first, branch_pair, branch_of, pair_read, call_pair, helper_pair, with_properties}
 use Rattle.gl_meaning.proofs.Equal.{text_itself}
 use Rattle.gl_plain.specs.State.{form_pair, names_by}
 use Rattle.gl_vm.specs.Labels.{owner_path, label, labelled}

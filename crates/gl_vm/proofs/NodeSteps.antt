@@ -1,10 +1,10 @@
 -- Nodes as rows of the state.
-use Rattle.std.proofs.Common.{◌≡◌, ◌≢◌, ℕ, zero, suc, ◌+◌, Bool, true, false, cond, Option, Some, None, option_map, IsSome, List, [], ◌∷◌, refl, sym, ap, ap₂, subst, ◌∙◌, arith}
+use Rattle.std.proofs.Common.{◌≡◌, suc, ◌+◌, Bool, true, false, Option, Some, option_map, [], ◌∷◌, refl, sym, ap, subst, ◌∙◌, arith}
 use Rattle.std.specs.Prelude.{if◌then◌else◌}
 use Rattle.std.specs.Str.{bytes_eq}
 use Rattle.gl_base.specs.Texts.{Text}
 use Rattle.gl_arena.specs.Id.{Id}
-use Rattle.gl_arena.specs.Arena.{by_stamp, amended, IsStamped}
+use Rattle.gl_arena.specs.Arena.{amended, IsStamped}
 use Rattle.gl_arena.proofs.Stamps.{by_stamp-live}
 use Rattle.gl_nodes.specs.Node as n
 use Rattle.gl_nodes.specs.Tree.{Tree, node_at}
@@ -14,7 +14,7 @@ use Rattle.gl_plain.specs.State.{Content, element_content, content, put_thing}
 use Rattle.gl_plain.specs.Grow.{made_node}
 use Rattle.gl_plain.specs.Renew as r
 use Rattle.gl_vm.specs.Kept.{Kept, state_by}
-use Rattle.gl_vm.specs.View.{Tables, seen_node, kept_of}
+use Rattle.gl_vm.specs.View.{seen_node, kept_of}
 use Rattle.gl_vm.specs.Steps.{Does, Follows, Numbers, put_attr, times_named}
 use Rattle.gl_vm.specs.declared.vm.Vm.{Vm}
 use Rattle.gl_vm.proofs.States.{amended_is, with_node, node_made, node_put}

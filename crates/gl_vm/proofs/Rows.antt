@@ -1,23 +1,23 @@
 -- References as rows of the state, where one is made.
-use Rattle.std.proofs.Common.{◌≡◌, ◌≢◌, ℕ, zero, suc, ◌+◌, ◌<◌, Bool, true, false, cond, Option, Some, None, option_map, List, [], ◌∷◌, refl, sym, ap, ap₂, subst, ◌∙◌, inl, inr, arith}
+use Rattle.std.proofs.Common.{◌≡◌, ◌≢◌, ℕ, zero, suc, ◌<◌, Bool, true, false, Option, Some, None, option_map, List, [], refl, sym, ap, ap₂, subst, ◌∙◌, inl, inr, arith}
 use Rattle.std.specs.Prelude.{◌&&◌, ◌||◌, ◌==◌, unwrap_or}
 use Rattle.std.proofs.lemmas.Bool.{cases_eq}
 use Rattle.gl_arena.specs.Id.{Id}
-use Rattle.gl_arena.specs.Arena.{Arena, by_stamp, amended, IsStamped, IsOwn, Gives}
+use Rattle.gl_arena.specs.Arena.{by_stamp, amended, IsStamped}
 use Rattle.gl_arena.proofs.Stamps.{gives-sets, sets-is}
 use Rattle.gl_tags.specs.Tags as t
 use Rattle.gl_refs.specs.Forms as f
 use Rattle.gl_refs.specs.State as s
 use Rattle.gl_refs.specs.Refs.{Refs, Makes}
 use Rattle.gl_meaning.specs.Scope.{Source}
-use Rattle.gl_plain.specs.State.{any_of, Row}
+use Rattle.gl_plain.specs.State.{any_of}
 use Rattle.gl_plain.specs.Binding.{made_row}
-use Rattle.gl_vm.specs.Labels.{label, labelled}
+use Rattle.gl_vm.specs.Labels.{label}
 use Rattle.gl_vm.specs.Kept.{Kept, some_below, state_by}
-use Rattle.gl_vm.specs.View.{Tables, stamps, seen_form, form_led, is_led, led_by, last_led, last_of, seen_row, row_of, row_at, kept_of, state_of, AgreesAt, Agrees}
+use Rattle.gl_vm.specs.View.{Tables, stamps, seen_form, form_led, is_led, led_by, last_of, seen_row, row_of, row_at, kept_of, AgreesAt, Agrees}
 use Rattle.gl_vm.specs.Steps.{Does, Numbers}
 use Rattle.gl_vm.specs.declared.vm.Vm.{Vm}
-use Rattle.gl_vm.proofs.States.{test_yes, amended_here, amended_off, amended_is, with_row, row_made}
+use Rattle.gl_vm.proofs.States.{amended_here, amended_off, amended_is, with_row, row_made}
 
 pub below_same : (f g : ℕ → Bool) (n : ℕ) → ((k : ℕ) → k < n → f k ≡ g k) → some_below f n ≡ some_below g n
 below_same f g zero h = refl

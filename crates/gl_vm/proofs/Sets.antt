@@ -1,5 +1,5 @@
 -- Cells and items that get another value, and the beginning of a turn.
-use Rattle.std.proofs.Common.{◌≡◌, ◌≢◌, ℕ, zero, suc, ◌+◌, ◌<◌, ◌≤◌, Bool, true, false, cond, Option, Some, None, option_map, IsSome, is_some, List, [], ◌∷◌, refl, sym, ap, ap₂, subst, ◌∙◌, inl, inr, arith}
+use Rattle.std.proofs.Common.{◌≡◌, ◌≢◌, ℕ, ◌+◌, Bool, true, false, Option, Some, None, option_map, IsSome, is_some, List, [], refl, sym, ap, ap₂, subst, ◌∙◌, inl, inr}
 use Rattle.std.specs.Prelude.{◌&&◌, ◌||◌, ◌==◌, nat_eq, if◌then◌else◌}
 use Rattle.std.specs.Bool.{Decides}
 use Rattle.std.proofs.lemmas.Bool.{cases_eq}
@@ -7,8 +7,8 @@ use Rattle.std.proofs.lemmas.Bool.Decides.{Decides-eqb}
 use Rattle.gl_value.specs.Value.{Value, same}
 use Rattle.gl_value.proofs.Sameness.{same-Decides}
 use Rattle.gl_value.proofs.Owners.{same_leaves_owners}
-use Rattle.gl_arena.specs.Id.{Id, same_id}
-use Rattle.gl_arena.specs.Arena.{Arena, named, by_stamp, amended, IsStamped, IsOwn, with_value}
+use Rattle.gl_arena.specs.Id.{Id}
+use Rattle.gl_arena.specs.Arena.{Arena, by_stamp, amended, IsStamped, with_value}
 use Rattle.gl_arena.proofs.Values.{Writes, with_value-writes}
 use Rattle.gl_arena.proofs.Stamps.{sets-is, by_stamp-id, by_stamp-live, written-sets}
 use Rattle.gl_tags.specs.Tags as t
@@ -16,19 +16,18 @@ use Rattle.gl_refs.specs.Forms as f
 use Rattle.gl_refs.specs.State as s
 use Rattle.gl_refs.specs.Refs.{Refs, rows_of, forms_of, SetsValue, Holds}
 use Rattle.gl_meaning.specs.Scope.{Source}
-use Rattle.gl_meaning.specs.Path.{Path, at, path_eq}
+use Rattle.gl_meaning.specs.Path.{Path, path_eq}
 use Rattle.gl_meaning.proofs.Equal.{path_itself, path_means}
-use Rattle.gl_plain.specs.Ids.{ref}
-use Rattle.gl_plain.specs.State.{any_of, Row, row, State, source_eq, touch, held_value}
+use Rattle.gl_plain.specs.State.{any_of, row, State, source_eq, touch, held_value}
 use Rattle.gl_plain.specs.Renew.{give}
 use Rattle.gl_vm.specs.Labels.{owner_path, label, labelled}
-use Rattle.gl_vm.specs.Kept.{Kept, some_below, state_by}
-use Rattle.gl_vm.specs.View.{Tables, stamps, seen_form, form_led, is_led, led_by, last_led, last_of, seen_row, row_of, row_at, kept_of, state_of, AgreesAt, Agrees}
+use Rattle.gl_vm.specs.Kept.{Kept, state_by}
+use Rattle.gl_vm.specs.View.{Tables, stamps, seen_form, is_led, led_by, last_of, seen_row, row_of, row_at, kept_of, state_of, AgreesAt, Agrees}
 use Rattle.gl_vm.specs.Steps.{Does, Follows}
 use Rattle.gl_vm.specs.declared.vm.Vm.{Vm}
-use Rattle.gl_vm.proofs.States.{test_yes, test_no, amended_here, amended_off, amended_is, row_put}
-use Rattle.gl_vm.proofs.Rows.{none_not, some_same, last_none, below_same}
-use Rattle.gl_vm.proofs.Sources.{label_same, label_apart, value_stays, dirty_not_none, dirty_not_combined, last_combined, source_dirtyable}
+use Rattle.gl_vm.proofs.States.{test_yes, amended_here, amended_off, amended_is, row_put}
+use Rattle.gl_vm.proofs.Rows.{some_same, last_none, below_same}
+use Rattle.gl_vm.proofs.Sources.{label_same, label_apart, value_stays, dirty_not_combined, last_combined, source_dirtyable}
 
 -- One row is another, which is the same source if it is one.
 module _ (tags tags' : t.Tags) (rows : ℕ → Option s.Row) (made at_ : ℕ) (row' : s.Row)

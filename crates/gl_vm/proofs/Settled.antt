@@ -1,11 +1,10 @@
 -- What an evaluation changes in the state: the evaluated position alone.
-use Rattle.std.proofs.Common.{◌≡◌, ◌≢◌, ℕ, zero, suc, ◌+◌, ◌<◌, ◌≤◌, Bool, true, false, cond, Option, Some, None, option_map, IsSome, is_some, List, [], ◌∷◌, ◌++◌, map, flat_map, refl, sym, ap, ap₂, subst, ◌∙◌, inl, inr, ◌⊎◌, arith}
+use Rattle.std.proofs.Common.{◌≡◌, ◌≢◌, ℕ, zero, suc, Bool, true, false, Option, Some, None, option_map, IsSome, is_some, List, [], ◌∷◌, ◌++◌, map, refl, sym, ap, ap₂, subst, ◌∙◌, inl, inr}
 use Rattle.std.specs.Prelude.{◌&&◌, ◌||◌, ◌==◌, if◌then◌else◌}
 use Rattle.std.specs.List.{list_any}
-use Rattle.std.proofs.lemmas.Bool.{cases_eq}
 use Rattle.std.proofs.lemmas.List.{map-append}
 use Rattle.gl_arena.specs.Id.{Id, same_id}
-use Rattle.gl_arena.specs.Arena.{named, by_stamp, amended, IsStamped}
+use Rattle.gl_arena.specs.Arena.{by_stamp, amended, IsStamped}
 use Rattle.gl_arena.proofs.Stamps.{by_stamp-id, by_stamp-live}
 use Rattle.gl_tags.specs.Tags as t
 use Rattle.gl_refs.specs.Forms as f
@@ -13,17 +12,17 @@ use Rattle.gl_refs.specs.State as s
 use Rattle.gl_refs.specs.Refs.{Refs, rows_of, forms_of, meaning_of, Reads}
 use Rattle.gl_refs.proofs.Meanings.{each_read}
 use Rattle.gl_refs.proofs.Rows.{last_fresh}
-use Rattle.gl_meaning.specs.Scope.{Source, Pair, sources_of}
+use Rattle.gl_meaning.specs.Scope.{Source, sources_of}
 use Rattle.gl_plain.specs.Ids.{ref}
 use Rattle.gl_plain.specs.State.{any_of, Row, all_form, row, State, pair_of, note_evaluated, put_thing}
 use Rattle.gl_plain.specs.Renew.{spot_ids, spot_pairs, evaluate}
-use Rattle.gl_vm.specs.Labels.{label, labelled}
+use Rattle.gl_vm.specs.Labels.{label}
 use Rattle.gl_vm.specs.Kept.{Kept, some_below, state_by}
-use Rattle.gl_vm.specs.View.{Tables, stamps, seen_form, is_led, form_led, led_by, last_led, last_of, seen_row, row_of, row_at, holder, seen_pair, AllKnown, PositionsUnread, is_all, kept_of, state_of, AgreesAt, Agrees}
-use Rattle.gl_vm.specs.Steps.{Does, Follows}
+use Rattle.gl_vm.specs.View.{Tables, stamps, seen_form, is_led, form_led, led_by, last_led, last_of, seen_row, row_at, holder, AllKnown, PositionsUnread, is_all, kept_of, state_of, AgreesAt}
+use Rattle.gl_vm.specs.Steps.{Does}
 use Rattle.gl_vm.specs.declared.vm.Vm.{Vm}
 use Rattle.gl_vm.proofs.States.{amended_is, row_put}
-use Rattle.gl_vm.proofs.Rows.{none_not, some_same, last_none, below_same}
+use Rattle.gl_vm.proofs.Rows.{none_not, some_same, below_same}
 use Rattle.gl_vm.proofs.Sources.{value_stays, source_dirtyable}
 use Rattle.gl_vm.proofs.Values.{led-list, all-held, position-sources}
 

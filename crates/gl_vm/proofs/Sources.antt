@@ -1,29 +1,28 @@
 -- Cells and items as rows of the state: made, and given another value.
-use Rattle.std.proofs.Common.{◌≡◌, ◌≢◌, ℕ, zero, suc, ◌+◌, ◌<◌, Bool, true, false, cond, Option, Some, None, option_map, IsSome, List, [], ◌∷◌, refl, sym, ap, ap₂, subst, ◌∙◌, inl, inr, arith}
-use Rattle.std.specs.Prelude.{◌&&◌, ◌||◌, ◌==◌, not, nat_eq}
+use Rattle.std.proofs.Common.{◌≡◌, ◌≢◌, ℕ, suc, Bool, true, false, Option, Some, None, List, [], ◌∷◌, refl, sym, ap, ap₂, subst, ◌∙◌, inl, inr, arith}
+use Rattle.std.specs.Prelude.{◌&&◌, ◌||◌, ◌==◌, not}
 use Rattle.std.specs.List.{list_any}
 use Rattle.std.proofs.lemmas.Bool.{cases_eq}
 use Rattle.gl_arena.specs.Id.{Id, same_id}
-use Rattle.gl_arena.specs.Arena.{Arena, named, by_stamp, amended, IsStamped, IsOwn, Gives, with_value}
-use Rattle.gl_arena.proofs.Ids.{same_id-true, id_cases}
-use Rattle.gl_arena.proofs.Values.{Writes, with_value-writes}
-use Rattle.gl_arena.proofs.Stamps.{gives-sets, sets-is, by_stamp-id, by_stamp-live, written-sets}
+use Rattle.gl_arena.specs.Arena.{Arena, named, by_stamp, amended, IsStamped}
+use Rattle.gl_arena.proofs.Ids.{same_id-true}
+use Rattle.gl_arena.proofs.Stamps.{gives-sets, sets-is, by_stamp-id}
 use Rattle.gl_tags.specs.Tags as t
 use Rattle.gl_refs.specs.Forms as f
 use Rattle.gl_refs.specs.State as s
-use Rattle.gl_refs.specs.Refs.{Refs, rows_of, MakesSource, SetsValue}
+use Rattle.gl_refs.specs.Refs.{Refs, rows_of, MakesSource}
 use Rattle.gl_refs.proofs.Rows.{bound_fits, combined_is}
 use Rattle.gl_meaning.specs.Scope.{Source}
 use Rattle.gl_meaning.proofs.Equal.{path_itself}
 use Rattle.gl_meaning.specs.Path.{at}
-use Rattle.gl_plain.specs.State.{any_of, Row, source_eq, touch}
+use Rattle.gl_plain.specs.State.{any_of, source_eq}
 use Rattle.gl_vm.specs.Labels.{label, labelled}
-use Rattle.gl_vm.specs.Kept.{Kept, some_below, state_by}
-use Rattle.gl_vm.specs.View.{Tables, stamps, seen_form, form_led, is_led, led_by, last_led, last_of, seen_row, row_of, row_at, kept_of, state_of, AgreesAt, Agrees}
+use Rattle.gl_vm.specs.Kept.{Kept, state_by}
+use Rattle.gl_vm.specs.View.{Tables, stamps, seen_form, row_of, row_at, kept_of, AgreesAt, Agrees}
 use Rattle.gl_vm.specs.Steps.{Does, Numbers, made_source}
 use Rattle.gl_vm.specs.declared.vm.Vm.{Vm}
-use Rattle.gl_vm.proofs.States.{test_yes, num_no, amended_here, amended_off, amended_is, with_row, row_made, row_put}
-use Rattle.gl_vm.proofs.Rows.{rows_more, none_not, some_same, last_none, below_same}
+use Rattle.gl_vm.proofs.States.{test_yes, num_no, amended_here, amended_off, with_row, row_made}
+use Rattle.gl_vm.proofs.Rows.{rows_more, some_same}
 
 -- Labels
 

@@ -1,6 +1,6 @@
 -- Steps of the state, by what is kept.
-use Rattle.std.proofs.Common.{◌≡◌, ◌≢◌, ℕ, suc, Bool, true, false, cond, Option, Some, None, option_map, List, [], ◌∷◌, refl, sym, ap, ◌∙◌, inl, inr, arith, Result, Ok, Err, OnOk, IfOk}
-use Rattle.std.specs.Prelude.{◌==◌, nat_eq, ◌++◌}
+use Rattle.std.proofs.Common.{◌≡◌, ◌≢◌, ℕ, suc, Bool, true, false, cond, Option, Some, None, option_map, refl, sym, ap, ◌∙◌, inl, inr, arith, Result, Ok, Err, OnOk, IfOk}
+use Rattle.std.specs.Prelude.{◌==◌, nat_eq}
 use Rattle.std.proofs.lemmas.Bool.{cases_eq}
 use Rattle.gl_arena.specs.Arena.{amended}
 use Rattle.gl_meaning.specs.Scope.{Source}

@@ -1,5 +1,5 @@
 -- Instances, blocks and modifiers as rows of the state.
-use Rattle.std.proofs.Common.{◌≡◌, ◌≢◌, ℕ, zero, suc, ◌+◌, Bool, true, false, Option, Some, None, option_map, IsSome, List, [], ◌∷◌, ◌++◌, map, refl, sym, ap, ap₂, subst, ◌∙◌, arith}
+use Rattle.std.proofs.Common.{◌≡◌, ℕ, suc, ◌+◌, true, false, Option, Some, None, option_map, IsSome, [], ◌∷◌, ◌++◌, refl, sym, ap, subst, ◌∙◌, arith}
 use Rattle.std.proofs.lemmas.List.{map-append}
 use Rattle.gl_arena.specs.Id.{Id}
 use Rattle.gl_arena.specs.Arena.{Arena, named, by_stamp, amended, IsStamped, IsOwn, Sets, Gives}
@@ -10,7 +10,7 @@ use Rattle.gl_plain.specs.Ids.{an_instance, a_block, a_modifier, modifier_id}
 use Rattle.gl_plain.specs.State.{Installed, instance_row, block_row, modifier_row, make, put_thing, note_installed, note_updated}
 use Rattle.gl_vm.specs.Labels.{all_labelled, names_labelled}
 use Rattle.gl_vm.specs.Kept.{Kept, state_by}
-use Rattle.gl_vm.specs.View.{Tables, stamps, seen_instance, seen_modifier, kept_of}
+use Rattle.gl_vm.specs.View.{stamps, seen_instance, seen_modifier, kept_of}
 use Rattle.gl_vm.specs.Steps.{Does, Follows, Numbers, given_args, put_args}
 use Rattle.gl_vm.specs.declared.vm.Vm.{Vm}
 use Rattle.gl_vm.specs.declared.vm.Instance.{Instance}

@@ -1,25 +1,25 @@
 -- What references mean, read from the state.
-use Rattle.std.proofs.Common.{◌≡◌, ◌≢◌, ℕ, zero, suc, ◌+◌, ◌<◌, ◌≤◌, Bool, true, false, cond, Option, Some, None, option_map, IsSome, is_some, List, [], ◌∷◌, ◌++◌, map, flat_map, refl, sym, ap, ap₂, subst, ◌∙◌, inl, inr, arith}
+use Rattle.std.proofs.Common.{◌≡◌, ◌≢◌, ℕ, zero, suc, ◌<◌, Bool, true, false, Option, Some, None, option_map, IsSome, is_some, List, [], ◌∷◌, ◌++◌, map, flat_map, refl, sym, ap, ap₂, subst, ◌∙◌, inl, inr, arith}
 use Rattle.std.specs.Prelude.{◌&&◌, ◌||◌, if◌then◌else◌}
 use Rattle.std.specs.List.{list_any}
 use Rattle.std.proofs.lemmas.Bool.{cases_eq}
 use Rattle.gl_arena.specs.Id.{Id, same_id}
-use Rattle.gl_arena.specs.Arena.{named, by_stamp, IsStamped}
+use Rattle.gl_arena.specs.Arena.{by_stamp, IsStamped}
 use Rattle.gl_arena.proofs.Ids.{same_id-true, same_id-refl}
 use Rattle.gl_arena.proofs.Stamps.{by_stamp-id, by_stamp-live}
 use Rattle.gl_refs.specs.Forms as f
 use Rattle.gl_refs.specs.State as s
-use Rattle.gl_refs.specs.Refs.{Refs, rows_of, forms_of, meaning_of}
+use Rattle.gl_refs.specs.Refs.{Refs, rows_of, forms_of}
 use Rattle.gl_refs.proofs.Meanings.{meaning_is, below_is, each_map, each_append, each_read}
-use Rattle.gl_meaning.specs.Scope.{Source, Pair, sources_of}
+use Rattle.gl_meaning.specs.Scope.{Source, sources_of}
 use Rattle.gl_plain.specs.Ids.{Id as Name, ref}
 use Rattle.gl_plain.specs.State.{any_of, row, Thing, pair_of, thing_pair}
 use Rattle.gl_plain.specs.Stands.{below}
 use Rattle.gl_plain.proofs.Pairs.{below_at, pair_law}
-use Rattle.gl_vm.specs.Labels.{label, labelled}
+use Rattle.gl_vm.specs.Labels.{label}
 use Rattle.gl_vm.specs.Kept.{some_below}
-use Rattle.gl_vm.specs.View.{stamps, is_led, form_led, led_by, seen_row, row_at, holder, seen_pair, is_known, AllKnown}
-use Rattle.gl_vm.proofs.Rows.{none_not, some_same, below_same}
+use Rattle.gl_vm.specs.View.{stamps, is_led, form_led, led_by, seen_row, row_at, holder, seen_pair, AllKnown}
+use Rattle.gl_vm.proofs.Rows.{below_same}
 use Rattle.gl_vm.proofs.Means.{form-means, sources-are}
 
 led_none : (o : Option s.Row) → is_led [] o ≡ false

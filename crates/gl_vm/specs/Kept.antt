@@ -1,7 +1,7 @@
 -- What is kept, by kind and number, and the state that it is.
-use Rattle.std.specs.Prelude.{ℕ, zero, suc, List, Bool, true, false, ◌||◌, if◌then◌else◌, Option, Some, None, option_map}
+use Rattle.std.specs.Prelude.{ℕ, zero, suc, List, Bool, false, ◌||◌, Option, option_map}
 use Rattle.gl_meaning.specs.Scope.{Source}
-use Rattle.gl_plain.specs.Ids.{Kind, a_ref, a_node, an_instance, a_block, a_modifier, Id}
+use Rattle.gl_plain.specs.Ids.{Kind, a_ref, a_node, an_instance, a_block, a_modifier}
 use Rattle.gl_plain.specs.State.{Row, row, Content, content, Inst, instance_row, block_row, Installed, modifier_row, Thing, State}
 
 -- What each number names, the number of the next of each kind, and the lists of the turn. A block has no more than that it lives.

@@ -5,13 +5,12 @@ use Rattle.gl_base.specs.Texts.{Text}
 use Rattle.gl_base.specs.Names.{at_place}
 use Rattle.gl_value.specs.Helpers.{helper_table, helper_numbered}
 use Rattle.gl_arena.specs.Id.{Id, same_id}
-use Rattle.gl_arena.specs.Arena.{Arena, by_stamp}
+use Rattle.gl_arena.specs.Arena.{by_stamp}
 use Rattle.gl_tags.specs.Tags as t
 use Rattle.gl_refs.specs.Forms as f
 use Rattle.gl_refs.specs.State as s
 use Rattle.gl_refs.specs.Refs.{Refs, forms_of}
 use Rattle.gl_nodes.specs.Node as n
-use Rattle.gl_nodes.specs.Tree.{Tree}
 use Rattle.gl_nodes.specs.Flat.{node_by}
 use Rattle.gl_mods.specs.Mods as m
 use Rattle.gl_meaning.specs.Scope.{Source, Pair}

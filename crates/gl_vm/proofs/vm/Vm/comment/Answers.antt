@@ -1,4 +1,3 @@
-use Rattle.std.specs.Prelude.{[]}
 use Rattle.std.specs.Str.{chars}
 use Rattle.gl_arena.proofs.Stamps.{on_if}
 use Rattle.gl_nodes.specs.Node as n

@@ -1,4 +1,3 @@
-use Rattle.gl_arena.proofs.Stamps.{on_if}
 use Rattle.gl_vm.proofs.States.{both_if}
 use Rattle.gl_vm.proofs.ThingSteps.{inst_step, inst_numbers}
 use Rattle.gl_vm.proofs.vm.Vm.instance.Goals as goal

@@ -1,4 +1,4 @@
-use Rattle.std.proofs.Common.{true, false}
+use Rattle.std.proofs.Common.{true}
 use Rattle.gl_value.specs.View.{view}
 use Rattle.gl_arena.proofs.Stamps.{on_if}
 use Rattle.gl_vm.proofs.Sources.{source_step, source_numbers}

@@ -1,8 +1,7 @@
-use Rattle.std.specs.Prelude.{option_map}
 use Rattle.std.specs.Str.{chars}
 use Rattle.gl_nodes.specs.Node as n
 use Rattle.gl_vm.proofs.States.{on_ok}
-use Rattle.gl_vm.proofs.NodeSteps.{told_step, attr_step}
+use Rattle.gl_vm.proofs.NodeSteps.{told_step}
 use Rattle.gl_vm.proofs.vm.Vm.set_text.Goals as goal
 
 pub returns-clause-step : goal.returns-clause-step
