@@ -56,8 +56,8 @@ unlogged count st = record {
 }
 
 -- A number is told as a path of one step. A source that was made counts as touched, as its tag has the revision of this turn; a modifier
--- that goes is in no list any more. Neither can be seen in what a turn does: no position that was there reads a new source, and what is
--- installed or updated in a turn doesn't go in it.
+-- that goes is in no list any more. Neither is to be seen in what a turn does, which is not proved yet: no position that was there reads a
+-- new source, and what is installed or updated in a turn doesn't go in it.
 abbrev pub by_number : Naming
 by_number = record {
   owner = λ i. at i.id ∷ [];
