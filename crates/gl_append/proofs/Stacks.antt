@@ -1,0 +1,16 @@
+-- The stack, as what it stands for.
+use Rattle.std.proofs.Common.{◌≡◌, ℕ, ◌-◌, List, [], ◌∷◌, ◌++◌, map, take, drop, length, Some, refl, sym, ◌∙◌, ap}
+use Rattle.std.proofs.lemmas.List.{map-append, take-map, drop-map, length-map}
+use Rattle.gl_machine.specs.Step.{popped, lower, upper}
+use Rattle.gl_machine.proofs.Stacks.{popped-last}
+use Rattle.gl_append.specs.MachineView.{seen_pushed, seen_stack}
+use Rattle.gl_append.specs.declared.machine.Pushed.{Pushed}
+
+pub popped_from : {A B : Type 0} (f : A → B) (xs ys : List A) (x : A) → xs ≡ ys ++ x ∷ [] → popped (map f xs) ≡ Some (map f ys, f x)
+popped_from f xs ys x e = ap (λ zs. popped (map f zs)) e ∙ (ap popped (map-append f ys (x ∷ [])) ∙ popped-last (map f ys) (f x))
+
+pub lower_of : (n : ℕ) (xs ys : List Pushed) → ys ≡ take (length xs - n) xs → seen_stack ys ≡ lower n (seen_stack xs)
+lower_of n xs ys e = ap seen_stack e ∙ (sym (take-map seen_pushed (length xs - n) xs) ∙ ap (λ k. take (k - n) (seen_stack xs)) (sym (length-map xs seen_pushed)))
+
+pub upper_of : (n : ℕ) (xs ys : List Pushed) → ys ≡ drop (length xs - n) xs → seen_stack ys ≡ upper n (seen_stack xs)
+upper_of n xs ys e = ap seen_stack e ∙ (sym (drop-map seen_pushed (length xs - n) xs) ∙ ap (λ k. drop (k - n) (seen_stack xs)) (sym (length-map xs seen_pushed)))

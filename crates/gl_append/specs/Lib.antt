@@ -1,0 +1,4 @@
+pub mod View
+pub mod CodeView
+pub mod MachineView
+pub mod Steps

@@ -1,0 +1,138 @@
+// The updating program: what was rendered, nested as it was rendered.
+use crate::sight::{Owner, Sight};
+use gl_arena::{BlockId, ModId};
+use gl_nodes::NodeId;
+use gl_refs::{Ids, RefId};
+use gl_scope::Args;
+use gl_value::{Text, Texts, Value};
+use std::rc::Rc;
+
+/// A position, with the references that were made for it.
+#[derive(Drop)]
+pub struct Spot {
+    pub id: RefId,
+    pub made: Ids,
+}
+
+/// An attribute that takes a live value.
+#[derive(Drop)]
+pub struct AttrSpot {
+    pub name: Text,
+    pub spot: Spot,
+}
+
+/// A modifier, with how many of its arguments are positional, and the names of the others.
+#[derive(Drop)]
+pub struct ModSpot {
+    pub id: ModId,
+    pub positional: usize,
+    pub names: Texts,
+    pub spot: Spot,
+}
+
+/// An item of an `each`: its key with its occurrence, the references of its value and its index, and those of its
+/// parameters.
+#[derive(Drop)]
+pub struct ItemSpot {
+    pub key: Value,
+    pub occurrence: u64,
+    pub value: RefId,
+    pub index: RefId,
+    pub params: Ids,
+}
+
+/// The two bodies of an `if` or `unless`, by the addresses of their first words, and what is seen there.
+#[derive(Drop)]
+pub struct Choice {
+    pub unless: bool,
+    pub first: u32,
+    pub second: u32,
+    pub sight: Sight,
+}
+
+/// The bodies of an `each`, by the addresses of their first words, its key, the operands of its Item, and what is seen
+/// there.
+#[derive(Drop)]
+pub struct Listing {
+    pub key: Text,
+    pub value: u32,
+    pub index: u32,
+    pub body: u32,
+    pub other: u32,
+    pub sight: Sight,
+}
+
+/// What was rendered of a statement.
+#[cycle(code)]
+#[derive(Drop)]
+pub enum Code {
+    /// A text or a comment of the template.
+    Still { node: NodeId },
+    /// A text mustache.
+    Put { node: NodeId, spot: Spot },
+    Element {
+        node: NodeId,
+        made: Ids,
+        attrs: Vec<AttrSpot>,
+        mods: Vec<ModSpot>,
+        body: Codes,
+    },
+    /// An `if` or `unless`, with whether its main body is shown, and the comment where that has no node.
+    Branch {
+        choice: Choice,
+        spot: Spot,
+        main: bool,
+        comment: Option<NodeId>,
+        body: Codes,
+    },
+    /// An `each` with items.
+    Listed {
+        listing: Listing,
+        spot: Spot,
+        items: Vec<ItemCode>,
+    },
+    /// An `each` without.
+    Unlisted {
+        listing: Listing,
+        spot: Spot,
+        comment: Option<NodeId>,
+        body: Codes,
+    },
+    Let {
+        made: Ids,
+        params: Ids,
+        body: Codes,
+    },
+    /// A component: the instance, what was passed to it, and the references that were made for its arguments and parts.
+    Component {
+        owner: Rc<Owner>,
+        block: BlockId,
+        made: Ids,
+        args: Rc<Args>,
+        body: Codes,
+    },
+    /// The root.
+    Root { owner: Rc<Owner>, body: Codes },
+    Yield {
+        name: Text,
+        made: Ids,
+        params: Ids,
+        body: Codes,
+    },
+}
+
+/// An item that was rendered, with the comment where it has no node.
+#[cycle(code)]
+#[derive(Drop)]
+pub struct ItemCode {
+    pub spot: ItemSpot,
+    pub comment: Option<NodeId>,
+    pub body: Codes,
+}
+
+/// What was rendered of a body.
+#[cycle(code)]
+#[derive(Drop)]
+pub struct Codes {
+    pub list: Vec<Code>,
+}

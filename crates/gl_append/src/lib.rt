@@ -1,0 +1,12 @@
+//! Appends an application.
+#![tactic(auto)]
+
+mod code;
+mod exprs;
+mod machine;
+mod sight;
+mod stack;
+
+pub use code::{AttrSpot, Choice, Code, Codes, ItemCode, ItemSpot, Listing, ModSpot, Spot};
+pub use machine::{Back, Entry, Frame, Here, Item, Kind, Machine, Making, Pushed, Waiting};
+pub use sight::{Level, Link, Owner, Sight, Slot};

@@ -1,0 +1,91 @@
+// What is seen from a place of a program.
+ghost use Rattle.std.specs.Prelude.{◌≡◌, IfOk, option_map};
+ghost use Rattle.std.specs.Str.{chars};
+ghost use Rattle.gl_base.specs.Names.{named};
+ghost use Rattle.gl_machine.specs.Step.{last_symbol};
+ghost use Rattle.gl_append.specs.View.{seen_level, seen_sight, shared};
+
+use gl_arena::{BlockId, Id, InstMark};
+use gl_meaning::Path;
+use gl_refs::{Ids, RefId};
+use gl_scope::{Args, Locals};
+use gl_value::Text;
+use std::alloc::{AllocError, Global};
+use std::rc::Rc;
+
+/// An instance as those see it in whose scope it is: its id, the number of its class, its path, and the references of
+/// its fields in the order of the class.
+#[derive(Drop)]
+pub struct Owner {
+    pub id: Id<InstMark>,
+    pub class: u16,
+    pub path: Path,
+    pub cells: Ids,
+}
+
+/// What a template sees of its own: the instance, its arguments, and the parameters of the blocks round a place.
+#[derive(Drop)]
+pub struct Level {
+    pub owner: Rc<Owner>,
+    pub args: Rc<Args>,
+    pub locals: Locals,
+}
+
+/// A block that a component is passed: its name and the address of its first word.
+#[derive(Drop)]
+pub struct Slot {
+    pub name: Text,
+    pub start: u32,
+}
+
+/// What a component was passed: its id, the address of the first word of its parts, its blocks, and what the template
+/// that wrote them sees of its own.
+#[derive(Drop)]
+pub struct Link {
+    pub block: BlockId,
+    pub parts: u32,
+    pub slots: Vec<Slot>,
+    pub level: Level,
+}
+
+/// What is seen from a place of a program. What was passed to the writer of what was passed stands after it.
+#[derive(Drop)]
+pub struct Sight {
+    pub level: Level,
+    pub chain: Vec<Rc<Link>>,
+}
+
+impl Level {
+    pub fn copy(&self) -> Result<Level, AllocError>
+        ensures { IfOk result (λ r. (n : _) (w : _) → seen_level n r w ≡ seen_level n self.now w) }
+    {
+        Ok(Level {
+            owner: Rc::clone(&self.owner)?,
+            args: Rc::clone(&self.args)?,
+            locals: self.locals.copy()?,
+        })
+    }
+}
+
+impl Sight {
+    pub fn copy(&self) -> Result<Sight, AllocError>
+        ensures { IfOk result (λ r. (n : _) → seen_sight n r ≡ seen_sight n self.now) }
+    {
+        let alloc = *self.chain.allocator();
+        Ok(Sight {
+            level: self.level.copy()?,
+            chain: copied(alloc, self.chain.as_slice())?,
+        })
+    }
+}
+
+/// The same chain.
+pub fn copied(alloc: Global, chain: &[Rc<Link>]) -> Result<Vec<Rc<Link>>, AllocError>
+    ensures { IfOk result (λ r. shared r.items ≡ shared chain.now) }
+{
+    let mut list = Vec::new(alloc);
+    for link in chain {
+        list.push(Rc::clone(link)?)?;
+    }
+    Ok(list)
+}
