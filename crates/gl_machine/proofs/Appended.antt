@@ -8,6 +8,7 @@ use Rattle.gl_meaning.specs.Eval.{Store}
 use Rattle.gl_meaning.specs.Render.{fits}
 use Rattle.gl_plain.specs.Ids.{a_ref, Id}
 use Rattle.gl_plain.specs.State.{MScope, mscope, State}
+use Rattle.gl_plain.specs.Naming.{by_path}
 use Rattle.gl_plain.specs.Live.{Lives, are_deep, times_in}
 use Rattle.gl_plain.specs.Drawn.{drawn_in}
 use Rattle.gl_plain.specs.Grow.{grow_components, grow_yields}
@@ -70,4 +71,4 @@ grown app τ m low s (mscope i a l v) p b st le here =
 
 pub words_stand : WordsStand
 words_stand env store lowered c ms w fits from b there p m st low s le here n =
-    answers env.app store m low s ms p b st le here _ _ (fresh_body env.app store m ms p b st) (grown env.app store m low s ms p b st le here) (words_append env store lowered n c ms w fits from b there p m st)
+    answers env.app store m low s ms p b st le here _ _ (fresh_body env.app store m ms p b st) (grown env.app store m low s ms p b st le here) (words_append by_path env store lowered n c ms w fits from b there p m st)

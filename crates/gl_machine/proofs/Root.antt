@@ -9,17 +9,18 @@ use Rattle.gl_opc.specs.Numbers.{class_number, keys}
 use Rattle.gl_opc.specs.Spans.{BodyAt}
 use Rattle.gl_plain.specs.Ids.{an_instance, instance_id}
 use Rattle.gl_plain.specs.State.{Inst, MScope, mscope, mnothing, instance_row, State, make}
+use Rattle.gl_plain.specs.Naming.{Naming}
 use Rattle.gl_plain.specs.Live.{component_live, is_deep, are_deep}
-use Rattle.gl_plain.specs.Grow.{grow_cells, grow_components}
-use Rattle.gl_plain.specs.Renew.{fresh_body}
+use Rattle.gl_plain.specs.Grow.{grow_cells_as, grow_components_as}
+use Rattle.gl_plain.specs.Renew.{fresh_body_as}
 use Rattle.gl_machine.specs.Sight.{sight, not_passed}
 use Rattle.gl_machine.specs.Code.{Code, component_code, live_of, lives_of}
 use Rattle.gl_machine.specs.Outcome.{Outcome, ok, on_ok, Ends}
 use Rattle.gl_machine.specs.RenewCode.{Runs, start}
 use Rattle.gl_machine.specs.Params.{HasParamsIn}
 use Rattle.gl_machine.specs.Env.{Env, class_no, program_no, symbols_at}
-use Rattle.gl_machine.specs.Placed.{Fits, BodyThere, PlacedIn, Follows, RunsRight, RunsEnd}
-use Rattle.gl_machine.specs.Root.{PlacedRoot, append_page}
+use Rattle.gl_machine.specs.Placed.{Fits, BodyThere, PlacedIn, Follows, RunsRight_as, RunsEnd}
+use Rattle.gl_machine.specs.Root.{PlacedRoot, append_page_as}
 use Rattle.gl_machine.proofs.Following.{follow_on}
 use Rattle.gl_machine.proofs.Sound.{Sound}
 use Rattle.gl_machine.proofs.Symbols.{known_none}
@@ -27,7 +28,7 @@ use Rattle.gl_machine.proofs.Layers.{cells_named}
 use Rattle.gl_machine.proofs.Ending.{ends_deep, ends_on}
 
 -- where the root's class begins
-module _ (env : Env) (store : Store) (sound : Sound env) (q : ℕ) (number : class_number env.manifest env.app.root ≡ Some q) (st : State) where
+module _ (naming : Naming) (env : Env) (store : Store) (sound : Sound env) (q : ℕ) (number : class_number env.manifest env.app.root ≡ Some q) (st : State) where
   abbrev fs : List (Text × Plain)
   fs = (class_named env.app.root env.app.classes).fields
 
@@ -35,7 +36,7 @@ module _ (env : Env) (store : Store) (sound : Sound env) (q : ℕ) (number : cla
   same_fields = ap (λ k. k.fields) (sound.classes env.app.root q number).class
 
   abbrev root_inst : List (Text × Plain) → Inst
-  root_inst fs = let c = grow_cells env.app store [] fs st in record { id = c.state.next an_instance; path = []; cells = c.names }
+  root_inst fs = let c = grow_cells_as naming env.app store [] fs st in record { id = c.state.next an_instance; path = []; cells = c.names }
 
   abbrev ms : MScope
   ms = mscope (root_inst fs) [] [] mnothing
@@ -46,7 +47,7 @@ module _ (env : Env) (store : Store) (sound : Sound env) (q : ℕ) (number : cla
   root_fits : Fits env q ms not_passed
   root_fits = record {
     known = known_none (symbols_at env q);
-    is = record { cells = cells_named env store [] fs st ∙ ap keys same_fields; class = (sound.classes env.app.root q number).class };
+    is = record { cells = cells_named naming env store [] fs st ∙ ap keys same_fields; class = (sound.classes env.app.root q number).class };
     passes = refl;
   }
 
@@ -65,27 +66,27 @@ module _ (env : Env) (store : Store) (sound : Sound env) (q : ℕ) (number : cla
 
   abbrev from_root : Runs → ℕ → List (Text × Plain) → Outcome (Code × State)
   from_root run m fs' =
-      let c = grow_cells env.app store [] fs' st in
+      let c = grow_cells_as naming env.app store [] fs' st in
       let i = root_inst fs' in
       on_ok (run (start (sight q i [] [] not_passed) 0 [] m) (make an_instance (instance_row i) c.state)) (λ r. ok (component_code i (instance_id i.id ∷ ([] ++ c.made)) [] [] None r.0, r.1))
 
-  pub page_grows : (run : Runs) → RunsRight env store run → (m : ℕ)
-      → Follows (PlacedRoot env) live_of is_deep (append_page m env store run q st) (grow_components m env.app store [] [] [] None mnothing st)
+  pub page_grows : (run : Runs) → RunsRight_as naming env store run → (m : ℕ)
+      → Follows (PlacedRoot env) live_of is_deep (append_page_as naming m env store run q st) (grow_components_as naming m env.app store [] [] [] None mnothing st)
   page_grows run runs zero = refl
   page_grows run runs (suc m) =
-      let c = grow_cells env.app store [] fs st in
+      let c = grow_cells_as naming env.app store [] fs st in
       let i = root_inst fs in
       let st1 = make an_instance (instance_row i) c.state in
-      subst (λ fs'. Follows (PlacedRoot env) live_of is_deep (from_root run m fs') (grow_components (suc m) env.app store [] [] [] None mnothing st)) same_fields
+      subst (λ fs'. Follows (PlacedRoot env) live_of is_deep (from_root run m fs') (grow_components_as naming (suc m) env.app store [] [] [] None mnothing st)) same_fields
       (follow_on (PlacedIn env q ms not_passed [] 0 template) lives_of are_deep (PlacedRoot env) live_of is_deep
-      (run (start (sight q i [] [] not_passed) 0 [] m) st1) (fresh_body env.app store m ms [] template st1)
+      (run (start (sight q i [] [] not_passed) 0 [] m) st1) (fresh_body_as naming env.app store m ms [] template st1)
       (λ r. ok (component_code i (instance_id i.id ∷ ([] ++ c.made)) [] [] None r.0, r.1)) (λ r. (component_live i (instance_id i.id ∷ ([] ++ c.made)) [] [] None r.0, r.1))
       (runs q ms not_passed root_fits 0 template root_there [] m st1) (λ r d. d) (λ r fine placed. (refl, fine, (q, placed))))
 
-  pub page_ends : (run : ℕ → Runs) → RunsEnd env store run → (m : ℕ) → Ends (λ n. append_page m env store (run n) q st)
+  pub page_ends : (run : ℕ → Runs) → RunsEnd env store run → (m : ℕ) → Ends (λ n. append_page_as naming m env store (run n) q st)
   page_ends run runs zero = ends_deep
   page_ends run runs (suc m) =
-      let c = grow_cells env.app store [] fs st in
+      let c = grow_cells_as naming env.app store [] fs st in
       let i = root_inst fs in
       let st1 = make an_instance (instance_row i) c.state in
       subst (λ fs'. Ends (λ n. from_root (run n) m fs')) same_fields

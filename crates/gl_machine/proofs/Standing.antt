@@ -2,6 +2,7 @@
 use Rattle.std.proofs.Common.{not, sym, ◌∙◌, ap, subst}
 use Rattle.gl_meaning.specs.Eval.{Store}
 use Rattle.gl_plain.specs.State.{State}
+use Rattle.gl_plain.specs.Naming.{by_path}
 use Rattle.gl_plain.specs.Live.{Live, is_deep}
 use Rattle.gl_plain.specs.Grow.{grow_app}
 use Rattle.gl_plain.specs.Renew.{renew_app}
@@ -23,8 +24,8 @@ answers env store (ok x) r h (is, fine, placed) =
     (placed, subst P (sym is) h, deep_is_deep env.app store r.1 r.0 h ∙ ap not fine)
 
 pub page_stands : PageStands
-page_stands env store lowered n q number st = answers env store _ (grow_app env.app store st) (appended_stands env.app store st) (page_appends env store lowered n q number st)
+page_stands env store lowered n q number st = answers env store _ (grow_app env.app store st) (appended_stands env.app store st) (page_appends by_path env store lowered n q number st)
 
 pub page_updates : PageUpdates
 page_updates env σ τ lowered n k st placed stands touched =
-    answers env τ _ (renew_app env.app τ (live_of k) st) (updated_stands env.app σ τ st (live_of k) stands touched) (page_is_renewed env τ lowered n k st placed)
+    answers env τ _ (renew_app env.app τ (live_of k) st) (updated_stands env.app σ τ st (live_of k) stands touched) (page_is_renewed by_path env τ lowered n k st placed)

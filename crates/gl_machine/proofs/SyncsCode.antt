@@ -7,24 +7,24 @@ use Rattle.gl_base.specs.Texts.{Text}
 use Rattle.gl_value.specs.Value.{same, count_value}
 use Rattle.gl_ast.specs.Template.{Body}
 use Rattle.gl_meaning.specs.Path.{item, Path, no_owners}
-use Rattle.gl_meaning.specs.Scope.{item_value, item_index}
 use Rattle.gl_meaning.specs.Eval.{Store}
 use Rattle.gl_meaning.specs.Render.{Entry}
 use Rattle.gl_meaning.proofs.Equal.{same_means, no_owners-Decides, both_left, both_right}
 use Rattle.gl_plain.specs.Ids.{a_node, Id, occurs}
-use Rattle.gl_plain.specs.State.{MScope, named_as, with_names, comment_content, State, dropped}
+use Rattle.gl_plain.specs.State.{MScope, named_as, with_names, comment_content, State}
+use Rattle.gl_plain.specs.Naming.{Naming, dropped_as}
 use Rattle.gl_plain.specs.Live.{ItemSpot, item_made, Items, no_items, item_live, Lives, have_node, are_deep, items_deep, times_in, times_comment}
 use Rattle.gl_plain.specs.Grow.{made_node, Arm, or_comment, ItemGrown, grow_entries}
-use Rattle.gl_plain.specs.Renew.{give, Handle, times_handles, with_front, taken, renew_item, sync_one, sync, renew_body}
+use Rattle.gl_plain.specs.Renew.{give, Handle, times_handles, with_front, taken, renew_item_as, sync_one_as, sync_as, renew_body_as}
 use Rattle.gl_machine.specs.Sight.{Passing}
 use Rattle.gl_machine.specs.Code.{ItemCodes, no_item_codes, items_of, Codes, lives_of}
 use Rattle.gl_machine.specs.Outcome.{Outcome, ok, deep, lost, on_ok}
-use Rattle.gl_machine.specs.RenewCode.{Runs, CodeArm, commented, kept, ItemDone, item_done, CodeHandle, times_code_handles, with_code_front, taken_code, renew_item_code, with_left, sync_one_code, item_with, sync_codes, fresh_codes, renew_codes}
+use Rattle.gl_machine.specs.RenewCode.{Runs, CodeArm, commented, kept, ItemDone, item_done, CodeHandle, times_code_handles, with_code_front, taken_code, renew_item_code_as, with_left, sync_one_code_as, item_with, sync_codes_as, fresh_codes, renew_codes_as}
 use Rattle.gl_machine.specs.Env.{Env}
-use Rattle.gl_machine.specs.Placed.{PlacedIn, PlacedItems, Follows, FollowsIn, RunsRight}
+use Rattle.gl_machine.specs.Placed.{PlacedIn, PlacedItems, Follows, FollowsIn, RunsRight_as}
 use Rattle.gl_machine.proofs.Following.{either, or_first, or_second, or_none}
 
-module _ (env : Env) (store : Store) (run : Runs) (runs : RunsRight env store run)
+module _ (naming : Naming) (env : Env) (store : Store) (run : Runs) (runs : RunsRight_as naming env store run)
     (m c : ℕ) (ms : MScope) (w : Passing) (pp : Path) (ns : List Text) (a : Body) where
   abbrev pub inner : ItemSpot → MScope
   inner s = with_names (named_as ns s.params) ms
@@ -60,14 +60,14 @@ module _ (env : Env) (store : Store) (run : Runs) (runs : RunsRight env store ru
     pub spot : ItemSpot
     pub comment : Option ℕ
     pub codes : Codes
-    pub goes : (st : State) → FollowsIn (PlacedItem spot) (renew_codes run m (item spot.key spot.occurrence ∷ pp) 0 codes st)
-        (renew_body env.app store m (inner spot) (item spot.key spot.occurrence ∷ pp) 0 a (lives_of codes) st)
+    pub goes : (st : State) → FollowsIn (PlacedItem spot) (renew_codes_as naming run m (item spot.key spot.occurrence ∷ pp) 0 codes st)
+        (renew_body_as naming env.app store m (inner spot) (item spot.key spot.occurrence ∷ pp) 0 a (lives_of codes) st)
 
   abbrev pub code_of : Elem → CodeHandle
-  code_of h = record { spot = h.spot; comment = h.comment; codes = h.codes; go = λ q st. renew_codes run m q 0 h.codes st }
+  code_of h = record { spot = h.spot; comment = h.comment; codes = h.codes; go = λ q st. renew_codes_as naming run m q 0 h.codes st }
 
   abbrev pub tree_of : Elem → Handle
-  tree_of h = record { spot = h.spot; comment = h.comment; lives = lives_of h.codes; go = λ ms' q st. renew_body env.app store m ms' q 0 a (lives_of h.codes) st }
+  tree_of h = record { spot = h.spot; comment = h.comment; lives = lives_of h.codes; go = λ ms' q st. renew_body_as naming env.app store m ms' q 0 a (lives_of h.codes) st }
 
   abbrev is_elem : Entry → Elem → Bool
   is_elem x h = same no_owners x.key h.spot.key && nat_eq x.occurrence h.spot.occurrence
@@ -142,12 +142,12 @@ module _ (env : Env) (store : Store) (run : Runs) (runs : RunsRight env store ru
       ∙ ap (item h.spot.key) (eqb-true x.occurrence h.spot.occurrence (both_right (same no_owners x.key h.spot.key) (nat_eq x.occurrence h.spot.occurrence) e)))
 
   renew_follows : (x : Entry) (h : Elem) (st : State) → is_elem x h ≡ true
-      → FollowsItem (renew_item_code (item x.key x.occurrence ∷ pp) x (code_of h) st) (renew_item ns ms (item x.key x.occurrence ∷ pp) x (tree_of h) st)
+      → FollowsItem (renew_item_code_as naming (item x.key x.occurrence ∷ pp) x (code_of h) st) (renew_item_as naming ns ms (item x.key x.occurrence ∷ pp) x (tree_of h) st)
   renew_follows x h st e =
-      subst (λ y. FollowsItem (renew_item_code (y ∷ pp) x (code_of h) st) (renew_item ns ms (y ∷ pp) x (tree_of h) st)) (same_path x h e)
+      subst (λ y. FollowsItem (renew_item_code_as naming (y ∷ pp) x (code_of h) st) (renew_item_as naming ns ms (y ∷ pp) x (tree_of h) st)) (same_path x h e)
       (let q = item h.spot.key h.spot.occurrence ∷ pp in
-      let st2 = give h.spot.index (item_index q) (count_value x.index) (give h.spot.value (item_value q) x.value st) in
-      kept_follows h.spot h.comment (renew_codes run m q 0 h.codes st2) (renew_body env.app store m (inner h.spot) q 0 a (lives_of h.codes) st2) (h.goes st2))
+      let st2 = give h.spot.index (naming.index_source h.spot.index q) (count_value x.index) (give h.spot.value (naming.value_source h.spot.value q) x.value st) in
+      kept_follows h.spot h.comment (renew_codes_as naming run m q 0 h.codes st2) (renew_body_as naming env.app store m (inner h.spot) q 0 a (lives_of h.codes) st2) (h.goes st2))
 
   module _ (one : Path → Entry → State → Outcome ItemDone) (tree_one : Path → Entry → State → ItemGrown)
       (ones : (x : Entry) (st : State) → FollowsItem (one (item x.key x.occurrence ∷ pp) x st) (tree_one (item x.key x.occurrence ∷ pp) x st)) where
@@ -175,16 +175,16 @@ module _ (env : Env) (store : Store) (run : Runs) (runs : RunsRight env store ru
 
     -- what is left of the old items goes along
     with_rest : (es : List Entry) (o : Outcome ItemDone) (gs : List Elem) (z : Items × State)
-        → Follows P items_of items_deep (on_ok o (λ d. on_ok (sync_codes one pp es (map code_of gs) d.arm.state) (λ r. ok (item_with d r)))) z
-        → Follows P items_of items_deep (on_ok (on_ok o (with_left (map code_of gs))) (λ g. on_ok (sync_codes one pp es g.1 g.0.arm.state) (λ r. ok (item_with g.0 r)))) z
+        → Follows P items_of items_deep (on_ok o (λ d. on_ok (sync_codes_as naming one pp es (map code_of gs) d.arm.state) (λ r. ok (item_with d r)))) z
+        → Follows P items_of items_deep (on_ok (on_ok o (with_left (map code_of gs))) (λ g. on_ok (sync_codes_as naming one pp es g.1 g.0.arm.state) (λ r. ok (item_with g.0 r)))) z
     with_rest es (ok d) gs z h = h
     with_rest es deep gs z h = h
     with_rest es lost gs z h = h
 
     pub syncs_code : (es : List Entry) (hs : List Elem) (st : State)
-        → Follows P items_of items_deep (sync_codes one pp es (map code_of hs) st) (sync tree_one ns ms pp es (map tree_of hs) st)
+        → Follows P items_of items_deep (sync_codes_as naming one pp es (map code_of hs) st) (sync_as naming tree_one ns ms pp es (map tree_of hs) st)
     syncs_code [] hs st =
-        subst (λ f. Follows P items_of items_deep (ok (no_item_codes, dropped f st)) (no_items, dropped (λ q. times_handles q (map tree_of hs)) st)) (sym (fun_ext (λ q. counts q hs)))
+        subst (λ f. Follows P items_of items_deep (ok (no_item_codes, dropped_as naming f st)) (no_items, dropped_as naming (λ q. times_handles q (map tree_of hs)) st)) (sym (fun_ext (λ q. counts q hs)))
         (refl, refl, record {})
     syncs_code (x ∷ es) hs st =
         let q = item x.key x.occurrence ∷ pp in
@@ -192,19 +192,19 @@ module _ (env : Env) (store : Store) (run : Runs) (runs : RunsRight env store ru
         (by (taken_elem x hs) (taken_ok x hs) (λ gs st'. syncs_code es gs st'))
       where
         by : (o : Option (Elem × List Elem)) → TakenOk x o
-            → ((gs : List Elem) (st' : State) → Follows P items_of items_deep (sync_codes one pp es (map code_of gs) st') (sync tree_one ns ms pp es (map tree_of gs) st'))
+            → ((gs : List Elem) (st' : State) → Follows P items_of items_deep (sync_codes_as naming one pp es (map code_of gs) st') (sync_as naming tree_one ns ms pp es (map tree_of gs) st'))
             → Follows P items_of items_deep
-            (on_ok (sync_one_code one (item x.key x.occurrence ∷ pp) x (map code_of hs) (option_map codes_of o) st) (λ g. on_ok (sync_codes one pp es g.1 g.0.arm.state) (λ r. ok (item_with g.0 r))))
-            (let g = sync_one tree_one ns ms (item x.key x.occurrence ∷ pp) x (map tree_of hs) (option_map trees_of o) st in
-            let r = sync tree_one ns ms pp es g.1 g.0.arm.state in (item_live g.0.spot g.0.arm.comment g.0.arm.lives r.0, r.1))
+            (on_ok (sync_one_code_as naming one (item x.key x.occurrence ∷ pp) x (map code_of hs) (option_map codes_of o) st) (λ g. on_ok (sync_codes_as naming one pp es g.1 g.0.arm.state) (λ r. ok (item_with g.0 r))))
+            (let g = sync_one_as naming tree_one ns ms (item x.key x.occurrence ∷ pp) x (map tree_of hs) (option_map trees_of o) st in
+            let r = sync_as naming tree_one ns ms pp es g.1 g.0.arm.state in (item_live g.0.spot g.0.arm.comment g.0.arm.lives r.0, r.1))
         by None k more =
             with_rest es (one (item x.key x.occurrence ∷ pp) x st) hs _
             (item_then (one (item x.key x.occurrence ∷ pp) x st) (tree_one (item x.key x.occurrence ∷ pp) x st) (ones x st)
-            (λ st'. sync_codes one pp es (map code_of hs) st') (λ st'. sync tree_one ns ms pp es (map tree_of hs) st') (more hs))
+            (λ st'. sync_codes_as naming one pp es (map code_of hs) st') (λ st'. sync_as naming tree_one ns ms pp es (map tree_of hs) st') (more hs))
         by (Some p) k more =
-            with_rest es (renew_item_code (item x.key x.occurrence ∷ pp) x (code_of p.0) st) p.1 _
-            (item_then (renew_item_code (item x.key x.occurrence ∷ pp) x (code_of p.0) st) (renew_item ns ms (item x.key x.occurrence ∷ pp) x (tree_of p.0) st) (renew_follows x p.0 st k)
-            (λ st'. sync_codes one pp es (map code_of p.1) st') (λ st'. sync tree_one ns ms pp es (map tree_of p.1) st') (more p.1))
+            with_rest es (renew_item_code_as naming (item x.key x.occurrence ∷ pp) x (code_of p.0) st) p.1 _
+            (item_then (renew_item_code_as naming (item x.key x.occurrence ∷ pp) x (code_of p.0) st) (renew_item_as naming ns ms (item x.key x.occurrence ∷ pp) x (tree_of p.0) st) (renew_follows x p.0 st k)
+            (λ st'. sync_codes_as naming one pp es (map code_of p.1) st') (λ st'. sync_as naming tree_one ns ms pp es (map tree_of p.1) st') (more p.1))
 
     pub news_code : (es : List Entry) (st : State) → Follows P items_of items_deep (fresh_codes one pp es st) (grow_entries tree_one pp es st)
     news_code [] st = (refl, refl, record {})

@@ -14,8 +14,9 @@ use Rattle.gl_plain.specs.State.{MScope, State}
 use Rattle.gl_plain.specs.State as s
 use Rattle.gl_plain.specs.InScope.{InScope}
 use Rattle.gl_plain.specs.Live.{Live, is_deep}
-use Rattle.gl_plain.specs.Grow.{grow_app}
-use Rattle.gl_plain.specs.Renew.{renew_app}
+use Rattle.gl_plain.specs.Naming.{Naming}
+use Rattle.gl_plain.specs.Grow.{grow_app_as}
+use Rattle.gl_plain.specs.Renew.{renew_app_as}
 use Rattle.gl_plain.specs.Machine.{StandsFor, OnlyTouched}
 use Rattle.gl_machine.specs.Code.{Code, live_of}
 use Rattle.gl_machine.specs.Outcome.{Outcome, ok, deep, lost, Ends}
@@ -24,9 +25,9 @@ use Rattle.gl_machine.specs.Appended.{Answers}
 use Rattle.gl_machine.specs.Sight.{Passing}
 use Rattle.gl_machine.specs.RenewCode.{start}
 use Rattle.gl_machine.specs.Env.{Env, texts_of, seen}
-use Rattle.gl_machine.specs.Placed.{Fits, BodyThere, Follows, RunsRight, RunsEnd}
-use Rattle.gl_machine.specs.Step.{run_for}
-use Rattle.gl_machine.specs.Root.{PlacedRoot, append_page, renew_root_code}
+use Rattle.gl_machine.specs.Placed.{Fits, BodyThere, Follows, RunsRight_as, RunsEnd}
+use Rattle.gl_machine.specs.Step.{run_for_as, run_for}
+use Rattle.gl_machine.specs.Root.{PlacedRoot, append_page_as, renew_root_code_as, append_page, renew_root_code}
 
 -- The programs are those of the app, as a loaded application keeps them: they lower its templates and its getters, and no getter reaches
 -- itself.
@@ -35,7 +36,7 @@ AllLowered env = (templates : List Body) × (env.app ≡ app_of env.manifest tem
 
 -- What is run from an address appends what the tree says.
 abbrev pub WordsAppend : Type 0
-WordsAppend = (env : Env) (store : Store) → AllLowered env → (n : ℕ) → RunsRight env store (run_for env store n)
+WordsAppend = (naming : Naming) (env : Env) (store : Store) → AllLowered env → (n : ℕ) → RunsRight_as naming env store (run_for_as naming env store n)
 
 -- In a scope of now it stands for the body there and shows its rendering, changes nothing that was there, and has ids that were never given;
 -- or the rendering nests too deep.
@@ -48,23 +49,23 @@ WordsStand =
 
 -- It ends.
 abbrev pub WordsEnd : Type 0
-WordsEnd = (env : Env) (store : Store) → AllLowered env → RunsEnd env store (run_for env store)
+WordsEnd = (naming : Naming) (env : Env) (store : Store) → AllLowered env → RunsEnd env store (run_for_as naming env store)
 
 abbrev pub PageEnds : Type 0
 PageEnds =
-    (env : Env) (store : Store) → AllLowered env → (q : ℕ) → class_number env.manifest env.app.root ≡ Some q → (st : State)
-    → Ends (λ n. append_page env.app.limit env store (run_for env store n) q st)
+    (naming : Naming) (env : Env) (store : Store) → AllLowered env → (q : ℕ) → class_number env.manifest env.app.root ≡ Some q → (st : State)
+    → Ends (λ n. append_page_as naming env.app.limit env store (run_for_as naming env store n) q st)
 
 -- The whole page, appended and updated within n steps for each body that is appended.
 abbrev pub PageAppends : Type 0
 PageAppends =
-    (env : Env) (store : Store) → AllLowered env → (n q : ℕ) → class_number env.manifest env.app.root ≡ Some q → (st : State)
-    → Follows (PlacedRoot env) live_of is_deep (append_page env.app.limit env store (run_for env store n) q st) (grow_app env.app store st)
+    (naming : Naming) (env : Env) (store : Store) → AllLowered env → (n q : ℕ) → class_number env.manifest env.app.root ≡ Some q → (st : State)
+    → Follows (PlacedRoot env) live_of is_deep (append_page_as naming env.app.limit env store (run_for_as naming env store n) q st) (grow_app_as naming env.app store st)
 
 abbrev pub PageRenews : Type 0
 PageRenews =
-    (env : Env) (store : Store) → AllLowered env → (n : ℕ) (k : Code) (st : State) → PlacedRoot env k
-    → Follows (PlacedRoot env) live_of is_deep (renew_root_code env.app.limit (run_for env store n) k st) (renew_app env.app store (live_of k) st)
+    (naming : Naming) (env : Env) (store : Store) → AllLowered env → (n : ℕ) (k : Code) (st : State) → PlacedRoot env k
+    → Follows (PlacedRoot env) live_of is_deep (renew_root_code_as naming env.app.limit (run_for_as naming env store n) k st) (renew_app_as naming env.app store (live_of k) st)
 
 -- Where a machine stands for a rendering that fits, components nest no deeper than they may.
 abbrev pub StandingNests : Type 0
@@ -73,8 +74,8 @@ StandingNests = (app : App) (σ τ : Store) (st : State) (l : Live) → StandsFo
 -- There an update ends.
 abbrev pub PageRenewEnds : Type 0
 PageRenewEnds =
-    (env : Env) (store : Store) → AllLowered env → (k : Code) → PlacedRoot env k → Nests (live_of k) env.app.limit → (st : State)
-    → Ends (λ n. renew_root_code env.app.limit (run_for env store n) k st)
+    (naming : Naming) (env : Env) (store : Store) → AllLowered env → (k : Code) → PlacedRoot env k → Nests (live_of k) env.app.limit → (st : State)
+    → Ends (λ n. renew_root_code_as naming env.app.limit (run_for_as naming env store n) k st)
 
 -- So the page that was appended stands for the rendering over the store, and it is well placed; or the rendering nests too deep.
 abbrev pub PageAnswers : Env → Store → Outcome (Code × State) → Type 0

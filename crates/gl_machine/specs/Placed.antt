@@ -14,12 +14,13 @@ use Rattle.gl_opc.specs.Numbers.{keys, parameter_symbol}
 use Rattle.gl_opc.specs.Spans.{ParametersAt, PartsAt, BodyAt}
 use Rattle.gl_plain.specs.State.{Inst, MScope, mscope, MPassed, mnothing, mpassed, inst_of, passed_in, mslots, mwriter, named_as, with_names, State}
 use Rattle.gl_plain.specs.State as s
+use Rattle.gl_plain.specs.Naming.{Naming}
 use Rattle.gl_plain.specs.Live.{Lives, is_deep, are_deep}
-use Rattle.gl_plain.specs.Renew.{fresh_body, renew}
+use Rattle.gl_plain.specs.Renew.{fresh_body_as, renew_as}
 use Rattle.gl_machine.specs.Sight.{Passing, not_passed, passing}
 use Rattle.gl_machine.specs.Code.{Choice, Listing, Code, still_code, put_code, element_code, branch_code, listed_code, unlisted_code, let_code, component_code, yield_code, ItemCodes, no_item_codes, item_code, Codes, no_codes, code_and, live_of, lives_of}
 use Rattle.gl_machine.specs.Outcome.{Outcome, ok, deep, lost, Ends}
-use Rattle.gl_machine.specs.RenewCode.{Runs, start, renew_code}
+use Rattle.gl_machine.specs.RenewCode.{Runs, start, renew_code_as}
 use Rattle.gl_machine.specs.Params.{Known, TwoKnown, HasParamsIn}
 use Rattle.gl_machine.specs.Env.{Env, class_no, program_no, symbols_at, texts_of, seen}
 
@@ -133,11 +134,11 @@ abbrev pub FollowsIn : (Codes → Type 0) → Outcome (Codes × State) → Lives
 FollowsIn P o r = Follows P lives_of are_deep o r
 
 -- The machine appends bodies so. This is the law over words.
-abbrev pub RunsRight : Env → Store → Runs → Type 0
-RunsRight env store run =
+abbrev pub RunsRight_as : Naming → Env → Store → Runs → Type 0
+RunsRight_as naming env store run =
     (c : ℕ) (ms : MScope) (w : Passing) → Fits env c ms w → (from : ℕ) (b : Body) → BodyThere env c (texts_of (s.locals_in ms)) from b
     → (p : Path) (m : ℕ) (st : State)
-    → FollowsIn (PlacedIn env c ms w p 0 b) (run (start (seen env c ms w) from p m) st) (fresh_body env.app store m ms p b st)
+    → FollowsIn (PlacedIn env c ms w p 0 b) (run (start (seen env c ms w) from p m) st) (fresh_body_as naming env.app store m ms p b st)
 
 -- With enough steps it ends. `run` takes how many it may make.
 abbrev pub RunsEnd : Env → Store → (ℕ → Runs) → Type 0
@@ -148,6 +149,6 @@ RunsEnd env store run =
 -- The law of the recorded program.
 abbrev pub RenewsRight : Type 0
 RenewsRight =
-    (env : Env) (store : Store) (run : Runs) → RunsRight env store run
+    (naming : Naming) (env : Env) (store : Store) (run : Runs) → RunsRight_as naming env store run
     → (m c : ℕ) (ms : MScope) (w : Passing) (p : Path) (x : Stmt) (k : Code) (st : State) → Placed env c ms w p x k
-    → Follows (Placed env c ms w p x) live_of is_deep (renew_code run m p k st) (renew env.app store m ms p x (live_of k) st)
+    → Follows (Placed env c ms w p x) live_of is_deep (renew_code_as naming run m p k st) (renew_as naming env.app store m ms p x (live_of k) st)

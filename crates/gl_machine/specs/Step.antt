@@ -13,12 +13,13 @@ use Rattle.gl_meaning.specs.Eval.{Store, takes_first}
 use Rattle.gl_meaning.specs.Render.{Entry, entries, values_listed}
 use Rattle.gl_plain.specs.Ids.{a_ref, a_node, an_instance, a_block, Id, ref, block_id, instance_id}
 use Rattle.gl_plain.specs.State.{Form, constant_form, property_form, call_form, joined_form, Names, Inst, text_content, comment_content, element_content, instance_row, block_row, State, make}
+use Rattle.gl_plain.specs.Naming.{Naming, by_path}
 use Rattle.gl_plain.specs.Binding.{made_row, Spot, Placed, place, first_value}
-use Rattle.gl_plain.specs.Grow.{made_node, grow_cells}
+use Rattle.gl_plain.specs.Grow.{made_node, grow_cells_as}
 use Rattle.gl_plain.specs.Tags.{Waiting, fixed_part, live_part, modifier_part, flush_parts, install_parts}
 use Rattle.gl_machine.specs.Sight.{Sight, sight, Passing, not_passed, passing, class_of, inst_in, args_in, locals_in, passing_in, with_locals}
 use Rattle.gl_machine.specs.Code.{Choice, Listing, Code, still_code, put_code, element_code, listed_code, let_code, component_code, yield_code, Codes}
-use Rattle.gl_machine.specs.RenewCode.{Start, commented, Runs, branch_with, unlisted_with, item_start, refs_in}
+use Rattle.gl_machine.specs.RenewCode.{Start, commented, Runs, branch_with, unlisted_with, item_start_as, refs_in}
 use Rattle.gl_machine.specs.Outcome.{Outcome, ok, deep, lost}
 use Rattle.gl_machine.specs.Env.{Env, class_no, program_no, getter_no}
 use Rattle.gl_machine.specs.Mach.{Here, Back, Kind, in_element, in_branch, in_let, in_each, in_item, in_other, in_component, in_block, in_getter, in_parts, Frame, Making, idle, Rest, Pushed, Mach, Run, going, finished, too_deep, stuck, go, fresh, added, next_at, all_of, items_all}
@@ -285,16 +286,16 @@ else_at m b (Some f) = go m.state m.stack m.made b m.rest
 
 -- Lists
 
-abbrev pub do_item : Mach → List Frame → Here → Kind → Run
-do_item m fs h (in_each z x start (e ∷ es) done) =
+abbrev pub do_item_as : Naming → Mach → List Frame → Here → Kind → Run
+do_item_as naming m fs h (in_each z x start (e ∷ es) done) =
     let q = item e.key e.occurrence ∷ items ∷ next_at h in
-    let b = item_start z q e m.state in
+    let b = item_start_as naming z q e m.state in
     go b.state m.stack [] z.body (record m.rest {
       sight = with_locals b.locals z.sight;
       here = fresh q;
       frames = fs ++ record { here = h; kind = in_item z x start es done b.spot } ∷ [];
     })
-do_item m fs h _ = stuck
+do_item_as naming m fs h _ = stuck
 
 -- the next item, or what stands behind the list's body
 abbrev pub next_item : List Entry → ℕ → ℕ → ℕ
@@ -359,30 +360,6 @@ module _ (env : Env) (store : Store) where
       each_into (record { key = key; value = o.0; index = o.1; body = suc (suc m.pc); other = other; sight = m.rest.sight }) x.spot (suc m.pc)
       (entries key 0 [] (values_listed (first_value x.pairs))) x.state p.0 m.rest
 
-  -- the component's block, cells and instance are made, and its program is begun
-  abbrev pub invoke_below : Mach → ℕ → Run
-  invoke_below m left =
-      let k = m.rest.making in
-      let b = m.state.next a_block in
-      let q = into (class_no env k.class).name ∷ next_at m.rest.here in
-      let c = grow_cells env.app store q (class_no env k.class).fields (make a_block block_row m.state) in
-      let i : Inst = record { id = c.state.next an_instance; path = q; cells = c.names } in
-      let gm = block_id b ∷ m.made in
-      go (make an_instance (instance_row i) c.state) m.stack [] 0 (record {
-        getter = None;
-        sight = sight k.class i k.args [] (passing b k.start k.slots m.rest.sight);
-        pending = [];
-        here = fresh q;
-        making = idle;
-        left = left;
-        frames = m.rest.frames
-            ++ record { here = m.rest.here; kind = in_component (record { getter = m.rest.getter; pc = suc m.pc; sight = m.rest.sight; pending = m.rest.pending }) i (instance_id i.id ∷ (gm ++ c.made)) gm k.args (Some b) } ∷ [];
-      })
-
-  abbrev pub do_invoke : Mach → ℕ → Run
-  do_invoke m zero = too_deep
-  do_invoke m (suc left) = invoke_below m left
-
   abbrev pub do_getter : ℕ → Mach → Run
   do_getter g m =
       go m.state m.stack m.made 0 (record m.rest {
@@ -397,77 +374,6 @@ module _ (env : Env) (store : Store) where
   abbrev pub do_field : ℕ → Mach → Run
   do_field a m = given (slice_get (inst_in m.rest.sight).cells a) (λ c. push_old c.1 m)
 
-  abbrev pub do_action : ℕ → Mach → Run
-  do_action a m =
-      given (slice_get (class_no env (class_of m.rest.sight)).actions a)
-      (λ x. push_new (constant_form (v.action (inst_in m.rest.sight).path x.0 v.no_values)) m)
-
-  -- the opcode at the present place
-  abbrev pub do_op : Mach → Op → Run
-  do_op m (op.Text b) = text_at m b (λ t. do_text t m)
-  do_op m (op.Comment b) = text_at m b (λ t. do_comment t m)
-  do_op m (op.Open b) = text_at m b (λ t. do_open t m)
-  do_op m (op.Attr a b) = name_at m a (λ n. text_at m b (λ t. do_attr n t m))
-  do_op m (op.AttrRef a) = name_at m a (λ n. given (popped m.stack) (do_attr_ref n m))
-  do_op m op.Spread = spread_to m (passing_in m.rest.sight)
-  do_op m (op.Mod a b) = given (slice_get (codes "on" ∷ env.manifest.modifiers) a) (λ n. do_mod b n m)
-  do_op m op.Flush = do_flush m
-  do_op m op.Close = with_top m do_close
-  do_op m op.Put = given (popped m.stack) (do_put m)
-  do_op m (op.If b) = given (popped m.stack) (do_if false b m)
-  do_op m (op.Unless b) = given (popped m.stack) (do_if true b m)
-  do_op m (op.Else b) = else_at m b (popped m.rest.frames)
-  do_op m op.EndIf = with_end m do_end_if
-  do_op m (op.Each a b) = name_at m a (λ n. given (popped m.stack) (do_each n b m))
-  do_op m (op.Item a b) = with_top m do_item
-  do_op m op.EndItem = with_end m do_end_item
-  do_op m op.EndEach = with_end m do_end_each
-  do_op m (op.Let a) = do_let a m
-  do_op m (op.Bind a) = do_bind a m m.rest.pending
-  do_op m op.EndLet = with_top m do_end_let
-  do_op m (op.Comp a) = do_comp a m
-  do_op m (op.Arg a) = name_at m a (λ n. given (popped m.stack) (do_arg n m))
-  do_op m (op.Block a b) = unless_parts m (popped m.rest.frames) (name_at m a (λ n. do_block n b m))
-  do_op m (op.Param a) = do_bind a m m.rest.pending
-  do_op m op.EndBlock = with_end m do_end_block
-  do_op m op.Bare = unless_parts m (popped m.rest.frames) (do_bare m)
-  do_op m op.Invoke = do_invoke m m.rest.left
-  do_op m (op.Yield a b) = name_at m b (λ n. do_yield a n m)
-  do_op m op.Undef = push_new (constant_form v.undefined) m
-  do_op m op.Null = push_new (constant_form v.null) m
-  do_op m op.True = push_new (constant_form (v.boolean true)) m
-  do_op m op.False = push_new (constant_form (v.boolean false)) m
-  do_op m (op.Int b) = given (slice_get (program_at m).ints b) (λ z. push_new (constant_form (v.integer z)) m)
-  do_op m (op.Str b) = text_at m b (λ t. push_new (constant_form (v.text t)) m)
-  do_op m (op.Local a) = do_local a m
-  do_op m (op.ArgRef a) = name_at m a (λ n. push_found (last_named n (args_in m.rest.sight)) m)
-  do_op m (op.Field a) = do_field a m
-  do_op m (op.Getter a) = do_getter a m
-  do_op m (op.Action a) = do_action a m
-  do_op m (op.Prop b) = text_at m b (λ t. given (popped m.stack) (do_prop t m))
-  do_op m (op.Call a b) = given (name_of a helper_rows) (λ n. do_call b n m)
-  do_op m (op.Named b) = text_at m b (λ t. given (popped m.stack) (do_named t m))
-  do_op m (op.Cat a) = do_cat a m
-  do_op m op.Done = with_end m do_done
-
-  abbrev pub step : Mach → Run
-  step m = given (op_at (program_at m) m.pc) (do_op m)
-
-  -- what is over stays so
-  abbrev pub step_run : Run → Run
-  step_run (going m) = step m
-  step_run r = r
-
-  -- some number of steps lead from one to the other
-  pub data Comes : Run → Run → Type 0 where
-    here : {r : Run} → Comes r r
-    more : {r s : Run} → Comes (step_run r) s → Comes r s
-
-  -- so many steps
-  abbrev pub after : ℕ → Run → Run
-  after zero r = r
-  after (suc n) r = after n (step_run r)
-
   abbrev pub begun : Start → State → Run
   begun s st = go st [] [] s.pc (record { getter = None; sight = s.sight; pending = []; here = fresh s.path; making = idle; left = s.left; frames = [] })
 
@@ -476,6 +382,135 @@ module _ (env : Env) (store : Store) where
   outcome too_deep = deep
   outcome _ = lost
 
-  -- what is appended from a start, where it ends within n steps
-  abbrev pub run_for : ℕ → Runs
-  run_for n s st = outcome (after n (begun s st))
+module _ (naming : Naming) where
+  module _ (env : Env) (store : Store) where
+    -- the component's block, cells and instance are made, and its program is begun
+    abbrev pub invoke_below_as : Mach → ℕ → Run
+    invoke_below_as m left =
+        let k = m.rest.making in
+        let b = m.state.next a_block in
+        let q = into (class_no env k.class).name ∷ next_at m.rest.here in
+        let c = grow_cells_as naming env.app store q (class_no env k.class).fields (make a_block block_row m.state) in
+        let i : Inst = record { id = c.state.next an_instance; path = q; cells = c.names } in
+        let gm = block_id b ∷ m.made in
+        go (make an_instance (instance_row i) c.state) m.stack [] 0 (record {
+          getter = None;
+          sight = sight k.class i k.args [] (passing b k.start k.slots m.rest.sight);
+          pending = [];
+          here = fresh q;
+          making = idle;
+          left = left;
+          frames = m.rest.frames
+              ++ record { here = m.rest.here; kind = in_component (record { getter = m.rest.getter; pc = suc m.pc; sight = m.rest.sight; pending = m.rest.pending }) i (instance_id i.id ∷ (gm ++ c.made)) gm k.args (Some b) } ∷ [];
+        })
+
+    abbrev pub do_invoke_as : Mach → ℕ → Run
+    do_invoke_as m zero = too_deep
+    do_invoke_as m (suc left) = invoke_below_as m left
+
+    abbrev pub do_action_as : ℕ → Mach → Run
+    do_action_as a m =
+        given (slice_get (class_no env (class_of m.rest.sight)).actions a)
+        (λ x. push_new (constant_form (v.action (naming.owner (inst_in m.rest.sight)) x.0 v.no_values)) m)
+
+    -- the opcode at the present place
+    abbrev pub do_op_as : Mach → Op → Run
+    do_op_as m (op.Text b) = text_at env store m b (λ t. do_text t m)
+    do_op_as m (op.Comment b) = text_at env store m b (λ t. do_comment t m)
+    do_op_as m (op.Open b) = text_at env store m b (λ t. do_open t m)
+    do_op_as m (op.Attr a b) = name_at env store m a (λ n. text_at env store m b (λ t. do_attr n t m))
+    do_op_as m (op.AttrRef a) = name_at env store m a (λ n. given (popped m.stack) (do_attr_ref n m))
+    do_op_as m op.Spread = spread_to m (passing_in m.rest.sight)
+    do_op_as m (op.Mod a b) = given (slice_get (codes "on" ∷ env.manifest.modifiers) a) (λ n. do_mod b n m)
+    do_op_as m op.Flush = do_flush m
+    do_op_as m op.Close = with_top m do_close
+    do_op_as m op.Put = given (popped m.stack) (do_put m)
+    do_op_as m (op.If b) = given (popped m.stack) (do_if false b m)
+    do_op_as m (op.Unless b) = given (popped m.stack) (do_if true b m)
+    do_op_as m (op.Else b) = else_at m b (popped m.rest.frames)
+    do_op_as m op.EndIf = with_end m do_end_if
+    do_op_as m (op.Each a b) = name_at env store m a (λ n. given (popped m.stack) (do_each env store n b m))
+    do_op_as m (op.Item a b) = with_top m (do_item_as naming)
+    do_op_as m op.EndItem = with_end m do_end_item
+    do_op_as m op.EndEach = with_end m do_end_each
+    do_op_as m (op.Let a) = do_let a m
+    do_op_as m (op.Bind a) = do_bind a m m.rest.pending
+    do_op_as m op.EndLet = with_top m do_end_let
+    do_op_as m (op.Comp a) = do_comp a m
+    do_op_as m (op.Arg a) = name_at env store m a (λ n. given (popped m.stack) (do_arg n m))
+    do_op_as m (op.Block a b) = unless_parts m (popped m.rest.frames) (name_at env store m a (λ n. do_block n b m))
+    do_op_as m (op.Param a) = do_bind a m m.rest.pending
+    do_op_as m op.EndBlock = with_end m do_end_block
+    do_op_as m op.Bare = unless_parts m (popped m.rest.frames) (do_bare m)
+    do_op_as m op.Invoke = do_invoke_as m m.rest.left
+    do_op_as m (op.Yield a b) = name_at env store m b (λ n. do_yield a n m)
+    do_op_as m op.Undef = push_new (constant_form v.undefined) m
+    do_op_as m op.Null = push_new (constant_form v.null) m
+    do_op_as m op.True = push_new (constant_form (v.boolean true)) m
+    do_op_as m op.False = push_new (constant_form (v.boolean false)) m
+    do_op_as m (op.Int b) = given (slice_get (program_at env store m).ints b) (λ z. push_new (constant_form (v.integer z)) m)
+    do_op_as m (op.Str b) = text_at env store m b (λ t. push_new (constant_form (v.text t)) m)
+    do_op_as m (op.Local a) = do_local env store a m
+    do_op_as m (op.ArgRef a) = name_at env store m a (λ n. push_found (last_named n (args_in m.rest.sight)) m)
+    do_op_as m (op.Field a) = do_field env store a m
+    do_op_as m (op.Getter a) = do_getter env store a m
+    do_op_as m (op.Action a) = do_action_as a m
+    do_op_as m (op.Prop b) = text_at env store m b (λ t. given (popped m.stack) (do_prop t m))
+    do_op_as m (op.Call a b) = given (name_of a helper_rows) (λ n. do_call b n m)
+    do_op_as m (op.Named b) = text_at env store m b (λ t. given (popped m.stack) (do_named t m))
+    do_op_as m (op.Cat a) = do_cat a m
+    do_op_as m op.Done = with_end m do_done
+
+    abbrev pub step_as : Mach → Run
+    step_as m = given (op_at (program_at env store m) m.pc) (do_op_as m)
+
+    -- what is over stays so
+    abbrev pub step_run_as : Run → Run
+    step_run_as (going m) = step_as m
+    step_run_as r = r
+
+    -- some number of steps lead from one to the other
+    pub data Comes_as : Run → Run → Type 0 where
+      here : {r : Run} → Comes_as r r
+      more : {r s : Run} → Comes_as (step_run_as r) s → Comes_as r s
+
+    -- so many steps
+    abbrev pub after_as : ℕ → Run → Run
+    after_as zero r = r
+    after_as (suc n) r = after_as n (step_run_as r)
+
+    -- what is appended from a start, where it ends within n steps
+    abbrev pub run_for_as : ℕ → Runs
+    run_for_as n s st = outcome env store (after_as n (begun env store s st))
+
+-- By paths.
+
+abbrev pub do_item : Mach → List Frame → Here → Kind → Run
+do_item = do_item_as by_path
+
+abbrev pub invoke_below : Env → Store → Mach → ℕ → Run
+invoke_below = invoke_below_as by_path
+
+abbrev pub do_invoke : Env → Store → Mach → ℕ → Run
+do_invoke = do_invoke_as by_path
+
+abbrev pub do_action : Env → Store → ℕ → Mach → Run
+do_action = do_action_as by_path
+
+abbrev pub do_op : Env → Store → Mach → Op → Run
+do_op = do_op_as by_path
+
+abbrev pub step : Env → Store → Mach → Run
+step = step_as by_path
+
+abbrev pub step_run : Env → Store → Run → Run
+step_run = step_run_as by_path
+
+abbrev pub Comes : Env → Store → Run → Run → Type 0
+Comes = Comes_as by_path
+
+abbrev pub after : Env → Store → ℕ → Run → Run
+after = after_as by_path
+
+abbrev pub run_for : Env → Store → ℕ → Runs
+run_for = run_for_as by_path

@@ -9,15 +9,16 @@ use Rattle.gl_meaning.specs.Known.{Among}
 use Rattle.gl_meaning.specs.Print.{children_first, destroy_lines}
 use Rattle.gl_plain.specs.Ids.{Id, node}
 use Rattle.gl_plain.specs.State.{Content, content, Thing, State}
+use Rattle.gl_plain.specs.Naming.{Naming}
 use Rattle.gl_plain.specs.Live.{Live, is_deep}
-use Rattle.gl_plain.specs.Renew.{renew_app}
+use Rattle.gl_plain.specs.Renew.{renew_app_as, renew_app}
 use Rattle.gl_plain.specs.Counts.{nodes_of}
 use Rattle.gl_plain.specs.Machine.{StandsFor, OnlyTouched}
 use Rattle.gl_machine.specs.Code.{Code, live_of}
 use Rattle.gl_machine.specs.RenewCode.{Runs}
 use Rattle.gl_machine.specs.Env.{Env}
-use Rattle.gl_machine.specs.Placed.{Follows, RunsRight}
-use Rattle.gl_machine.specs.Root.{PlacedRoot, renew_root_code}
+use Rattle.gl_machine.specs.Placed.{Follows, RunsRight_as}
+use Rattle.gl_machine.specs.Root.{PlacedRoot, renew_root_code_as}
 use Rattle.gl_machine.specs.Shape.{map_nest, in_order, nest, placed_nest, forest_nest}
 use Rattle.gl_machine.specs.Rows.{Role, a_node, a_modifier, Row, row_of, page_rows, row_ids, places}
 use Rattle.gl_machine.specs.Gone.{has_id, gone, freed, gone_line}
@@ -25,8 +26,8 @@ use Rattle.gl_machine.specs.Gone.{has_id, gone, freed, gone_line}
 -- The whole page: an update of the recorded program is one of the tree, where bodies are appended rightly.
 abbrev pub PageFollows : Type 0
 PageFollows =
-    (env : Env) (store : Store) (run : Runs) → RunsRight env store run → (k : Code) (st : State) → PlacedRoot env k
-    → Follows (PlacedRoot env) live_of is_deep (renew_root_code env.app.limit run k st) (renew_app env.app store (live_of k) st)
+    (naming : Naming) (env : Env) (store : Store) (run : Runs) → RunsRight_as naming env store run → (k : Code) (st : State) → PlacedRoot env k
+    → Follows (PlacedRoot env) live_of is_deep (renew_root_code_as naming env.app.limit run k st) (renew_app_as naming env.app store (live_of k) st)
 
 -- Nodes
 
