@@ -18,6 +18,10 @@ pushed_made r m = go m.state (m.stack ++ (None, r) ∷ []) (m.made ++ ref r ∷ 
 abbrev pub Moves : (Tables → Mach → Run) → Machine → Machine → Type 0
 Moves f old new = (n : Tables) (st : State) → f n (mach_by n st old) ≡ going (mach_by n st new)
 
+-- registers become these, whatever is kept
+abbrev pub Changes : (Tables → Mach → Mach) → Machine → Machine → Type 0
+Changes h old new = (n : Tables) (st : State) → h n (mach_by n st old) ≡ mach_by n st new
+
 -- The run goes on with these registers and with what is kept.
 pub record GoesOn (n : Tables) (r : Run) (vm : Vm) (new : Machine) : Type 0 where
   pub state : State
