@@ -14,13 +14,14 @@ use Rattle.gl_names.specs.Helpers.{helper_rows}
 use Rattle.gl_ops.specs.Finding.{op_of}
 use Rattle.gl_ops.specs.Words.{decoded}
 use Rattle.gl_meaning.specs.App.{App}
-use Rattle.gl_meaning.specs.Scope.{cell}
+use Rattle.gl_meaning.specs.Path.{Path}
 use Rattle.gl_meaning.specs.Eval.{Store}
 use Rattle.gl_meaning.specs.Manifest.{Manifest, app_of}
 use Rattle.gl_meaning.specs.Render.{Forest, draw}
 use Rattle.gl_program.specs.ClassProgram.{ClassProgram}
 use Rattle.gl_plain.specs.Ids.{a_node, hit}
-use Rattle.gl_plain.specs.State.{State, touch}
+use Rattle.gl_plain.specs.State.{Thing, State, touch}
+use Rattle.gl_plain.specs.Naming.{Naming, by_path, by_number}
 use Rattle.gl_plain.specs.Live.{Live}
 use Rattle.gl_plain.specs.Grow.{grow_app}
 use Rattle.gl_plain.specs.Renew.{renew_app}
@@ -29,8 +30,10 @@ use Rattle.gl_plain.specs.Turns.{blank, begin}
 use Rattle.gl_machine.specs.Code.{Code, live_of}
 use Rattle.gl_machine.specs.Outcome.{Outcome, ok, on_ok}
 use Rattle.gl_machine.specs.Env.{Env}
-use Rattle.gl_machine.specs.Step.{run_for}
-use Rattle.gl_machine.specs.Root.{append_page, renew_root_code}
+use Rattle.gl_machine.specs.Shape.{Nest, map_nest, placed_nest}
+use Rattle.gl_machine.specs.Step.{run_for_as}
+use Rattle.gl_machine.specs.Root.{append_page_as, renew_root_code_as}
+use Rattle.gl_machine.specs.UpdateLaws.{kept_content}
 
 some_of : Expr
 some_of = call (codes "not") (expr (this (codes "on") []) no_exprs) no_named
@@ -106,18 +109,39 @@ abbrev told : Outcome (Code × State) → Option Seen
 told (ok r) = Some (seen_as (live_of r.0, r.1))
 told _ = None
 
+-- The same but for sources, which naming names: what was recorded, and the nodes as they are nested, each with what it is.
+record Recorded : Type 0 where
+  code : Code
+  nodes : Nest (Path × Option Thing)
+  next : ℕ
+  evaluated : List ℕ
+  installs : List ℕ
+  updates : List ℕ
+
+abbrev recorded : Outcome (Code × State) → Option Recorded
+recorded (ok r) =
+    Some (record {
+      code = r.0;
+      nodes = map_nest (kept_content r.1.look) (placed_nest [] (live_of r.0));
+      next = r.1.next a_node;
+      evaluated = r.1.evaluated;
+      installs = r.1.installs;
+      updates = r.1.updates;
+    })
+recorded _ = None
+
 -- The root's field `on`, of which the cell has the number 0, is set to false.
 abbrev store : Store
 store = record { instance = []; field = codes "on"; value = boolean false } ∷ []
 
-abbrev with_set : State → State
-with_set st = touch 0 (cell [] (codes "on")) (boolean false) (begin st)
+abbrev with_set : Naming → State → State
+with_set naming st = touch 0 (naming.cell_source 0 [] (codes "on")) (boolean false) (begin st)
 
-abbrev first : ℕ → Outcome (Code × State)
-first n = append_page 3 env [] (run_for env [] n) 0 blank
+abbrev first : Naming → ℕ → Outcome (Code × State)
+first naming n = append_page_as naming 3 env [] (run_for_as naming env [] n) 0 blank
 
-abbrev second : ℕ → Outcome (Code × State)
-second n = on_ok (first n) (λ r. renew_root_code 3 (run_for env store n) r.0 (with_set r.1))
+abbrev second : Naming → ℕ → Outcome (Code × State)
+second naming n = on_ok (first naming n) (λ r. renew_root_code_as naming 3 (run_for_as naming env store n) r.0 (with_set naming r.1))
 
 abbrev tree_first : Live × State
 tree_first = grow_app app [] blank
@@ -126,11 +150,11 @@ unfoldable on_literals : ⊤
 unfolding decoded op_of helper_rows some_of app_template row_template manifest programs app env hit
 on_literals = tt
 
-appended : told (first 60) ≡ Some (seen_as tree_first)
+appended : told (first by_path 60) ≡ Some (seen_as tree_first)
 unfolding on_literals
 appended = refl
 
-updated : told (second 60) ≡ Some (seen_as (renew_app app store tree_first.0 (with_set tree_first.1)))
+updated : told (second by_path 60) ≡ Some (seen_as (renew_app app store tree_first.0 (with_set by_path tree_first.1)))
 unfolding on_literals
 updated = refl
 
@@ -139,6 +163,15 @@ unfolding on_literals
 shows = refl
 
 -- with too few steps it is not over
-too_few : told (first 40) ≡ None
+too_few : told (first by_path 40) ≡ None
 unfolding on_literals
 too_few = refl
+
+-- By numbers the machine records and does the same, and the nodes are the same.
+appended_by_number : recorded (first by_number 60) ≡ recorded (first by_path 60)
+unfolding on_literals
+appended_by_number = refl
+
+updated_by_number : recorded (second by_number 60) ≡ recorded (second by_path 60)
+unfolding on_literals
+updated_by_number = refl

@@ -1,4 +1,4 @@
--- The laws of the machine over words.
+-- The laws of the machine over words. Those that say that it does what the machine over trees does, and that it ends, hold for any naming.
 use Rattle.std.specs.Prelude.{◌≡◌, ◌≤◌, ℕ, List, true, false, Some}
 use Rattle.gl_ast.specs.Template.{Body}
 use Rattle.gl_meaning.specs.App.{App}

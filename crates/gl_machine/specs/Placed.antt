@@ -133,7 +133,7 @@ Follows P f d lost r = Unit {0}
 abbrev pub FollowsIn : (Codes → Type 0) → Outcome (Codes × State) → Lives × State → Type 0
 FollowsIn P o r = Follows P lives_of are_deep o r
 
--- The machine appends bodies so. This is the law over words.
+-- The machine appends bodies so, by the same naming. This is the law over words.
 abbrev pub RunsRight_as : Naming → Env → Store → Runs → Type 0
 RunsRight_as naming env store run =
     (c : ℕ) (ms : MScope) (w : Passing) → Fits env c ms w → (from : ℕ) (b : Body) → BodyThere env c (texts_of (s.locals_in ms)) from b

@@ -152,55 +152,54 @@ module _ (run : Runs) where
   fresh_other z s p m st = on_ok (run (start z.sight z.other (otherwise ∷ p) m) st) (λ r. ok (unlisted_with z s (commented r)))
 
 -- The recorded program.
-module _ (naming : Naming) where
-  module _ (run : Runs) where
-    abbrev pub fresh_item_as : Listing → ℕ → Path → Entry → State → Outcome ItemDone
-    fresh_item_as z m q x st =
-        let b = item_start_as naming z q x st in on_ok (run (start (with_locals b.locals z.sight) z.body q m) b.state) (λ r. ok (item_done b.spot (commented r)))
+module _ (naming : Naming) (run : Runs) where
+  abbrev pub fresh_item_as : Listing → ℕ → Path → Entry → State → Outcome ItemDone
+  fresh_item_as z m q x st =
+      let b = item_start_as naming z q x st in on_ok (run (start (with_locals b.locals z.sight) z.body q m) b.state) (λ r. ok (item_done b.spot (commented r)))
 
-    abbrev mutual
-      pub renew_code_as : ℕ → Path → Code → State → Outcome (Code × State)
-      renew_code_as m p (still_code n) st = ok (still_code n, st)
-      renew_code_as m p (put_code n s) st = ok (put_code n s, renew_text n s.ref st)
-      renew_code_as m p (element_code n made xs zs cs) st =
-          on_ok (renew_codes_as m p 0 cs (renew_attrs n xs st)) (λ r. ok (element_code n made xs zs r.0, renew_mods zs r.1))
-      renew_code_as m p (branch_code z s true k cs) st =
-          let st1 = reread s.ref st in
-          if takes_first z.unless (first_value (spot_pairs st1 s.ref))
-          then on_ok (renew_codes_as m (main ∷ p) 0 cs st1) (λ r. ok (branch_with z s true (kept k r)))
-          else fresh_branch run z s false p m (dropped_as naming (λ q. times_in q (lives_of cs) + times_comment q k) st1)
-      renew_code_as m p (branch_code z s false k cs) st =
-          let st1 = reread s.ref st in
-          if takes_first z.unless (first_value (spot_pairs st1 s.ref))
-          then fresh_branch run z s true p m (dropped_as naming (λ q. times_in q (lives_of cs) + times_comment q k) st1)
-          else on_ok (renew_codes_as m (otherwise ∷ p) 0 cs st1) (λ r. ok (branch_with z s false (kept k r)))
-      renew_code_as m p (listed_code z s is) st =
-          let st1 = reread s.ref st in
-          by_values (values_listed (first_value (spot_pairs st1 s.ref)))
-          (λ vs. on_ok (sync_codes_as naming (fresh_item_as z m) (items ∷ p) (entries z.key 0 [] vs) (code_handles_as m is) st1) (λ r. ok (listed_code z s r.0, r.1)))
-          (fresh_other run z s p m (dropped_as naming (λ q. times_items q (items_of is)) st1))
-      renew_code_as m p (unlisted_code z s k cs) st =
-          let st1 = reread s.ref st in
-          by_values (values_listed (first_value (spot_pairs st1 s.ref)))
-          (λ vs. on_ok (fresh_codes (fresh_item_as z m) (items ∷ p) (entries z.key 0 [] vs) (dropped_as naming (λ q. times_in q (lives_of cs) + times_comment q k) st1)) (λ r. ok (listed_code z s r.0, r.1)))
-          (on_ok (renew_codes_as m (otherwise ∷ p) 0 cs st1) (λ r. ok (unlisted_with z s (kept k r))))
-      renew_code_as m p (let_code made rs cs) st = on_ok (renew_codes_as m (main ∷ p) 0 cs st) (λ r. ok (let_code made rs r.0, r.1))
-      renew_code_as zero p (component_code i made gm args k cs) st = lost
-      renew_code_as (suc m) p (component_code i made gm args k cs) st = on_ok (renew_codes_as m i.path 0 cs st) (λ r. ok (component_code i made gm args k r.0, r.1))
-      renew_code_as m p (yield_code n made rs cs) st = on_ok (renew_codes_as m (slot n ∷ p) 0 cs st) (λ r. ok (yield_code n made rs r.0, r.1))
+  abbrev mutual
+    pub renew_code_as : ℕ → Path → Code → State → Outcome (Code × State)
+    renew_code_as m p (still_code n) st = ok (still_code n, st)
+    renew_code_as m p (put_code n s) st = ok (put_code n s, renew_text n s.ref st)
+    renew_code_as m p (element_code n made xs zs cs) st =
+        on_ok (renew_codes_as m p 0 cs (renew_attrs n xs st)) (λ r. ok (element_code n made xs zs r.0, renew_mods zs r.1))
+    renew_code_as m p (branch_code z s true k cs) st =
+        let st1 = reread s.ref st in
+        if takes_first z.unless (first_value (spot_pairs st1 s.ref))
+        then on_ok (renew_codes_as m (main ∷ p) 0 cs st1) (λ r. ok (branch_with z s true (kept k r)))
+        else fresh_branch run z s false p m (dropped_as naming (λ q. times_in q (lives_of cs) + times_comment q k) st1)
+    renew_code_as m p (branch_code z s false k cs) st =
+        let st1 = reread s.ref st in
+        if takes_first z.unless (first_value (spot_pairs st1 s.ref))
+        then fresh_branch run z s true p m (dropped_as naming (λ q. times_in q (lives_of cs) + times_comment q k) st1)
+        else on_ok (renew_codes_as m (otherwise ∷ p) 0 cs st1) (λ r. ok (branch_with z s false (kept k r)))
+    renew_code_as m p (listed_code z s is) st =
+        let st1 = reread s.ref st in
+        by_values (values_listed (first_value (spot_pairs st1 s.ref)))
+        (λ vs. on_ok (sync_codes_as naming (fresh_item_as z m) (items ∷ p) (entries z.key 0 [] vs) (code_handles_as m is) st1) (λ r. ok (listed_code z s r.0, r.1)))
+        (fresh_other run z s p m (dropped_as naming (λ q. times_items q (items_of is)) st1))
+    renew_code_as m p (unlisted_code z s k cs) st =
+        let st1 = reread s.ref st in
+        by_values (values_listed (first_value (spot_pairs st1 s.ref)))
+        (λ vs. on_ok (fresh_codes (fresh_item_as z m) (items ∷ p) (entries z.key 0 [] vs) (dropped_as naming (λ q. times_in q (lives_of cs) + times_comment q k) st1)) (λ r. ok (listed_code z s r.0, r.1)))
+        (on_ok (renew_codes_as m (otherwise ∷ p) 0 cs st1) (λ r. ok (unlisted_with z s (kept k r))))
+    renew_code_as m p (let_code made rs cs) st = on_ok (renew_codes_as m (main ∷ p) 0 cs st) (λ r. ok (let_code made rs r.0, r.1))
+    renew_code_as zero p (component_code i made gm args k cs) st = lost
+    renew_code_as (suc m) p (component_code i made gm args k cs) st = on_ok (renew_codes_as m i.path 0 cs st) (λ r. ok (component_code i made gm args k r.0, r.1))
+    renew_code_as m p (yield_code n made rs cs) st = on_ok (renew_codes_as m (slot n ∷ p) 0 cs st) (λ r. ok (yield_code n made rs r.0, r.1))
 
-      pub renew_codes_as : ℕ → Path → ℕ → Codes → State → Outcome (Codes × State)
-      renew_codes_as m p i no_codes st = ok (no_codes, st)
-      renew_codes_as m p i (code_and c cs) st =
-          on_ok (renew_code_as m (at i ∷ p) c st) (λ r. on_ok (renew_codes_as m p (suc i) cs r.1) (λ z. ok (code_and r.0 z.0, z.1)))
+    pub renew_codes_as : ℕ → Path → ℕ → Codes → State → Outcome (Codes × State)
+    renew_codes_as m p i no_codes st = ok (no_codes, st)
+    renew_codes_as m p i (code_and c cs) st =
+        on_ok (renew_code_as m (at i ∷ p) c st) (λ r. on_ok (renew_codes_as m p (suc i) cs r.1) (λ z. ok (code_and r.0 z.0, z.1)))
 
-      pub code_handles_as : ℕ → ItemCodes → List CodeHandle
-      code_handles_as m no_item_codes = []
-      code_handles_as m (item_code s k cs is) = record { spot = s; comment = k; codes = cs; go = λ q st. renew_codes_as m q 0 cs st } ∷ code_handles_as m is
+    pub code_handles_as : ℕ → ItemCodes → List CodeHandle
+    code_handles_as m no_item_codes = []
+    code_handles_as m (item_code s k cs is) = record { spot = s; comment = k; codes = cs; go = λ q st. renew_codes_as m q 0 cs st } ∷ code_handles_as m is
 
-    -- the root counts as one level of nesting
-    abbrev pub renew_page_as : ℕ → Code → State → Outcome (Code × State)
-    renew_page_as m c st = renew_code_as m [] c st
+  -- the root counts as one level of nesting
+  abbrev pub renew_page_as : ℕ → Code → State → Outcome (Code × State)
+  renew_page_as m c st = renew_code_as m [] c st
 
 -- By paths.
 

@@ -382,106 +382,105 @@ module _ (env : Env) (store : Store) where
   outcome too_deep = deep
   outcome _ = lost
 
-module _ (naming : Naming) where
-  module _ (env : Env) (store : Store) where
-    -- the component's block, cells and instance are made, and its program is begun
-    abbrev pub invoke_below_as : Mach → ℕ → Run
-    invoke_below_as m left =
-        let k = m.rest.making in
-        let b = m.state.next a_block in
-        let q = into (class_no env k.class).name ∷ next_at m.rest.here in
-        let c = grow_cells_as naming env.app store q (class_no env k.class).fields (make a_block block_row m.state) in
-        let i : Inst = record { id = c.state.next an_instance; path = q; cells = c.names } in
-        let gm = block_id b ∷ m.made in
-        go (make an_instance (instance_row i) c.state) m.stack [] 0 (record {
-          getter = None;
-          sight = sight k.class i k.args [] (passing b k.start k.slots m.rest.sight);
-          pending = [];
-          here = fresh q;
-          making = idle;
-          left = left;
-          frames = m.rest.frames
-              ++ record { here = m.rest.here; kind = in_component (record { getter = m.rest.getter; pc = suc m.pc; sight = m.rest.sight; pending = m.rest.pending }) i (instance_id i.id ∷ (gm ++ c.made)) gm k.args (Some b) } ∷ [];
-        })
+module _ (naming : Naming) (env : Env) (store : Store) where
+  -- the component's block, cells and instance are made, and its program is begun
+  abbrev pub invoke_below_as : Mach → ℕ → Run
+  invoke_below_as m left =
+      let k = m.rest.making in
+      let b = m.state.next a_block in
+      let q = into (class_no env k.class).name ∷ next_at m.rest.here in
+      let c = grow_cells_as naming env.app store q (class_no env k.class).fields (make a_block block_row m.state) in
+      let i : Inst = record { id = c.state.next an_instance; path = q; cells = c.names } in
+      let gm = block_id b ∷ m.made in
+      go (make an_instance (instance_row i) c.state) m.stack [] 0 (record {
+        getter = None;
+        sight = sight k.class i k.args [] (passing b k.start k.slots m.rest.sight);
+        pending = [];
+        here = fresh q;
+        making = idle;
+        left = left;
+        frames = m.rest.frames
+            ++ record { here = m.rest.here; kind = in_component (record { getter = m.rest.getter; pc = suc m.pc; sight = m.rest.sight; pending = m.rest.pending }) i (instance_id i.id ∷ (gm ++ c.made)) gm k.args (Some b) } ∷ [];
+      })
 
-    abbrev pub do_invoke_as : Mach → ℕ → Run
-    do_invoke_as m zero = too_deep
-    do_invoke_as m (suc left) = invoke_below_as m left
+  abbrev pub do_invoke_as : Mach → ℕ → Run
+  do_invoke_as m zero = too_deep
+  do_invoke_as m (suc left) = invoke_below_as m left
 
-    abbrev pub do_action_as : ℕ → Mach → Run
-    do_action_as a m =
-        given (slice_get (class_no env (class_of m.rest.sight)).actions a)
-        (λ x. push_new (constant_form (v.action (naming.owner (inst_in m.rest.sight)) x.0 v.no_values)) m)
+  abbrev pub do_action_as : ℕ → Mach → Run
+  do_action_as a m =
+      given (slice_get (class_no env (class_of m.rest.sight)).actions a)
+      (λ x. push_new (constant_form (v.action (naming.owner (inst_in m.rest.sight)) x.0 v.no_values)) m)
 
-    -- the opcode at the present place
-    abbrev pub do_op_as : Mach → Op → Run
-    do_op_as m (op.Text b) = text_at env store m b (λ t. do_text t m)
-    do_op_as m (op.Comment b) = text_at env store m b (λ t. do_comment t m)
-    do_op_as m (op.Open b) = text_at env store m b (λ t. do_open t m)
-    do_op_as m (op.Attr a b) = name_at env store m a (λ n. text_at env store m b (λ t. do_attr n t m))
-    do_op_as m (op.AttrRef a) = name_at env store m a (λ n. given (popped m.stack) (do_attr_ref n m))
-    do_op_as m op.Spread = spread_to m (passing_in m.rest.sight)
-    do_op_as m (op.Mod a b) = given (slice_get (codes "on" ∷ env.manifest.modifiers) a) (λ n. do_mod b n m)
-    do_op_as m op.Flush = do_flush m
-    do_op_as m op.Close = with_top m do_close
-    do_op_as m op.Put = given (popped m.stack) (do_put m)
-    do_op_as m (op.If b) = given (popped m.stack) (do_if false b m)
-    do_op_as m (op.Unless b) = given (popped m.stack) (do_if true b m)
-    do_op_as m (op.Else b) = else_at m b (popped m.rest.frames)
-    do_op_as m op.EndIf = with_end m do_end_if
-    do_op_as m (op.Each a b) = name_at env store m a (λ n. given (popped m.stack) (do_each env store n b m))
-    do_op_as m (op.Item a b) = with_top m (do_item_as naming)
-    do_op_as m op.EndItem = with_end m do_end_item
-    do_op_as m op.EndEach = with_end m do_end_each
-    do_op_as m (op.Let a) = do_let a m
-    do_op_as m (op.Bind a) = do_bind a m m.rest.pending
-    do_op_as m op.EndLet = with_top m do_end_let
-    do_op_as m (op.Comp a) = do_comp a m
-    do_op_as m (op.Arg a) = name_at env store m a (λ n. given (popped m.stack) (do_arg n m))
-    do_op_as m (op.Block a b) = unless_parts m (popped m.rest.frames) (name_at env store m a (λ n. do_block n b m))
-    do_op_as m (op.Param a) = do_bind a m m.rest.pending
-    do_op_as m op.EndBlock = with_end m do_end_block
-    do_op_as m op.Bare = unless_parts m (popped m.rest.frames) (do_bare m)
-    do_op_as m op.Invoke = do_invoke_as m m.rest.left
-    do_op_as m (op.Yield a b) = name_at env store m b (λ n. do_yield a n m)
-    do_op_as m op.Undef = push_new (constant_form v.undefined) m
-    do_op_as m op.Null = push_new (constant_form v.null) m
-    do_op_as m op.True = push_new (constant_form (v.boolean true)) m
-    do_op_as m op.False = push_new (constant_form (v.boolean false)) m
-    do_op_as m (op.Int b) = given (slice_get (program_at env store m).ints b) (λ z. push_new (constant_form (v.integer z)) m)
-    do_op_as m (op.Str b) = text_at env store m b (λ t. push_new (constant_form (v.text t)) m)
-    do_op_as m (op.Local a) = do_local env store a m
-    do_op_as m (op.ArgRef a) = name_at env store m a (λ n. push_found (last_named n (args_in m.rest.sight)) m)
-    do_op_as m (op.Field a) = do_field env store a m
-    do_op_as m (op.Getter a) = do_getter env store a m
-    do_op_as m (op.Action a) = do_action_as a m
-    do_op_as m (op.Prop b) = text_at env store m b (λ t. given (popped m.stack) (do_prop t m))
-    do_op_as m (op.Call a b) = given (name_of a helper_rows) (λ n. do_call b n m)
-    do_op_as m (op.Named b) = text_at env store m b (λ t. given (popped m.stack) (do_named t m))
-    do_op_as m (op.Cat a) = do_cat a m
-    do_op_as m op.Done = with_end m do_done
+  -- the opcode at the present place
+  abbrev pub do_op_as : Mach → Op → Run
+  do_op_as m (op.Text b) = text_at env store m b (λ t. do_text t m)
+  do_op_as m (op.Comment b) = text_at env store m b (λ t. do_comment t m)
+  do_op_as m (op.Open b) = text_at env store m b (λ t. do_open t m)
+  do_op_as m (op.Attr a b) = name_at env store m a (λ n. text_at env store m b (λ t. do_attr n t m))
+  do_op_as m (op.AttrRef a) = name_at env store m a (λ n. given (popped m.stack) (do_attr_ref n m))
+  do_op_as m op.Spread = spread_to m (passing_in m.rest.sight)
+  do_op_as m (op.Mod a b) = given (slice_get (codes "on" ∷ env.manifest.modifiers) a) (λ n. do_mod b n m)
+  do_op_as m op.Flush = do_flush m
+  do_op_as m op.Close = with_top m do_close
+  do_op_as m op.Put = given (popped m.stack) (do_put m)
+  do_op_as m (op.If b) = given (popped m.stack) (do_if false b m)
+  do_op_as m (op.Unless b) = given (popped m.stack) (do_if true b m)
+  do_op_as m (op.Else b) = else_at m b (popped m.rest.frames)
+  do_op_as m op.EndIf = with_end m do_end_if
+  do_op_as m (op.Each a b) = name_at env store m a (λ n. given (popped m.stack) (do_each env store n b m))
+  do_op_as m (op.Item a b) = with_top m (do_item_as naming)
+  do_op_as m op.EndItem = with_end m do_end_item
+  do_op_as m op.EndEach = with_end m do_end_each
+  do_op_as m (op.Let a) = do_let a m
+  do_op_as m (op.Bind a) = do_bind a m m.rest.pending
+  do_op_as m op.EndLet = with_top m do_end_let
+  do_op_as m (op.Comp a) = do_comp a m
+  do_op_as m (op.Arg a) = name_at env store m a (λ n. given (popped m.stack) (do_arg n m))
+  do_op_as m (op.Block a b) = unless_parts m (popped m.rest.frames) (name_at env store m a (λ n. do_block n b m))
+  do_op_as m (op.Param a) = do_bind a m m.rest.pending
+  do_op_as m op.EndBlock = with_end m do_end_block
+  do_op_as m op.Bare = unless_parts m (popped m.rest.frames) (do_bare m)
+  do_op_as m op.Invoke = do_invoke_as m m.rest.left
+  do_op_as m (op.Yield a b) = name_at env store m b (λ n. do_yield a n m)
+  do_op_as m op.Undef = push_new (constant_form v.undefined) m
+  do_op_as m op.Null = push_new (constant_form v.null) m
+  do_op_as m op.True = push_new (constant_form (v.boolean true)) m
+  do_op_as m op.False = push_new (constant_form (v.boolean false)) m
+  do_op_as m (op.Int b) = given (slice_get (program_at env store m).ints b) (λ z. push_new (constant_form (v.integer z)) m)
+  do_op_as m (op.Str b) = text_at env store m b (λ t. push_new (constant_form (v.text t)) m)
+  do_op_as m (op.Local a) = do_local env store a m
+  do_op_as m (op.ArgRef a) = name_at env store m a (λ n. push_found (last_named n (args_in m.rest.sight)) m)
+  do_op_as m (op.Field a) = do_field env store a m
+  do_op_as m (op.Getter a) = do_getter env store a m
+  do_op_as m (op.Action a) = do_action_as a m
+  do_op_as m (op.Prop b) = text_at env store m b (λ t. given (popped m.stack) (do_prop t m))
+  do_op_as m (op.Call a b) = given (name_of a helper_rows) (λ n. do_call b n m)
+  do_op_as m (op.Named b) = text_at env store m b (λ t. given (popped m.stack) (do_named t m))
+  do_op_as m (op.Cat a) = do_cat a m
+  do_op_as m op.Done = with_end m do_done
 
-    abbrev pub step_as : Mach → Run
-    step_as m = given (op_at (program_at env store m) m.pc) (do_op_as m)
+  abbrev pub step_as : Mach → Run
+  step_as m = given (op_at (program_at env store m) m.pc) (do_op_as m)
 
-    -- what is over stays so
-    abbrev pub step_run_as : Run → Run
-    step_run_as (going m) = step_as m
-    step_run_as r = r
+  -- what is over stays so
+  abbrev pub step_run_as : Run → Run
+  step_run_as (going m) = step_as m
+  step_run_as r = r
 
-    -- some number of steps lead from one to the other
-    pub data Comes_as : Run → Run → Type 0 where
-      here : {r : Run} → Comes_as r r
-      more : {r s : Run} → Comes_as (step_run_as r) s → Comes_as r s
+  -- some number of steps lead from one to the other
+  pub data Comes_as : Run → Run → Type 0 where
+    here : {r : Run} → Comes_as r r
+    more : {r s : Run} → Comes_as (step_run_as r) s → Comes_as r s
 
-    -- so many steps
-    abbrev pub after_as : ℕ → Run → Run
-    after_as zero r = r
-    after_as (suc n) r = after_as n (step_run_as r)
+  -- so many steps
+  abbrev pub after_as : ℕ → Run → Run
+  after_as zero r = r
+  after_as (suc n) r = after_as n (step_run_as r)
 
-    -- what is appended from a start, where it ends within n steps
-    abbrev pub run_for_as : ℕ → Runs
-    run_for_as n s st = outcome env store (after_as n (begun env store s st))
+  -- what is appended from a start, where it ends within n steps
+  abbrev pub run_for_as : ℕ → Runs
+  run_for_as n s st = outcome env store (after_as n (begun env store s st))
 
 -- By paths.
 

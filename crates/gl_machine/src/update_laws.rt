@@ -5,7 +5,7 @@ ghost use Rattle.gl_machine.specs.Placed.{RenewsRight};
 ghost use Rattle.gl_machine.specs.Scopes.{PageNamesOwn, SightsNameOwn};
 ghost use Rattle.gl_machine.specs.UpdateLaws.{FreedIsGone, FreedIsLogged, IdsByPath, IdsStandOnce, NestHasNodes, NestIsDrawn, NestIsOrdered, NestIsPlaced, PageFollows, PlacesStandOnce, RowsAreDrawn};
 
-/// An update of the recorded program does what one of the tree does, and leaves it recorded well.
+/// An update of the recorded program does what one of the tree does by the same naming, and leaves it recorded well.
 pub fn recorded()
     ensures statements { RenewsRight }
     ensures page { PageFollows }
