@@ -18,7 +18,7 @@ use Rattle.gl_plain.specs.State.{any_of, Row, all_form, row, State, pair_of, not
 use Rattle.gl_plain.specs.Renew.{spot_ids, spot_pairs, evaluate}
 use Rattle.gl_vm.specs.Labels.{label}
 use Rattle.gl_vm.specs.Kept.{Kept, some_below, state_by}
-use Rattle.gl_vm.specs.View.{Tables, stamps, seen_form, is_led, form_led, led_by, last_led, last_of, seen_row, row_at, holder, AllKnown, PositionsUnread, is_all, kept_of, state_of, AgreesAt}
+use Rattle.gl_vm.specs.View.{Tables, stamps, seen_form, is_led, form_led, led_by, last_led, last_of, seen_row, row_at, holder, PositionsUnread, is_all, kept_of, state_of, AgreesAt}
 use Rattle.gl_vm.specs.Steps.{Does}
 use Rattle.gl_vm.specs.declared.vm.Vm.{Vm}
 use Rattle.gl_vm.proofs.States.{amended_is, row_put}
@@ -197,7 +197,7 @@ module _ (r r' : Refs) (id : Id) (reads : Reads r r' id) (stamped : IsStamped r.
     pub rows-settled : row_at r' ≡ amended (row_at r) id.1 (Some (record { form = all_form (stamps ids); last = any_of (map (λ u. label (holder rows r.rows.made u)) srcs) }))
     rows-settled = amended_is (row_at r) id.1 (Some (record { form = all_form (stamps ids); last = any_of (map (λ u. label (holder rows r.rows.made u)) srcs) })) (row_at r') row-here row-stays
 
-module _ (vm : Vm) (r' : Refs) (id : Id) (reads : Reads vm.refs r' id) (stamped : IsStamped vm.refs.rows) (stamped' : IsStamped r'.rows) (unread : PositionsUnread vm.refs) (known : AllKnown vm.refs)
+module _ (vm : Vm) (r' : Refs) (id : Id) (reads : Reads vm.refs r' id) (stamped : IsStamped vm.refs.rows) (stamped' : IsStamped r'.rows) (unread : PositionsUnread vm.refs)
     (sound : s.IsSound vm.refs.tags (rows_of vm.refs)) (sound' : s.IsSound r'.tags (rows_of r')) (kept : s.IsKept r'.tags (rows_of r') id) (listed : r'.evaluated ≡ vm.refs.evaluated ++ id ∷ [])
     (ids : List Id) (is : forms_of vm.refs id ≡ Some (f.all_form ids)) where
   abbrev found : List Source
@@ -217,7 +217,7 @@ module _ (vm : Vm) (r' : Refs) (id : Id) (reads : Reads vm.refs r' id) (stamped 
         ∙ ap (λ g. spot_ids (Some (row (record { form = seen_form id.1 g; last = last_of vm.refs.tags (by_stamp vm.refs.rows) vm.refs.rows.made g y.0.last })))) y.2
 
     sources-found : sources_of (spot_pairs st id.1) ≡ found
-    sources-found = ap (λ xs. sources_of (map (pair_of st.look) xs)) ids-are ∙ position-sources vm.refs stamped sound known st.look (λ n. refl) id ids is
+    sources-found = ap (λ xs. sources_of (map (pair_of st.look) xs)) ids-are ∙ position-sources vm.refs stamped sound st.look (λ n. refl) id ids is
 
     kept-is : kept_of n (record vm { refs = r' }) ≡ record (kept_of n vm) { row = amended (row_at vm.refs) id.1 (Some seen-there); evaluated = stamps vm.refs.evaluated ++ id.1 ∷ [] }
     kept-is = λ z. record (kept_of n vm) {

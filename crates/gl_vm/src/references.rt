@@ -1,7 +1,7 @@
 // References that are made.
 ghost use Rattle.std.specs.Prelude.{◌≡◌, true, IfOk, OnErr, IsSome};
 ghost use Rattle.gl_value.specs.View.{view};
-ghost use Rattle.gl_refs.specs.Forms.{Each, parts};
+ghost use Rattle.gl_refs.specs.Forms.{Each, parts, is_known};
 ghost use Rattle.gl_refs.specs.Refs.{forms_of, HasRoom};
 ghost use Rattle.gl_refs.specs.State.{is_cell, is_item};
 ghost use Rattle.gl_refs.specs.View as code;
@@ -29,9 +29,10 @@ impl Vm {
         self.refs.constant(value)
     }
 
-    /// Makes a reference of that form over live references.
+    /// Makes a reference of that form over live references. The number of a call is that of a helper.
     pub fn bind(&mut self, form: Form) -> Result<RefId, AllocError>
-        requires { Each (λ q. IsSome (forms_of self.old.refs q)) (parts (code.seen_form form)) }
+        requires parts { Each (λ q. IsSome (forms_of self.old.refs q)) (parts (code.seen_form form)) }
+        requires known { is_known (code.seen_form form) ≡ true }
         ensures step { IfOk result (λ id. Does (λ n. made_row (seen_form self.old.refs.rows.made (code.seen_form form))) self.old self.new) }
         ensures id { IfOk result (λ id. Numbers self.old.refs.rows self.new.refs.rows id) }
         ensures rest { self.new ≡ record self.old { refs = self.new.refs } }

@@ -9,5 +9,5 @@ pub returns-clause-step : goal.returns-clause-step
 returns-clause-step c =
     let p = position_ids _ c.requires.position in
     on_ok c.renew-done.result
-    (λ kept listed. evaluate_step c.args.self.now c.renew-done.new.self c.args.id c.renew-done.ensures.reads c.sound.ensures.stamped c.sound-2.ensures.stamped c.requires.unread c.requires.known c.sound.ensures.sound c.sound-2.ensures.sound kept listed p.0 p.1)
+    (λ kept listed. evaluate_step c.args.self.now c.renew-done.new.self c.args.id c.renew-done.ensures.reads c.sound.ensures.stamped c.sound-2.ensures.stamped c.requires.unread c.sound.ensures.sound c.sound-2.ensures.sound kept listed p.0 p.1)
     c.renew-done.ensures.kept c.renew-done.ensures.evaluated
