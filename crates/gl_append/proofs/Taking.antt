@@ -15,33 +15,33 @@ use Rattle.gl_append.specs.Steps.{Moves, Changes, GoesOn, Takes, pushed_made}
 use Rattle.gl_append.specs.declared.machine.Machine.{Machine}
 
 -- nothing that is kept changes
-pub moved : {f : Tables → Mach → Run} {vm : Vm} {old new : Machine} → Moves f old new → Takes f vm old vm new
-moved {f} {vm} {old} {new} m n t a = record { state = state_of n vm t; follows = record { state = refl; agrees = a }; goes = m n (state_of n vm t) }
+pub moved : (f : Tables → Mach → Run) (vm : Vm) (old new : Machine) → Moves f old new → Takes f vm old vm new
+moved f vm old new m n t a = record { state = state_of n vm t; follows = record { state = refl; agrees = a }; goes = m n (state_of n vm t) }
 
 -- one step of what is kept after another
-pub does_then : {f g : Tables → State → State} {vm vm1 vm2 : Vm} → Does f vm vm1 → Does g vm1 vm2 → Does (λ n st. g n (f n st)) vm vm2
-does_then {f} {g} {vm} {vm1} {vm2} d e n t a =
+pub does_then : (f g : Tables → State → State) (vm vm1 vm2 : Vm) → Does f vm vm1 → Does g vm1 vm2 → Does (λ n st. g n (f n st)) vm vm2
+does_then f g vm vm1 vm2 d e n t a =
     let x = d n t a in
     subst (λ st. Follows n (g n st) vm2) x.state (e n (f n (state_of n vm t)).touched x.agrees)
 
 -- something is done with what is kept, and then registers change
-pub done_then : {f g : Tables → Mach → Run} {d : Tables → State → State} {vm vm' : Vm} {old new : Machine} → Does d vm vm' → Moves g old new
+pub done_then : (f g : Tables → Mach → Run) (d : Tables → State → State) (vm vm' : Vm) (old new : Machine) → Does d vm vm' → Moves g old new
     → ((n : Tables) (t : Source → Bool) → f n (mach_of n t vm old) ≡ g n (mach_by n (d n (state_of n vm t)) old)) → Takes f vm old vm' new
-done_then {f} {g} {d} {vm} {vm'} {old} {new} x m e n t a =
+done_then f g d vm vm' old new x m e n t a =
     record { state = d n (state_of n vm t); follows = x n t a; goes = e n t ∙ m n (d n (state_of n vm t)) }
 
 -- registers change first
-pub then_takes : {f : Tables → Mach → Run} {h : Tables → Mach → Mach} {vm vm' : Vm} {old mid new : Machine} → Changes h old mid → Takes f vm mid vm' new
+pub then_takes : (f : Tables → Mach → Run) (h : Tables → Mach → Mach) (vm vm' : Vm) (old mid new : Machine) → Changes h old mid → Takes f vm mid vm' new
     → Takes (λ n m. f n (h n m)) vm old vm' new
-then_takes {f} {h} {vm} {vm'} {old} {mid} {new} c x n t a = subst (λ m. GoesOn n (f n m) vm' new) (c n (state_of n vm t)) (x n t a)
+then_takes f h vm vm' old mid new c x n t a = subst (λ m. GoesOn n (f n m) vm' new) (sym (c n (state_of n vm t))) (x n t a)
 
-pub then_moves : {f : Tables → Mach → Run} {h : Tables → Mach → Mach} {old mid new : Machine} → Changes h old mid → Moves f mid new → Moves (λ n m. f n (h n m)) old new
-then_moves {f} {h} {old} {mid} {new} c x n st = subst (λ m. f n m ≡ going (mach_by n st new)) (c n st) (x n st)
+pub then_moves : (f : Tables → Mach → Run) (h : Tables → Mach → Mach) (old mid new : Machine) → Changes h old mid → Moves f mid new → Moves (λ n m. f n (h n m)) old new
+then_moves f h old mid new c x n st = subst (λ m. f n m ≡ going (mach_by n st new)) (sym (c n st)) (x n st)
 
 -- a reference is made and pushed
 pub made_pushed : (form : Form) (vm vm' : Vm) (old new : Machine) (id : Id) → Does (λ n. made_row form) vm vm' → Numbers vm.refs.rows vm'.refs.rows id
     → Moves (λ n. pushed_made id.1) old new → Takes (λ n. s.push_new form) vm old vm' new
 made_pushed form vm vm' old new id d i m =
-    done_then {f = λ n. s.push_new form} {g = λ n. pushed_made id.1} {d = λ n. made_row form} d m
+    done_then (λ n. s.push_new form) (λ n. pushed_made id.1) (λ n. made_row form) vm vm' old new d m
     (λ n t. let st = made_row form (state_of n vm t) in let k = mach_by n st old in
         ap (λ r. go st (k.stack ++ (None, r) ∷ []) (k.made ++ ref r ∷ []) (suc k.pc) k.rest) (sym i.stamp))
