@@ -3,14 +3,18 @@ use Rattle.std.proofs.Common.{◌≡◌, ℕ, suc, Bool, List, [], ◌∷◌, �
 use Rattle.gl_arena.specs.Id.{Id}
 use Rattle.gl_meaning.specs.Scope.{Source}
 use Rattle.gl_plain.specs.Ids.{ref}
-use Rattle.gl_plain.specs.State.{Form, State}
+use Rattle.gl_base.specs.Texts.{Text}
+use Rattle.gl_plain.specs.State.{Form, call_form, Names, State}
 use Rattle.gl_plain.specs.Binding.{made_row}
 use Rattle.gl_machine.specs.Mach.{Mach, Run, going, go}
 use Rattle.gl_machine.specs.Step as s
 use Rattle.gl_vm.specs.View.{Tables, Agrees, state_of}
 use Rattle.gl_vm.specs.Steps.{Follows, Does, Numbers}
 use Rattle.gl_vm.specs.declared.vm.Vm.{Vm}
-use Rattle.gl_append.specs.MachineView.{mach_by, mach_of}
+use Rattle.std.specs.declared.vec.Vec.{Vec}
+use Rattle.std.specs.declared.alloc.Global.{Global}
+use Rattle.gl_append.specs.declared.machine.Pushed.{Pushed}
+use Rattle.gl_append.specs.MachineView.{seen_stack, mach_by, mach_of}
 use Rattle.gl_append.specs.Steps.{Moves, Changes, GoesOn, Takes, pushed_made}
 use Rattle.gl_append.specs.declared.machine.Machine.{Machine}
 
@@ -45,3 +49,21 @@ made_pushed form vm vm' old new id d i m =
     done_then (λ n. s.push_new form) (λ n. pushed_made id.1) (λ n. made_row form) vm vm' old new d m
     (λ n t. let st = made_row form (state_of n vm t) in let k = mach_by n st old in
         ap (λ r. go st (k.stack ++ (None, r) ∷ []) (k.made ++ ref r ∷ []) (suc k.pc) k.rest) (sym i.stamp))
+
+-- the last ones of the stack were taken, and a reference over them is pushed
+pub after_taking : (count : ℕ) (form : List ℕ → Form) (vm vm' : Vm) (old : Machine) (stack : Vec Pushed Global) (new : Machine) (rs : List ℕ)
+    → rs ≡ s.positional (s.upper count (seen_stack old.stack.items)) → seen_stack stack.items ≡ s.lower count (seen_stack old.stack.items)
+    → Takes (λ n. s.push_new (form rs)) vm (record old { stack = stack }) vm' new
+    → Takes (λ n m. s.push_over count (form (s.positional (s.upper count m.stack))) m) vm old vm' new
+after_taking count form vm vm' old stack new rs e l x n t a =
+    subst (λ qs. GoesOn n (s.push_new (form qs) (record (mach_of n t vm old) { stack = s.lower count (seen_stack old.stack.items) })) vm' new) e
+    (subst (λ y. GoesOn n (s.push_new (form rs) (record (mach_of n t vm old) { stack = y })) vm' new) l (x n t a))
+
+-- the same of a helper's call
+pub after_calling : (count : ℕ) (name : Text) (vm vm' : Vm) (old : Machine) (stack : Vec Pushed Global) (new : Machine) (rs : List ℕ) (ns : Names)
+    → rs ≡ s.positional (s.upper count (seen_stack old.stack.items)) → ns ≡ s.named_ones (s.upper count (seen_stack old.stack.items)) → seen_stack stack.items ≡ s.lower count (seen_stack old.stack.items)
+    → Takes (λ n. s.push_new (call_form name rs ns)) vm (record old { stack = stack }) vm' new → Takes (λ n. s.do_call count name) vm old vm' new
+after_calling count name vm vm' old stack new rs ns e d l x n t a =
+    subst (λ qs. GoesOn n (s.push_new (call_form name qs (s.named_ones (s.upper count (seen_stack old.stack.items)))) (record (mach_of n t vm old) { stack = s.lower count (seen_stack old.stack.items) })) vm' new) e
+    (subst (λ ms. GoesOn n (s.push_new (call_form name rs ms) (record (mach_of n t vm old) { stack = s.lower count (seen_stack old.stack.items) })) vm' new) d
+      (subst (λ y. GoesOn n (s.push_new (call_form name rs ns) (record (mach_of n t vm old) { stack = y })) vm' new) l (x n t a)))

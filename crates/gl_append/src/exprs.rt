@@ -15,20 +15,13 @@ ghost use Rattle.gl_vm.specs.Steps.{Does, Numbers};
 ghost use Rattle.gl_append.specs.MachineView.{seen_pushed};
 ghost use Rattle.gl_append.specs.Steps.{Moves, Takes, pushed_made};
 
+use crate::kept::bind;
 use crate::machine::{Machine, Pushed};
 use crate::stack::{named_ones, positional, take_last};
 use gl_refs::{Form, RefId};
 use gl_value::{Text, Value};
 use gl_vm::Vm;
 use std::alloc::AllocError;
-
-/// Makes a reference of that form, where each part may be read.
-pub fn bind(vm: &mut Vm, form: Form) -> Result<RefId, AllocError>
-    ensures step { IfOk result (λ id. Does (λ n. made_row (seen_form vm.old.refs.rows.made (code_form form))) vm.old vm.new) }
-    ensures id { IfOk result (λ id. Numbers vm.old.refs.rows vm.new.refs.rows id) }
-{
-    Err(AllocError)
-}
 
 impl Machine {
     /// The next address.

@@ -3,6 +3,7 @@
 
 mod code;
 mod exprs;
+mod kept;
 mod machine;
 mod sight;
 mod stack;
