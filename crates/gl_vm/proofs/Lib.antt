@@ -7,3 +7,7 @@ pub mod ThingSteps
 pub mod Means
 pub mod Values
 pub mod Settled
+pub mod Calms
+pub mod Placed
+pub mod Begins
+pub mod Wants

@@ -1,5 +1,5 @@
 -- What a step of the code does to the state.
-use Rattle.std.specs.Prelude.{◌≡◌, ℕ, ◌+◌, List, [], ◌∷◌, Bool, ◌||◌, if◌then◌else◌, Option, Some}
+use Rattle.std.specs.Prelude.{◌≡◌, ℕ, ◌+◌, List, [], ◌∷◌, Bool, if◌then◌else◌, Option, Some}
 use Rattle.std.specs.Str.{bytes_eq}
 use Rattle.gl_base.specs.Texts.{Text}
 use Rattle.gl_arena.specs.Id.{Id}
@@ -8,9 +8,8 @@ use Rattle.gl_meaning.specs.Path.{V}
 use Rattle.gl_meaning.specs.Scope.{Source}
 use Rattle.gl_meaning.specs.Parts.{Attrs}
 use Rattle.gl_plain.specs.Ids.{node, modifier_id}
-use Rattle.gl_plain.specs.State.{source_form, content, Installed, modifier_row, Thing, State, source_eq, put_thing, note_updated}
+use Rattle.gl_plain.specs.State.{content, Installed, modifier_row, Thing, State, put_thing, note_updated}
 use Rattle.gl_plain.specs.Renew.{changed_attr}
-use Rattle.gl_plain.specs.Binding.{made_row}
 use Rattle.gl_vm.specs.View.{Tables, state_of, Agrees}
 use Rattle.gl_vm.specs.declared.vm.Vm.{Vm}
 
@@ -28,10 +27,6 @@ pub record Numbers {T : Type 0} (old new : Arena T) (id : Id) : Type 0 where
   pub stamp : id.1 ≡ old.made
   pub own : IsOwn new id
   pub olds : (i : Id) → IsOwn old i → IsOwn new i
-
--- a source is made, and counts as touched
-abbrev pub made_source : Source → V → State → State
-made_source x v st = let r = made_row (source_form x v) st in record r { touched = λ y. source_eq y x || r.touched y }
 
 -- the node's attribute of a name is changed
 abbrev pub put_attr : ℕ → Text → Option Text → State → State
