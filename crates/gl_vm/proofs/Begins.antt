@@ -1,7 +1,7 @@
 -- The beginning of a turn: nothing is touched, and nothing was done.
-use Rattle.std.proofs.Common.{◌≡◌, ℕ, ◌+◌, ◌≤◌, true, false, Option, Some, None, option_map, [], refl, sym, ap, subst, arith}
+use Rattle.std.proofs.Common.{◌≡◌, ℕ, ◌+◌, ◌≤◌, true, false, Option, Some, None, option_map, [], refl, sym, ap, arith}
 use Rattle.gl_arena.specs.Id.{Id}
-use Rattle.gl_arena.specs.Arena.{by_stamp, named, IsStamped}
+use Rattle.gl_arena.specs.Arena.{by_stamp, IsStamped}
 use Rattle.gl_tags.specs.Tags as t
 use Rattle.gl_mods.specs.Mods as m
 use Rattle.gl_refs.specs.Forms as f

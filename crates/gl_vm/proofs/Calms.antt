@@ -7,7 +7,7 @@ use Rattle.gl_arena.proofs.Ids.{id_cases, same_id-other}
 use Rattle.gl_arena.proofs.Values.{with_value-writes}
 use Rattle.gl_refs.specs.Forms as f
 use Rattle.gl_refs.specs.State as s
-use Rattle.gl_refs.specs.Refs.{Refs, rows_of, forms_of, Makes, MakesSource, SetsValue, Holds}
+use Rattle.gl_refs.specs.Refs.{Refs, forms_of, Makes, MakesSource, SetsValue, Holds}
 use Rattle.gl_refs.proofs.Meanings.{each_map}
 use Rattle.gl_vm.specs.View.{PositionsUnread}
 use Rattle.gl_vm.proofs.Rows.{none_not, some_same}

@@ -11,3 +11,5 @@ pub mod Calms
 pub mod Placed
 pub mod Begins
 pub mod Wants
+pub mod Drops
+pub mod Ended

@@ -1,20 +1,20 @@
 -- A position that is made and evaluated at once.
-use Rattle.std.proofs.Common.{◌≡◌, ◌≢◌, ℕ, ◌<◌, Bool, true, false, cond, Option, Some, None, option_map, IsSome, is_some, List, [], ◌∷◌, map, refl, sym, ap, ap₂, subst, ◌∙◌, inl, inr, arith}
-use Rattle.std.specs.Prelude.{nat_eq, if◌then◌else◌}
+use Rattle.std.proofs.Common.{◌≡◌, ℕ, ◌<◌, Bool, true, false, Option, Some, None, option_map, IsSome, is_some, List, [], ◌∷◌, map, refl, sym, ap, ap₂, ◌∙◌, arith}
+use Rattle.std.specs.Prelude.{if◌then◌else◌}
 use Rattle.gl_arena.specs.Id.{Id}
-use Rattle.gl_arena.specs.Arena.{Arena, named, by_stamp, IsStamped, IsOwn}
+use Rattle.gl_arena.specs.Arena.{named, by_stamp, IsStamped, IsOwn}
 use Rattle.gl_arena.proofs.Stamps.{by_stamp-id, by_stamp-live}
 use Rattle.gl_refs.specs.Forms as f
 use Rattle.gl_refs.specs.State as s
 use Rattle.gl_refs.specs.Refs.{Refs, rows_of, forms_of}
-use Rattle.gl_meaning.specs.Scope.{Source, Pair, sources_of}
-use Rattle.gl_plain.specs.Ids.{a_ref, Id as Name, id_eq, ref}
-use Rattle.gl_plain.specs.State.{any_of, Form, all_form, row, Thing, State, pair_of, make, put_thing, note_evaluated}
+use Rattle.gl_meaning.specs.Scope.{sources_of}
+use Rattle.gl_plain.specs.Ids.{a_ref, id_eq, ref}
+use Rattle.gl_plain.specs.State.{any_of, all_form, row, Thing, State, pair_of, make, put_thing, note_evaluated}
 use Rattle.gl_plain.specs.Binding.{made_row, place}
 use Rattle.gl_plain.specs.Renew.{spot_ids, evaluate}
 use Rattle.gl_plain.proofs.Pairs.{pairs_agree}
 use Rattle.gl_vm.specs.View.{stamps, state_of}
-use Rattle.gl_vm.specs.Steps.{Does, Follows, Numbers}
+use Rattle.gl_vm.specs.Steps.{Does}
 use Rattle.gl_vm.specs.declared.vm.Vm.{Vm}
 use Rattle.gl_vm.proofs.States.{num_yes, num_no, state_is}
 use Rattle.gl_vm.proofs.Rows.{none_not}

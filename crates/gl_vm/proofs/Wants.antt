@@ -1,5 +1,5 @@
 -- What stays where there was no memory.
-use Rattle.std.proofs.Common.{◌≡◌, ℕ, Bool, Option, Some, None, option_map, refl, sym, ap, ap₂, subst, ◌∙◌}
+use Rattle.std.proofs.Common.{◌≡◌, ℕ, Bool, Option, Some, None, option_map, refl, sym, ap, ap₂, ◌∙◌}
 use Rattle.std.specs.Prelude.{◌==◌}
 use Rattle.gl_arena.specs.Id.{Id}
 use Rattle.gl_arena.specs.Arena.{Arena, named, by_stamp, IsStamped}

@@ -1,4 +1,4 @@
-use Rattle.std.proofs.Common.{sym, subst, ap₂, false}
+use Rattle.std.proofs.Common.{sym, subst, false}
 use Rattle.gl_mods.specs.Mods.{Mods}
 use Rattle.gl_refs.specs.Refs.{Refs}
 use Rattle.gl_plain.specs.Turns.{begin}
