@@ -49,7 +49,7 @@ none_any q (x ∷ xs) e = (left (same_id q x) (list_any (same_id q) xs) e, none_
   right false b e = e
   right true b e = let no : true ≡ false = e in absurd (cc)
 
-any_none : (q : Id) (xs : List Id) → f.Each (λ x. same_id q x ≡ false) xs → list_any (same_id q) xs ≡ false
+pub any_none : (q : Id) (xs : List Id) → f.Each (λ x. same_id q x ≡ false) xs → list_any (same_id q) xs ≡ false
 any_none q [] e = refl
 any_none q (x ∷ xs) e = ap₂ (λ a b. a || b) e.0 (any_none q xs e.1)
 
@@ -63,7 +63,7 @@ only_read l i q (f.through k q2 h e) u = by (l k) refl where
       let a : list_any (same_id q2) (f.reads (λ x. (f.meaning l x).value) o) ≡ false = any_none q2 _ (each_read (λ x. same_id q2 x ≡ false) (λ x. (f.meaning l x).value) o (none_any q2 (f.parts o) (u k o g))) in
       let no : false ≡ true = sym a ∙ (sym (ap (λ o. list_any (same_id q2) (f.reads (λ x. (f.meaning l x).value) (f.form_or o))) g) ∙ e) in absurd (cc)
 
-some_row : (o : Option s.Row) (g : f.Form) → option_map form_in o ≡ Some g → (y : s.Row) × (o ≡ Some y) × (y.form ≡ g)
+pub some_row : (o : Option s.Row) (g : f.Form) → option_map form_in o ≡ Some g → (y : s.Row) × (o ≡ Some y) × (y.form ≡ g)
 some_row None g e = absurd (none_not g e)
 some_row (Some y) g e = (y, refl, some_same y.form g e)
 

@@ -89,6 +89,10 @@ seen_pair r p = record { value = labelled p.value; sources = map (λ t. label (h
 abbrev pub PositionsUnread : Refs → Type 0
 PositionsUnread r = (i : Id) (ids : List Id) → forms_of r i ≡ Some (f.all_form ids) → f.IsUnread (forms_of r) i
 
+-- no reference of the machine reads a position
+pub record Calm (vm : Vm) : Type 0 where
+  pub unread : PositionsUnread vm.refs
+
 abbrev pub is_all : Option f.Form → Bool
 is_all (Some (f.all_form ids)) = true
 is_all o = false

@@ -1,16 +1,21 @@
-// Values of references, and positions that are evaluated.
-ghost use Rattle.std.specs.Prelude.{◌≡◌, ℕ, Bool, List, IfOk, OnOk, IsSome, true};
+// Values of references, positions that are evaluated, and the beginning of a turn.
+ghost use Rattle.std.specs.Prelude.{◌≡◌, ◌+◌, Bool, List, [], IfOk, OnOk, IsSome, Some, true, false};
 ghost use Rattle.gl_value.specs.View.{view};
+ghost use Rattle.gl_arena.specs.Arena.{IsOwn};
 ghost use Rattle.gl_meaning.specs.Scope.{Source};
-ghost use Rattle.gl_refs.specs.Refs.{forms_of};
+ghost use Rattle.gl_refs.specs.Forms.{Each, all_form};
+ghost use Rattle.gl_refs.specs.State.{is_readable};
+ghost use Rattle.gl_refs.specs.Refs.{forms_of, HasRoom};
 ghost use Rattle.gl_plain.specs.State.{pair_of};
+ghost use Rattle.gl_plain.specs.Binding.{place};
+ghost use Rattle.gl_plain.specs.Turns.{begin};
 ghost use Rattle.gl_plain.specs.Renew.{evaluate};
 ghost use Rattle.gl_vm.specs.Labels.{labelled};
-ghost use Rattle.gl_vm.specs.View.{Tables, state_of, PositionsUnread, is_all};
-ghost use Rattle.gl_vm.specs.Steps.{Does};
+ghost use Rattle.gl_vm.specs.View.{Tables, stamps, state_of, Calm, Agrees, is_all};
+ghost use Rattle.gl_vm.specs.Steps.{Does, Numbers};
 
 use crate::Vm;
-use gl_refs::RefId;
+use gl_refs::{Form, Ids, RefId};
 use gl_value::Value;
 use std::alloc::AllocError;
 
@@ -27,14 +32,48 @@ impl Vm {
     /// Evaluates a position, which no reference reads.
     pub fn evaluate(&mut self, id: RefId) -> Result<(), AllocError>
         requires position { is_all (forms_of self.old.refs id) ≡ true }
-        requires unread { PositionsUnread self.old.refs }
+        requires calm { Calm self.old }
         ensures step { OnOk result (Does (λ n. evaluate id.1) self.old self.new) }
         ensures forms { forms_of self.new.refs ≡ forms_of self.old.refs }
+        ensures made { self.new.refs.rows.made ≡ self.old.refs.rows.made }
+        ensures owns { (i : _) → IsOwn self.old.refs.rows i → IsOwn self.new.refs.rows i }
         ensures rest { self.new ≡ record self.old { refs = self.new.refs } }
+        ensures calm { Calm self.new }
     {
         self.refs.sound();
         let done = self.refs.renew(id);
         self.refs.sound();
         done
+    }
+
+    /// Makes a position over references that may be read, and evaluates it for the first time.
+    pub fn place(&mut self, ids: Ids) -> Result<RefId, AllocError>
+        requires parts { Each (λ q. is_readable (forms_of self.old.refs q) ≡ true) ids }
+        requires calm { Calm self.old }
+        ensures step { IfOk result (λ id. Does (λ n st. (place (record { ids = stamps ids; made = []; state = st })).state) self.old self.new) }
+        ensures id { IfOk result (λ id. Numbers self.old.refs.rows self.new.refs.rows id) }
+        ensures form { IfOk result (λ id. forms_of self.new.refs id ≡ Some (all_form ids)) }
+        ensures olds { (i : _) → IsSome (forms_of self.old.refs i) → forms_of self.new.refs i ≡ forms_of self.old.refs i }
+        ensures rest { self.new ≡ record self.old { refs = self.new.refs } }
+        ensures calm { Calm self.new }
+    {
+        self.refs.sound();
+        let id = self.bind(Form::All(ids))?;
+        self.evaluate(id)?;
+        Ok(id)
+    }
+
+    /// Begins a turn: nothing is touched, and the lists of what was done are empty.
+    pub fn begin(&mut self)
+        requires { HasRoom self.old.refs }
+        ensures step { Does (λ n. begin) self.old self.new }
+        ensures untouched { Agrees (λ x. false) self.new }
+        ensures clock { self.new.refs.tags.clock ≡ self.old.refs.tags.clock + 1 }
+        ensures forms { forms_of self.new.refs ≡ forms_of self.old.refs }
+        ensures calm { Calm self.old → Calm self.new }
+    {
+        self.refs.sound();
+        self.refs.begin();
+        drop(self.mods.commit());
     }
 }
