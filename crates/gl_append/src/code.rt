@@ -1,4 +1,8 @@
 // The updating program: what was rendered, nested as it was rendered.
+ghost use Rattle.std.specs.Prelude.{◌≡◌};
+ghost use Rattle.gl_machine.specs.Code as c;
+ghost use Rattle.gl_append.specs.CodeView.{seen_spot, seen_code};
+
 use crate::sight::{Owner, Sight};
 use gl_arena::{BlockId, ModId};
 use gl_nodes::NodeId;
@@ -135,4 +139,20 @@ pub struct ItemCode {
 #[derive(Drop)]
 pub struct Codes {
     pub list: Vec<Code>,
+}
+
+impl Code {
+    /// A text or a comment of the template.
+    pub fn still(node: NodeId) -> Code
+        ensures { (n : _) → seen_code n result ≡ c.still_code node.1 }
+    {
+        Code::Still { node }
+    }
+
+    /// A text mustache.
+    pub fn put(node: NodeId, spot: Spot) -> Code
+        ensures { (n : _) → seen_code n result ≡ c.put_code node.1 (seen_spot spot) }
+    {
+        Code::Put { node, spot }
+    }
 }

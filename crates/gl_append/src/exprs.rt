@@ -10,7 +10,7 @@ ghost use Rattle.gl_base.specs.Names.{last_named};
 ghost use Rattle.gl_machine.specs.Sight.{args_in, locals_in};
 ghost use Rattle.gl_machine.specs.Step as s;
 ghost use Rattle.gl_vm.specs.Labels.{labelled};
-ghost use Rattle.gl_vm.specs.View.{seen_form, helper_name};
+ghost use Rattle.gl_vm.specs.View.{seen_form, helper_name, Calm};
 ghost use Rattle.gl_vm.specs.Steps.{Does, Numbers};
 ghost use Rattle.gl_append.specs.MachineView.{seen_pushed};
 ghost use Rattle.gl_append.specs.Steps.{Moves, Takes, pushed_made};
@@ -53,7 +53,8 @@ impl Machine {
 
     /// Pushes a constant.
     pub fn push_constant(&mut self, vm: &mut Vm, value: Value) -> Result<(), AllocError>
-        ensures { OnOk result (Takes (λ n. s.push_new (constant_form (labelled (view value)))) vm.old self.old vm.new self.new) }
+        ensures step { OnOk result (Takes (λ n. s.push_new (constant_form (labelled (view value)))) vm.old self.old vm.new self.new) }
+        ensures calm { Calm vm.old → Calm vm.new }
     {
         let id = vm.constant(value)?;
         self.push_made(id)
@@ -61,7 +62,8 @@ impl Machine {
 
     /// Pushes a reference of that form.
     pub fn push_new(&mut self, vm: &mut Vm, form: Form) -> Result<(), AllocError>
-        ensures { OnOk result (Takes (λ n. s.push_new (seen_form vm.old.refs.rows.made (code_form form))) vm.old self.old vm.new self.new) }
+        ensures step { OnOk result (Takes (λ n. s.push_new (seen_form vm.old.refs.rows.made (code_form form))) vm.old self.old vm.new self.new) }
+        ensures calm { Calm vm.old → Calm vm.new }
     {
         let id = bind(vm, form)?;
         self.push_made(id)
@@ -79,7 +81,8 @@ impl Machine {
 
     /// The property of the reference on the top.
     pub fn do_prop(&mut self, vm: &mut Vm, name: &Text, top: Pushed) -> Result<(), AllocError>
-        ensures { OnOk result (Takes (λ n m. s.do_prop name.now m (m.stack, seen_pushed top)) vm.old self.old vm.new self.new) }
+        ensures step { OnOk result (Takes (λ n m. s.do_prop name.now m (m.stack, seen_pushed top)) vm.old self.old vm.new self.new) }
+        ensures calm { Calm vm.old → Calm vm.new }
     {
         let name = name.copy()?;
         self.push_new(vm, Form::Prop(top.id, name))
@@ -87,7 +90,8 @@ impl Machine {
 
     /// The join of the last ones of the stack.
     pub fn do_cat(&mut self, vm: &mut Vm, count: u32) -> Result<(), AllocError>
-        ensures { OnOk result (Takes (λ n. s.do_cat count) vm.old self.old vm.new self.new) }
+        ensures step { OnOk result (Takes (λ n. s.do_cat count) vm.old self.old vm.new self.new) }
+        ensures calm { Calm vm.old → Calm vm.new }
     {
         let taken = take_last(&mut self.stack, count)?;
         let ids = positional(self.alloc, taken.as_slice())?;
@@ -96,7 +100,8 @@ impl Machine {
 
     /// A helper's call over the last ones of the stack.
     pub fn do_call(&mut self, vm: &mut Vm, helper: u16, count: u32) -> Result<(), AllocError>
-        ensures { OnOk result (Takes (λ n. s.do_call count (helper_name helper)) vm.old self.old vm.new self.new) }
+        ensures step { OnOk result (Takes (λ n. s.do_call count (helper_name helper)) vm.old self.old vm.new self.new) }
+        ensures calm { Calm vm.old → Calm vm.new }
     {
         let taken = take_last(&mut self.stack, count)?;
         let ids = positional(self.alloc, taken.as_slice())?;
@@ -116,7 +121,8 @@ impl Machine {
 
     /// An argument of the present scope.
     pub fn do_arg_ref(&mut self, vm: &mut Vm, name: &Text) -> Result<(), AllocError>
-        ensures { OnOk result (Takes (λ n m. s.push_found (last_named name.now (args_in m.rest.sight)) m) vm.old self.old vm.new self.new) }
+        ensures step { OnOk result (Takes (λ n m. s.push_found (last_named name.now (args_in m.rest.sight)) m) vm.old self.old vm.new self.new) }
+        ensures calm { Calm vm.old → Calm vm.new }
     {
         match self.sight.level.args.as_ref().get(name.as_str()) {
             Some(id) => self.push_old(id),

@@ -5,8 +5,10 @@ mod code;
 mod exprs;
 mod kept;
 mod machine;
+mod shown;
 mod sight;
 mod stack;
+mod tags;
 
 pub use code::{AttrSpot, Choice, Code, Codes, ItemCode, ItemSpot, Listing, ModSpot, Spot};
 pub use machine::{Back, Entry, Frame, Here, Item, Kind, Machine, Making, Pushed, Waiting};
