@@ -13,3 +13,5 @@ pub mod Begins
 pub mod Wants
 pub mod Drops
 pub mod Ended
+pub mod Reached
+pub mod Stale
