@@ -15,3 +15,4 @@ pub mod Drops
 pub mod Ended
 pub mod Reached
 pub mod Stale
+pub mod Starts

@@ -55,6 +55,7 @@ impl Vm {
         ensures step { IfOk result (λ id. Does (λ n. made_source by_number (label self.old.refs.rows.made) (labelled (view value))) self.old self.new) }
         ensures id { IfOk result (λ id. Numbers self.old.refs.rows self.new.refs.rows id) }
         ensures cell { IfOk result (λ id. is_cell (forms_of self.new.refs id) ≡ true) }
+        ensures live { IfOk result (λ id. IsSome (forms_of self.new.refs id)) }
         ensures olds { (i : _) → IsSome (forms_of self.old.refs i) → forms_of self.new.refs i ≡ forms_of self.old.refs i }
         ensures rest { self.new ≡ record self.old { refs = self.new.refs } }
         ensures calm { Calm self.old → Calm self.new }
@@ -69,6 +70,7 @@ impl Vm {
         ensures step { IfOk result (λ id. Does (λ n. made_source by_number (label self.old.refs.rows.made) (labelled (view value))) self.old self.new) }
         ensures id { IfOk result (λ id. Numbers self.old.refs.rows self.new.refs.rows id) }
         ensures item { IfOk result (λ id. is_item (forms_of self.new.refs id) ≡ true) }
+        ensures live { IfOk result (λ id. IsSome (forms_of self.new.refs id)) }
         ensures olds { (i : _) → IsSome (forms_of self.old.refs i) → forms_of self.new.refs i ≡ forms_of self.old.refs i }
         ensures rest { self.new ≡ record self.old { refs = self.new.refs } }
         ensures calm { Calm self.old → Calm self.new }
