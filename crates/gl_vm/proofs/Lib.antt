@@ -16,3 +16,4 @@ pub mod Ended
 pub mod Reached
 pub mod Stale
 pub mod Starts
+pub mod Leading
