@@ -3,7 +3,7 @@ use Rattle.std.proofs.Common.{◌≡◌, ◌≢◌, ◌<◌, true, false, List, 
 use Rattle.gl_arena.specs.Id.{Id}
 use Rattle.gl_arena.proofs.Ids.{id_cases}
 use Rattle.gl_tags.specs.Tags as t
-use Rattle.gl_refs.specs.Forms.{Form, constant_form, source_form, prop_form, call_form, cat_form, all_form, form_or, form_at, meaning, Like, AreLower, Each, parts}
+use Rattle.gl_refs.specs.Forms.{Form, constant_form, source_form, prop_form, call_form, cat_form, all_form, form_or, form_at, meaning, Like, AreLower, is_known, AreKnown, Each, parts}
 use Rattle.gl_refs.specs.State.{Row, Rows, forms, kept_row, kept, kept_pair, IsRight, own_tag, own_by, RowFits, is_bound, IsSound, Binds}
 use Rattle.gl_refs.proofs.Meanings.{within, each_map}
 use Rattle.gl_refs.proofs.Rows.{fits_bound, row_right}
@@ -56,6 +56,15 @@ module _ (tags : t.Tags) (rows rows' : Rows) (n : Id) (form : Form) (sound : IsS
         subst (λ x. Each (λ q. (q.1 < i.1) × IsSome (forms rows' q)) (parts x)) f (each_lives i (parts form) (subst (λ x. Each (λ q. (q.1 < x.1) × IsSome (forms rows q)) (parts form)) (sym q) b.parts))
     by (inr ne) = each_lives i (parts g) (sound.lower i g (sym (form_stays i ne) ∙ e))
 
+  known_now : AreKnown (forms rows')
+  known_now i g e = by (id_cases i n) where
+    form_is : (x y : Form) → Some x ≡ Some y → x ≡ y
+    form_is x y e = cc
+
+    by : (i ≡ n) ⊎ (i ≢ n) → is_known g ≡ true
+    by (inl q) = subst (λ x. is_known x ≡ true) (form_is form g (sym (ap (option_map (λ (r : Row). r.form)) (ap rows' q ∙ b.given)) ∙ e)) b.known
+    by (inr ne) = sound.known i g (sym (form_stays i ne) ∙ e)
+
   fits_now : (i : Id) (r : Row) → rows' i ≡ Some r → RowFits tags r.form r.last
   fits_now i r e = by (id_cases i n) where
     row_is : (x y : Row) → Some x ≡ Some y → x ≡ y
@@ -84,6 +93,7 @@ module _ (tags : t.Tags) (rows rows' : Rows) (n : Id) (form : Form) (sound : IsS
   made_sound = record {
     tags_sound = sound.tags_sound;
     lower = lower_now;
+    known = known_now;
     fits = fits_now;
     owned = owned_now;
     right = right_now;

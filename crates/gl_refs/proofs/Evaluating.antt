@@ -6,7 +6,7 @@ use Rattle.gl_arena.specs.Id.{Id}
 use Rattle.gl_arena.specs.Arena.{named}
 use Rattle.gl_arena.proofs.Ids.{id_cases}
 use Rattle.gl_tags.specs.Tags as t
-use Rattle.gl_refs.specs.Forms.{Form, constant_form, source_form, prop_form, call_form, cat_form, all_form, meaning, Like, AreLower}
+use Rattle.gl_refs.specs.Forms.{Form, constant_form, source_form, prop_form, call_form, cat_form, all_form, meaning, Like, AreLower, AreKnown}
 use Rattle.gl_refs.specs.State.{Last, Row, Rows, forms, kept_row, kept_pair, IsRight, own_tag, is_combined, LastFits, RowFits, is_bound, IsSound, Evaluates}
 use Rattle.gl_refs.proofs.Rows.{fits_bound, bound_own, row_right, was_right}
 
@@ -120,6 +120,7 @@ module _ (tags tags' : t.Tags) (rows rows' : Rows) (i : Id) (sound : IsSound tag
   evaluated = record {
     tags_sound = s.tags_sound;
     lower = subst AreLower (sym (forms_stay tags tags' rows rows' i s)) sound.lower;
+    known = subst AreKnown (sym (forms_stay tags tags' rows rows' i s)) sound.known;
     fits = fits_now;
     owned = owned_now;
     right = right_now;

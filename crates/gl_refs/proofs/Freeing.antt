@@ -6,7 +6,7 @@ use Rattle.gl_arena.specs.Id.{Id, same_id}
 use Rattle.gl_arena.specs.Arena.{named}
 use Rattle.gl_arena.proofs.Ids.{id_cases, same_id-refl}
 use Rattle.gl_tags.specs.Tags as t
-use Rattle.gl_refs.specs.Forms.{Form, constant_form, source_form, prop_form, call_form, cat_form, all_form, form_or, form_at, meaning, Like, AreLower, Each, parts}
+use Rattle.gl_refs.specs.Forms.{Form, constant_form, source_form, prop_form, call_form, cat_form, all_form, form_or, form_at, meaning, Like, AreLower, is_known, AreKnown, Each, parts}
 use Rattle.gl_refs.specs.State.{Last, Row, Rows, forms, kept_row, kept_pair, IsRight, own_tag, is_combined, LastFits, RowFits, is_bound, IsSound, Frees}
 use Rattle.gl_refs.proofs.Meanings.{within, each_map}
 use Rattle.gl_refs.proofs.Rows.{row_right, bound_own, was_right}
@@ -44,6 +44,12 @@ module _ (tags tags' : t.Tags) (rows rows' : Rows) (i : Id) (sound : IsSound tag
     by (inr n) =
         let was = sym (form_stays k n) ∙ e in
         each_map (λ q. (q.1 < k.1) × (IsSome (forms rows q) × (q ≢ i))) (λ q. (q.1 < k.1) × IsSome (forms rows' q)) (parts g) lives (each_other k (parts g) (s.unread k g was) (sound.lower k g was))
+
+  known_now : AreKnown (forms rows')
+  known_now k g e = by (id_cases k i) where
+    by : (k ≡ i) ⊎ (k ≢ i) → is_known g ≡ true
+    by (inl q) = absurd (let n : None ≡ Some g = sym (ap (option_map (λ (r : Row). r.form)) (ap rows' q ∙ s.ended)) ∙ e in cc)
+    by (inr n) = sound.known k g (sym (form_stays k n) ∙ e)
 
   all_same : (f : Option t.Tag → ℕ) (leads : List Id) → list_any (λ k. not (t.is_dirtyable (named tags.tags k))) leads ≡ false → map (λ k. f (named tags'.tags k)) leads ≡ map (λ k. f (named tags.tags k)) leads
   all_same f [] h = refl
@@ -114,6 +120,7 @@ module _ (tags tags' : t.Tags) (rows rows' : Rows) (i : Id) (sound : IsSound tag
   free_sound = record {
     tags_sound = s.tags_sound;
     lower = lower_now;
+    known = known_now;
     fits = fits_now;
     owned = λ k j u e f. sound.owned k j u (own_old k u e) (own_old j u f);
     right = right_now;

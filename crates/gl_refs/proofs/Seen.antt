@@ -171,6 +171,7 @@ module _ (tags : t.Tags) (n : ℕ) where
   advanced_sound rows h a = record {
     tags_sound = a;
     lower = h.lower;
+    known = h.known;
     fits = λ i q e. fits_advanced q.form q.last (h.fits i q e);
     owned = h.owned;
     right = λ i k e. h.right i k (sym (row_advanced (rows i)) ∙ e);

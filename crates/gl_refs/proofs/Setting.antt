@@ -10,7 +10,7 @@ use Rattle.gl_arena.proofs.Values.{Writes, with_value-writes}
 use Rattle.gl_tags.specs.Tags as t
 use Rattle.gl_tags.proofs.Greatest.{lead_below}
 use Rattle.gl_value.specs.Value.{undefined}
-use Rattle.gl_refs.specs.Forms.{V, Form, constant_form, source_form, prop_form, call_form, cat_form, all_form, own_sources, form_or, form_at, meaning, Like, AreLower, parts, Each}
+use Rattle.gl_refs.specs.Forms.{V, Form, constant_form, source_form, prop_form, call_form, cat_form, all_form, own_sources, form_or, form_at, meaning, Like, AreLower, is_known, AreKnown, parts, Each}
 use Rattle.gl_refs.specs.State.{Last, Row, Rows, forms, kept_row, kept_pair, IsRight, own_tag, is_combined, LastFits, RowFits, is_bound, IsSound, Sets}
 use Rattle.gl_refs.proofs.Meanings.{cold, each_map}
 use Rattle.gl_refs.proofs.Rows.{combined_is, bound_fits, row_right, was_right}
@@ -126,6 +126,17 @@ module _ (tags tags' : t.Tags) (rows rows' : Rows) (c : Id) (value : V) (sound :
         subst (λ x. Each (λ q. (q.1 < i.1) × IsSome (forms rows' q)) (parts x)) f tt
     by (inr n) = each_lives i (parts g) (sound.lower i g (ap (option_map (λ (r : Row). r.form)) (sym (s.others i n)) ∙ e))
 
+  known_now : AreKnown (forms rows')
+  known_now i g e = by (id_cases i c) where
+    form_is : (x y : Form) → Some x ≡ Some y → x ≡ y
+    form_is x y e = cc
+
+    by : (i ≡ c) ⊎ (i ≢ c) → is_known g ≡ true
+    by (inl q) =
+        let f : source_form s.kind s.tag value ≡ g = form_is (source_form s.kind s.tag value) g (sym (ap (option_map (λ (r : Row). r.form)) (ap rows' q ∙ s.given)) ∙ e) in
+        subst (λ x. is_known x ≡ true) f refl
+    by (inr n) = sound.known i g (ap (option_map (λ (r : Row). r.form)) (sym (s.others i n)) ∙ e)
+
   dirty_stays : (k : Id) → t.is_dirtyable (named tags.tags k) ≡ true → t.is_dirtyable (named tags'.tags k) ≡ true
   dirty_stays k h = by (id_cases k s.tag) where
     by : (k ≡ s.tag) ⊎ (k ≢ s.tag) → t.is_dirtyable (named tags'.tags k) ≡ true
@@ -176,6 +187,7 @@ module _ (tags tags' : t.Tags) (rows rows' : Rows) (c : Id) (value : V) (sound :
   set_sound = record {
     tags_sound = tags_sound;
     lower = lower_now;
+    known = known_now;
     fits = fits_now;
     owned = λ i k u e f. sound.owned i k u (sym (own_stays i) ∙ e) (sym (own_stays k) ∙ f);
     right = set_right tags tags' rows rows' c value sound s fits_now;

@@ -7,7 +7,7 @@ use Rattle.gl_arena.specs.Id.{Id, same_id}
 use Rattle.gl_arena.specs.Arena.{Arena, named, Gives, Ends, IsStamped}
 use Rattle.gl_arena.proofs.Ids.{id_cases, same_id-true}
 use Rattle.gl_tags.specs.Tags as t
-use Rattle.gl_refs.specs.Forms.{Form, constant_form, source_form, prop_form, call_form, cat_form, all_form, meaning, Like, Each, parts}
+use Rattle.gl_refs.specs.Forms.{Form, constant_form, source_form, prop_form, call_form, cat_form, all_form, meaning, Like, Each, parts, is_known}
 use Rattle.gl_refs.specs.State.{Last, Row, Rows, forms, kept_row, kept_pair, IsRight, own_tag, own_by, is_combined, LastFits, RowFits, is_bound, IsSound, Binds}
 use Rattle.gl_refs.specs.View.{rows_of, seen_row, seen_kind}
 use Rattle.gl_refs.specs.declared.row.Row as code
@@ -68,7 +68,7 @@ module _ (tags tags' : t.Tags) (rows : Rows) (sound : IsSound tags rows) (ts : t
           record { value = x.value; sources = λ p. ap (λ y. list_any p (t.leads_by l.tag y)) tag ∙ x.sources p }
 
   pub tags_changed : IsSound tags' rows
-  tags_changed = record { tags_sound = ts; lower = sound.lower; fits = fits_now; owned = sound.owned; right = right_now }
+  tags_changed = record { tags_sound = ts; lower = sound.lower; known = sound.known; fits = fits_now; owned = sound.owned; right = right_now }
 
 -- a reference has a live tag
 pub own_there : (tags : t.Tags) (rows : Rows) → IsSound tags rows → (k u : Id) → own_tag (rows k) ≡ Some u → t.tag_at tags u ≡ None → ⊥
@@ -129,7 +129,7 @@ module _ (tags tags' : t.Tags) (rows : Rows) (sound : IsSound tags rows) (ts : t
     by (inr ne) = e.others k ne ∙ g.others k ne
 
 -- a row is put in
-module _ (tags : t.Tags) (a b : Arena code.Row) (n : Id) (kind : code_kind.Kind) (sound : IsSound tags (rows_of a)) (stamped : IsStamped a) (live : Each (λ q. IsSome (forms (rows_of a) q)) (parts (seen_kind kind)))
+module _ (tags : t.Tags) (a b : Arena code.Row) (n : Id) (kind : code_kind.Kind) (sound : IsSound tags (rows_of a)) (stamped : IsStamped a) (live : Each (λ q. IsSome (forms (rows_of a) q)) (parts (seen_kind kind))) (known : is_known (seen_kind kind) ≡ true)
     (fits : RowFits tags (seen_kind kind) None) (fresh : (i u : Id) → own_by (seen_kind kind) None ≡ Some u → own_tag (rows_of a i) ≢ Some u) (g : Gives a b n (record { kind = kind; last = None })) where
   is_there : (o : Option code.Row) → IsSome (option_map (λ (r : Row). r.form) (option_map seen_row o)) → IsSome o
   is_there None h = h
@@ -142,12 +142,13 @@ module _ (tags : t.Tags) (a b : Arena code.Row) (n : Id) (kind : code_kind.Kind)
     others = λ k ne. ap (option_map seen_row) (g.others k ne);
     parts = each_map (λ q. IsSome (forms (rows_of a) q)) (λ q. (q.1 < n.1) × IsSome (forms (rows_of a) q)) (parts (seen_kind kind))
         (λ q h. let lt = stamped.below q (is_there (named a q) h) in let e = g.stamp in (omega (arith, lt, e), h)) live;
+    known = known;
   }
 
   pub made_row : IsSound tags (rows_of b)
   made_row = made_sound tags (rows_of a) (rows_of b) n (seen_kind kind) sound binds fits fresh
 
-pub made_or_not : {E : Type 0} (q : Result Id E) (tags : t.Tags) (a b : Arena code.Row) (kind : code_kind.Kind) → IsSound tags (rows_of a) → IsStamped a → Each (λ i. IsSome (forms (rows_of a) i)) (parts (seen_kind kind))
+pub made_or_not : {E : Type 0} (q : Result Id E) (tags : t.Tags) (a b : Arena code.Row) (kind : code_kind.Kind) → IsSound tags (rows_of a) → IsStamped a → Each (λ i. IsSome (forms (rows_of a) i)) (parts (seen_kind kind)) → is_known (seen_kind kind) ≡ true
     → RowFits tags (seen_kind kind) None → ((i u : Id) → own_by (seen_kind kind) None ≡ Some u → own_tag (rows_of a i) ≢ Some u) → IfOk q (λ n. Gives a b n (record { kind = kind; last = None })) → OnErr q (b ≡ a) → IsSound tags (rows_of b)
-made_or_not (Ok n) tags a b kind sound stamped live fits fresh g e = made_row tags a b n kind sound stamped live fits fresh g
-made_or_not (Err x) tags a b kind sound stamped live fits fresh g e = subst (λ y. IsSound tags (rows_of y)) (sym e) sound
+made_or_not (Ok n) tags a b kind sound stamped live known fits fresh g e = made_row tags a b n kind sound stamped live known fits fresh g
+made_or_not (Err x) tags a b kind sound stamped live known fits fresh g e = subst (λ y. IsSound tags (rows_of y)) (sym e) sound

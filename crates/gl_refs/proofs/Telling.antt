@@ -1,5 +1,5 @@
 -- What tags tell of references, and what stamps do.
-use Rattle.std.proofs.Common.{◌≡◌, ℕ, ◌≤◌, Bool, true, false, List, [], Option, Some, None, option_map, unwrap_or, IsSome, refl, sym, subst, ◌∙◌, ap, arith}
+use Rattle.std.proofs.Common.{◌≡◌, ℕ, ◌≤◌, true, false, Option, Some, None, option_map, unwrap_or, IsSome, refl, sym, subst, ◌∙◌, ap, arith}
 use Rattle.std.specs.List.{list_any}
 use Rattle.gl_arena.specs.Id.{Id}
 use Rattle.gl_arena.specs.Arena.{IsStamped, by_stamp}
@@ -8,8 +8,8 @@ use Rattle.gl_arena.proofs.Mapped.{named-mapped, by_stamp-mapped, are_stamped-ma
 use Rattle.gl_arena.proofs.Stamps.{by_stamp-same}
 use Rattle.gl_value.specs.Value.{undefined}
 use Rattle.gl_tags.specs.Tags as t
-use Rattle.gl_refs.specs.Forms.{Form, constant_form, source_form, prop_form, call_form, cat_form, all_form, Pair, meaning, Like}
-use Rattle.gl_refs.specs.State.{Last, Row, Rows, forms, Kept, kept, kept_pair, held_value, held_tag, own_tag, own_by, form_tagged, has_tag, IsKept, IsValidForm, IsValid, IsSound}
+use Rattle.gl_refs.specs.Forms.{Form, constant_form, source_form, prop_form, call_form, cat_form, all_form, meaning, Like}
+use Rattle.gl_refs.specs.State.{Last, Row, Rows, forms, Kept, kept, held_value, held_tag, own_tag, own_by, form_tagged, has_tag, IsKept, IsValidForm, IsValid, IsSound}
 use Rattle.gl_refs.specs.Refs.{Refs, Reads}
 use Rattle.gl_refs.proofs.Rows.{kept_held}
 

@@ -1,5 +1,5 @@
 -- What references are, and what each means over the present cells and items.
-use Rattle.std.specs.Prelude.{◌≡◌, ℕ, zero, suc, ◌<◌, ◌++◌, ltb, eqb, nat_eq, List, [], ◌∷◌, map, flat_map, take, drop, Bool, true, false, not, cond, if◌then◌else◌, Option, Some, None, option_map, unwrap_or, slice_get, IsSome}
+use Rattle.std.specs.Prelude.{◌≡◌, ℕ, zero, suc, ◌<◌, ◌++◌, ltb, eqb, nat_eq, List, [], ◌∷◌, map, flat_map, take, drop, Bool, true, false, not, cond, if◌then◌else◌, Option, Some, None, option_map, unwrap_or, slice_get, IsSome, is_some}
 use Rattle.std.specs.List.{list_any}
 use Rattle.gl_base.specs.Texts.{Text}
 use Rattle.gl_value.specs.Value.{Value, undefined, truthy, property, join_values}
@@ -132,6 +132,14 @@ Each P (x ∷ xs) = P x × Each P xs
 -- each form reads live ids alone, which were made before it
 abbrev pub AreLower : Look → Type 0
 AreLower l = (i : Id) (g : Form) → l i ≡ Some g → Each (λ q. (q.1 < i.1) × IsSome (l q)) (parts g)
+
+-- the number of a call is that of a helper
+abbrev pub is_known : Form → Bool
+is_known (call_form h ids named) = is_some (helper_numbered h)
+is_known g = true
+
+abbrev pub AreKnown : Look → Type 0
+AreKnown l = (i : Id) (g : Form) → l i ≡ Some g → is_known g ≡ true
 
 -- no live form names it
 abbrev pub IsUnread : Look → Id → Type 0

@@ -4,7 +4,7 @@ use Rattle.gl_value.specs.Value.{undefined}
 use Rattle.gl_arena.specs.Id.{Id}
 use Rattle.gl_arena.specs.Arena.{with_value}
 use Rattle.gl_tags.specs.Tags as t
-use Rattle.gl_refs.specs.Forms.{V, Form, constant_form, source_form, Look, form_at, Pair, meaning, Like, AreLower, IsUnread, parts, reads, value_by, Each, IsReadFor}
+use Rattle.gl_refs.specs.Forms.{V, Form, constant_form, source_form, all_form, Look, form_at, Pair, meaning, Like, AreLower, is_known, AreKnown, IsUnread, parts, reads, value_by, Each, IsReadFor}
 
 -- the last evaluation: its value, how many dirtyings there were then, and the tag that leads to its sources
 pub record Last : Type 0 where
@@ -89,6 +89,7 @@ is_bound g = true
 pub record IsSound (tags : t.Tags) (rows : Rows) : Type 0 where
   pub tags_sound : t.IsSound tags
   pub lower : AreLower (forms rows)
+  pub known : AreKnown (forms rows)
   pub fits : (i : Id) (r : Row) → rows i ≡ Some r → RowFits tags r.form r.last
   pub owned : (i k s : Id) → own_tag (rows i) ≡ Some s → own_tag (rows k) ≡ Some s → i ≡ k
   pub right : IsRight tags rows
@@ -242,6 +243,15 @@ abbrev pub is_item : Option Form → Bool
 is_item None = false
 is_item (Some g) = item_form g
 
+-- what others may read: a live reference that is no position
+abbrev pub form_readable : Form → Bool
+form_readable (all_form ids) = false
+form_readable g = true
+
+abbrev pub is_readable : Option Form → Bool
+is_readable None = false
+is_readable (Some g) = form_readable g
+
 -- a constant, a cell or an item, or a reference that was evaluated
 abbrev pub form_tagged : Form → Option Last → Bool
 form_tagged (constant_form v) l = true
@@ -263,6 +273,7 @@ pub record Binds (rows rows' : Rows) (n : Id) (form : Form) : Type 0 where
   pub given : rows' n ≡ Some (record { form = form; last = None })
   pub others : (k : Id) → k ≢ n → rows' k ≡ rows k
   pub parts : Each (λ q. (q.1 < n.1) × IsSome (forms rows q)) (parts form)
+  pub known : is_known form ≡ true
 
 -- there was an evaluation, and no source of it was touched at a greater revision
 abbrev pub IsValidLast : t.Tags → ℕ → Option Last → Type 0

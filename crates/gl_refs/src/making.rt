@@ -1,9 +1,9 @@
 // New references.
-ghost use Rattle.std.specs.Prelude.{◌≡◌, ◌≢◌, IfOk, OnErr, None, Some, IsSome};
+ghost use Rattle.std.specs.Prelude.{◌≡◌, ◌≢◌, IfOk, OnErr, None, Some, IsSome, true};
 ghost use Rattle.gl_value.specs.View.{view};
 ghost use Rattle.gl_arena.specs.Arena.{Gives};
 ghost use Rattle.gl_tags.specs.Tags as t;
-ghost use Rattle.gl_refs.specs.Forms.{Each, parts, source_form};
+ghost use Rattle.gl_refs.specs.Forms.{Each, parts, source_form, is_known};
 ghost use Rattle.gl_refs.specs.State.{forms, own_by, own_tag, RowFits, IsSound};
 ghost use Rattle.gl_refs.specs.Refs.{GivesSource};
 ghost use Rattle.gl_refs.specs.View.{rows_of, rows_in, seen_kind};
@@ -18,6 +18,7 @@ use std::alloc::AllocError;
 pub(crate) fn make(tags: &Tags, rows: &mut Rows, kind: Kind) -> Result<RefId, AllocError>
     requires sound { IsSound tags.now (rows_of rows.old) }
     requires parts { Each (λ q. IsSome (forms (rows_of rows.old) q)) (parts (seen_kind kind)) }
+    requires known { is_known (seen_kind kind) ≡ true }
     requires fits { RowFits tags.now (seen_kind kind) None }
     requires fresh { (i : _) (u : _) → own_by (seen_kind kind) None ≡ Some u → own_tag (rows_of rows.old i) ≢ Some u }
     ensures ok { IfOk result (λ id. Gives (rows_in rows.old) (rows_in rows.new) id (record { form = seen_kind kind; last = None })) }

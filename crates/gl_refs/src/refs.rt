@@ -4,8 +4,8 @@ ghost use Rattle.std.specs.Borrow.{sem};
 ghost use Rattle.gl_value.specs.View.{view};
 ghost use Rattle.gl_arena.specs.Arena.{IsStamped, Ends};
 ghost use Rattle.gl_tags.specs.Tags as t;
-ghost use Rattle.gl_refs.specs.Forms.{Each, constant_form, parts, IsUnread};
-ghost use Rattle.gl_refs.specs.State.{IsKept, IsSound, IsValid, held_tag, has_tag, own_tag, is_cell, is_item};
+ghost use Rattle.gl_refs.specs.Forms.{Each, constant_form, parts, is_known, IsUnread};
+ghost use Rattle.gl_refs.specs.State.{IsKept, IsSound, IsValid, held_tag, has_tag, own_tag, is_cell, is_item, is_readable};
 ghost use Rattle.gl_refs.specs.Refs.{rows_of, forms_of, meaning_of, HasRoom, Makes, MakesSource, Keeps, SetsValue, Holds, SameCounts, HasRead, HasEvaluated, EndsTag};
 ghost use Rattle.gl_refs.specs.View.{seen_form};
 ghost use Rattle.gl_refs.specs.Lends.{Rests};
@@ -13,7 +13,7 @@ ghost use Rattle.gl_refs.specs.Lends.{Rests};
 use crate::evaluation::{is_kept, is_valid};
 use crate::looking::look;
 use crate::making::{make, make_source};
-use crate::row::{Kind, Rows, held, held_tag};
+use crate::row::{Kind, Rows, held, held_tag, readable};
 use crate::settling::prepare;
 use crate::writing::{end, holds, put};
 use crate::{Form, RefId};
@@ -94,10 +94,10 @@ impl Refs {
         make_source(&mut self.tags, &mut self.rows, true, value)
     }
 
-    /// Makes a reference of that form over live references. The number of a call is in the table of helpers; a call of
-    /// any other number is undefined.
+    /// Makes a reference of that form over live references. The number of a call is that of a helper.
     pub fn bind(&mut self, form: Form) -> Result<RefId, AllocError>
-        requires { Each (λ q. IsSome (forms_of self.old q)) (parts (seen_form form)) }
+        requires parts { Each (λ q. IsSome (forms_of self.old q)) (parts (seen_form form)) }
+        requires known { is_known (seen_form form) ≡ true }
         ensures ok { IfOk result (λ id. Makes self.old self.new id (seen_form form)) }
         ensures err { OnErr result (self.new ≡ self.old) }
     {
@@ -248,6 +248,13 @@ impl Refs {
         end(&mut self.tags, &mut self.rows, id);
     }
 
+    /// Whether other references may read it: it is live, and no position. It takes no memory.
+    pub fn readable(&self, id: RefId) -> bool
+        ensures { result ≡ is_readable (forms_of self.now id) }
+    {
+        readable(&self.rows, id)
+    }
+
     /// Whether each of the counters is below its last value.
     pub fn room(&self) -> bool
         ensures { IsTrue result ↔ HasRoom self.now }
@@ -275,7 +282,7 @@ impl Refs {
     }
 
     /// The law that what is kept and of now is what the reference means, that each reads live ones alone that were made
-    /// before it, that each has a tag of its own, and that no two ids have one stamp.
+    /// before it, that each call is of a helper, that each has a tag of its own, and that no two ids have one stamp.
     pub fn sound(&self)
         ensures sound { IsSound self.now.tags (rows_of self.now) }
         ensures stamped { IsStamped self.now.rows }

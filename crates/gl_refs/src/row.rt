@@ -4,7 +4,7 @@ ghost use Rattle.gl_arena.specs.Arena.{named, with_value, Gives};
 ghost use Rattle.gl_value.specs.Value.{truthy};
 ghost use Rattle.gl_value.specs.View.{view};
 ghost use Rattle.gl_refs.specs.Forms.{reads, chosen, ids_of, form_at};
-ghost use Rattle.gl_refs.specs.State.{forms, held, held_tag, own_tag, IsSource, is_source, Puts};
+ghost use Rattle.gl_refs.specs.State.{forms, held, held_tag, own_tag, is_readable, IsSource, is_source, Puts};
 ghost use Rattle.gl_refs.specs.View.{rows_of, found_in, shown_in, value_in, seen_form, seen_last, seen_row, row_with, kind_with};
 
 use crate::table::Table;
@@ -109,6 +109,17 @@ pub(crate) fn held_tag(tags: &Tags, rows: &Rows, id: RefId) -> TagId
     match own_tag(rows, id) {
         Some(tag) => tag,
         None => tags.constant(),
+    }
+}
+
+// Whether a reference is live, and no position.
+pub(crate) fn readable(rows: &Rows, id: RefId) -> bool
+    ensures { result ≡ is_readable (forms (rows_of rows.now) id) }
+{
+    if rows.live(id) {
+        !matches!(&rows.get(id).kind, Kind::Bound(Form::All(_)))
+    } else {
+        false
     }
 }
 

@@ -1,5 +1,6 @@
 // References step by step.
-ghost use Rattle.std.specs.Prelude.{◌≡◌, IfOk, OnOk, IsSome, true};
+ghost use Rattle.std.specs.Prelude.{◌≡◌, IfOk, OnOk, IsSome, is_some, true};
+ghost use Rattle.gl_value.specs.Helpers.{helper_numbered};
 ghost use Rattle.gl_refs.specs.State.{is_cell, is_item};
 ghost use Rattle.gl_refs.specs.Refs.{forms_of};
 
@@ -19,6 +20,7 @@ fn call(
 ) -> Result<RefId, AllocError>
     requires a { IsSome (forms_of refs.old a) }
     requires b { IsSome (forms_of refs.old b) }
+    requires helper { is_some (helper_numbered helper) ≡ true }
     ensures live { IfOk result (λ id. IsSome (forms_of refs.new id)) }
     ensures stays { OnOk result ((i : _) → IsSome (forms_of refs.old i) → forms_of refs.new i ≡ forms_of refs.old i) }
 {

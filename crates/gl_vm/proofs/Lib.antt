@@ -7,3 +7,11 @@ pub mod ThingSteps
 pub mod Means
 pub mod Values
 pub mod Settled
+pub mod Calms
+pub mod Placed
+pub mod Begins
+pub mod Wants
+pub mod Drops
+pub mod Ended
+pub mod Reached
+pub mod Stale

@@ -20,7 +20,7 @@ use Rattle.gl_meaning.specs.Eval.{values_in, after_reading, takes_first, branch_
 use Rattle.gl_meaning.proofs.Equal.{text_itself}
 use Rattle.gl_plain.specs.State.{form_pair, names_by}
 use Rattle.gl_vm.specs.Labels.{owner_path, label, labelled}
-use Rattle.gl_vm.specs.View.{stamps, name_stamps, helper_name, seen_form, is_known}
+use Rattle.gl_vm.specs.View.{stamps, name_stamps, helper_name, seen_form}
 use Rattle.gl_refs.proofs.Meanings.{each_front, each_back}
 use Rattle.gl_vm.proofs.Rows.{none_not}
 use Rattle.gl_vm.proofs.Sets.{paths_decided, nums_decided, owners_once}
@@ -214,7 +214,7 @@ module _ (lab : Id → Source) (k : ℕ) (F : ℕ → Pair) (G : Id → f.Pair) 
         (all-sources ids a)
         ∙ ap (λ c. seen (record { value = if c then f.value_or val (slice_get (f.chosen val (eqb (suc (suc m)) 0) ids) 1) else f.called (suc (suc m)) (map val ids) (map (λ n. (n.0, val n.1)) ns); sources = flat_map src (if c then f.chosen val (eqb (suc (suc m)) 0) ids else ids ++ f.ids_of ns) })) (sym no-choice)))
 
-  pub form-means : (g : f.Form) → is_known g ≡ true → ((kind : Bool) (t : Id) (v : f.V) → g ≡ f.source_form kind t v → lab t ≡ label k) → f.Each Fits (f.parts g) → form_pair F (seen_form k g) ≡ seen (f.pair_by G g)
+  pub form-means : (g : f.Form) → f.is_known g ≡ true → ((kind : Bool) (t : Id) (v : f.V) → g ≡ f.source_form kind t v → lab t ≡ label k) → f.Each Fits (f.parts g) → form_pair F (seen_form k g) ≡ seen (f.pair_by G g)
   form-means (f.constant_form v) known own e = refl
   form-means (f.source_form kind t v) known own e = ap (λ x. record { value = labelled v; sources = x ∷ [] }) (sym (own kind t v refl))
   form-means (f.prop_form r n) known own e =

@@ -18,7 +18,7 @@ use Rattle.gl_plain.specs.State.{any_of, Row, all_form, row, State, pair_of, not
 use Rattle.gl_plain.specs.Renew.{spot_ids, spot_pairs, evaluate}
 use Rattle.gl_vm.specs.Labels.{label}
 use Rattle.gl_vm.specs.Kept.{Kept, some_below, state_by}
-use Rattle.gl_vm.specs.View.{Tables, stamps, seen_form, is_led, form_led, led_by, last_led, last_of, seen_row, row_at, holder, AllKnown, PositionsUnread, is_all, kept_of, state_of, AgreesAt}
+use Rattle.gl_vm.specs.View.{Tables, stamps, seen_form, is_led, form_led, led_by, last_led, last_of, seen_row, row_at, holder, PositionsUnread, is_all, kept_of, state_of, AgreesAt}
 use Rattle.gl_vm.specs.Steps.{Does}
 use Rattle.gl_vm.specs.declared.vm.Vm.{Vm}
 use Rattle.gl_vm.proofs.States.{amended_is, row_put}
@@ -49,7 +49,7 @@ none_any q (x ∷ xs) e = (left (same_id q x) (list_any (same_id q) xs) e, none_
   right false b e = e
   right true b e = let no : true ≡ false = e in absurd (cc)
 
-any_none : (q : Id) (xs : List Id) → f.Each (λ x. same_id q x ≡ false) xs → list_any (same_id q) xs ≡ false
+pub any_none : (q : Id) (xs : List Id) → f.Each (λ x. same_id q x ≡ false) xs → list_any (same_id q) xs ≡ false
 any_none q [] e = refl
 any_none q (x ∷ xs) e = ap₂ (λ a b. a || b) e.0 (any_none q xs e.1)
 
@@ -63,7 +63,7 @@ only_read l i q (f.through k q2 h e) u = by (l k) refl where
       let a : list_any (same_id q2) (f.reads (λ x. (f.meaning l x).value) o) ≡ false = any_none q2 _ (each_read (λ x. same_id q2 x ≡ false) (λ x. (f.meaning l x).value) o (none_any q2 (f.parts o) (u k o g))) in
       let no : false ≡ true = sym a ∙ (sym (ap (λ o. list_any (same_id q2) (f.reads (λ x. (f.meaning l x).value) (f.form_or o))) g) ∙ e) in absurd (cc)
 
-some_row : (o : Option s.Row) (g : f.Form) → option_map form_in o ≡ Some g → (y : s.Row) × (o ≡ Some y) × (y.form ≡ g)
+pub some_row : (o : Option s.Row) (g : f.Form) → option_map form_in o ≡ Some g → (y : s.Row) × (o ≡ Some y) × (y.form ≡ g)
 some_row None g e = absurd (none_not g e)
 some_row (Some y) g e = (y, refl, some_same y.form g e)
 
@@ -197,7 +197,7 @@ module _ (r r' : Refs) (id : Id) (reads : Reads r r' id) (stamped : IsStamped r.
     pub rows-settled : row_at r' ≡ amended (row_at r) id.1 (Some (record { form = all_form (stamps ids); last = any_of (map (λ u. label (holder rows r.rows.made u)) srcs) }))
     rows-settled = amended_is (row_at r) id.1 (Some (record { form = all_form (stamps ids); last = any_of (map (λ u. label (holder rows r.rows.made u)) srcs) })) (row_at r') row-here row-stays
 
-module _ (vm : Vm) (r' : Refs) (id : Id) (reads : Reads vm.refs r' id) (stamped : IsStamped vm.refs.rows) (stamped' : IsStamped r'.rows) (unread : PositionsUnread vm.refs) (known : AllKnown vm.refs)
+module _ (vm : Vm) (r' : Refs) (id : Id) (reads : Reads vm.refs r' id) (stamped : IsStamped vm.refs.rows) (stamped' : IsStamped r'.rows) (unread : PositionsUnread vm.refs)
     (sound : s.IsSound vm.refs.tags (rows_of vm.refs)) (sound' : s.IsSound r'.tags (rows_of r')) (kept : s.IsKept r'.tags (rows_of r') id) (listed : r'.evaluated ≡ vm.refs.evaluated ++ id ∷ [])
     (ids : List Id) (is : forms_of vm.refs id ≡ Some (f.all_form ids)) where
   abbrev found : List Source
@@ -217,7 +217,7 @@ module _ (vm : Vm) (r' : Refs) (id : Id) (reads : Reads vm.refs r' id) (stamped 
         ∙ ap (λ g. spot_ids (Some (row (record { form = seen_form id.1 g; last = last_of vm.refs.tags (by_stamp vm.refs.rows) vm.refs.rows.made g y.0.last })))) y.2
 
     sources-found : sources_of (spot_pairs st id.1) ≡ found
-    sources-found = ap (λ xs. sources_of (map (pair_of st.look) xs)) ids-are ∙ position-sources vm.refs stamped sound known st.look (λ n. refl) id ids is
+    sources-found = ap (λ xs. sources_of (map (pair_of st.look) xs)) ids-are ∙ position-sources vm.refs stamped sound st.look (λ n. refl) id ids is
 
     kept-is : kept_of n (record vm { refs = r' }) ≡ record (kept_of n vm) { row = amended (row_at vm.refs) id.1 (Some seen-there); evaluated = stamps vm.refs.evaluated ++ id.1 ∷ [] }
     kept-is = λ z. record (kept_of n vm) {

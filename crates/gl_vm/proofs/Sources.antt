@@ -16,10 +16,11 @@ use Rattle.gl_meaning.specs.Scope.{Source}
 use Rattle.gl_meaning.proofs.Equal.{path_itself}
 use Rattle.gl_meaning.specs.Path.{at}
 use Rattle.gl_plain.specs.State.{any_of, source_eq}
+use Rattle.gl_plain.specs.Naming.{by_number, made_source}
 use Rattle.gl_vm.specs.Labels.{label, labelled}
 use Rattle.gl_vm.specs.Kept.{Kept, state_by}
 use Rattle.gl_vm.specs.View.{Tables, stamps, seen_form, row_of, row_at, kept_of, AgreesAt, Agrees}
-use Rattle.gl_vm.specs.Steps.{Does, Numbers, made_source}
+use Rattle.gl_vm.specs.Steps.{Does, Numbers}
 use Rattle.gl_vm.specs.declared.vm.Vm.{Vm}
 use Rattle.gl_vm.proofs.States.{test_yes, num_no, amended_here, amended_off, with_row, row_made}
 use Rattle.gl_vm.proofs.Rows.{rows_more, some_same}
@@ -152,7 +153,7 @@ module _ (vm : Vm) (r : Refs) (id : Id) (kind : Bool) (v : f.V) (stamped : IsSta
   kept-is : (n : Tables) → kept_of n (record vm { refs = r }) ≡ with_row (record { form = seen_form was.rows.made form; last = any_of [] }) (kept_of n vm)
   kept-is n = λ z. record (kept_of n vm) { row = row-is z; rows = count-is z; evaluated = stamps (makes.counts.evaluated z) }
 
-  pub source_step : Does (λ n. made_source (label was.rows.made) (labelled v)) vm (record vm { refs = r })
+  pub source_step : Does (λ n. made_source by_number (label was.rows.made) (labelled v)) vm (record vm { refs = r })
   source_step n touched a = record {
     state = ap (λ (k : Kept). state_by k (then-touched touched a)) (kept-is n) ∙ row_made (kept_of n vm) (then-touched touched a) (record { form = seen_form was.rows.made form; last = any_of [] });
     agrees = made-agrees touched a;

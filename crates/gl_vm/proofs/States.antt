@@ -55,7 +55,7 @@ both_if (Err e) f p q = p
 pub state_is : (a b : State) → a.look ≡ b.look → a.next ≡ b.next → a.touched ≡ b.touched → a.evaluated ≡ b.evaluated → a.installs ≡ b.installs → a.updates ≡ b.updates → a ≡ b
 state_is a b l n t e i u = λ z. record { look = l z; next = n z; touched = t z; evaluated = e z; installs = i z; updates = u z }
 
-look_is : (f g : Id → Option Thing) → ((k : Kind) (n : ℕ) → f (record { kind = k; num = n }) ≡ g (record { kind = k; num = n })) → f ≡ g
+pub look_is : (f g : Id → Option Thing) → ((k : Kind) (n : ℕ) → f (record { kind = k; num = n }) ≡ g (record { kind = k; num = n })) → f ≡ g
 look_is f g h = λ t q. h q.kind q.num t
 
 -- what is kept with one thing more, or another one in place of one

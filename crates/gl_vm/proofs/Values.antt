@@ -18,7 +18,7 @@ use Rattle.gl_plain.specs.Stands.{below}
 use Rattle.gl_plain.proofs.Pairs.{below_at, pair_law}
 use Rattle.gl_vm.specs.Labels.{label}
 use Rattle.gl_vm.specs.Kept.{some_below}
-use Rattle.gl_vm.specs.View.{stamps, is_led, form_led, led_by, seen_row, row_at, holder, seen_pair, AllKnown}
+use Rattle.gl_vm.specs.View.{stamps, is_led, form_led, led_by, seen_row, row_at, holder, seen_pair}
 use Rattle.gl_vm.proofs.Rows.{below_same}
 use Rattle.gl_vm.proofs.Means.{form-means, sources-are}
 
@@ -188,7 +188,7 @@ module _ (r : Refs) (stamped : IsStamped r.rows) (sound : s.IsSound r.tags (rows
   pub all-held : (i : Id) → IsSome (l i) → f.Each IsHeld (f.meaning l i).sources
   all-held i live = held-below (suc i.1) i (omega arith) live
 
-  module _ (known : AllKnown r) (look : Name → Option Thing) (looks : (n : ℕ) → look (ref n) ≡ option_map row (row_at r n)) where
+  module _ (look : Name → Option Thing) (looks : (n : ℕ) → look (ref n) ≡ option_map row (row_at r n)) where
     means-below : (n : ℕ) (i : Id) → i.1 < n → IsSome (l i) → pair_of look i.1 ≡ seen_pair r (f.meaning l i)
     means-below zero i lt live = absurd (omega (arith, lt))
     means-below (suc n) i lt live =
@@ -198,7 +198,7 @@ module _ (r : Refs) (stamped : IsStamped r.rows) (sound : s.IsSound r.tags (rows
         let G = f.below (f.meaning l) i in
         pair_law look i.1
         ∙ (ap (thing_pair F) (looks i.1 ∙ ap (λ o. option_map row (option_map (seen_row r.tags rows r.rows.made i.1) o)) (by_stamp-live r.rows i x.0 stamped x.1))
-        ∙ (form-means lab i.1 F G x.0.form (known i x.0.form is)
+        ∙ (form-means lab i.1 F G x.0.form (sound.known i x.0.form is)
         (λ k t v e. holder-is t (record { id = i; row = x.0; kind = k; value = v; is = x.1; form = e }))
         (each_map (λ q. (q.1 < i.1) × IsSome (l q)) (λ q. F q.1 ≡ seen_pair r (G q)) (f.parts x.0.form)
         (λ q h. below_at i.1 (pair_of look) q.1 h.0 ∙ (means-below n q (let a = h.0 in omega (arith, a, lt)) h.1 ∙ ap (seen_pair r) (sym (below_is (f.meaning l) i q h.0)))) (sound.lower i x.0.form is))

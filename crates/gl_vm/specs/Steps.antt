@@ -1,17 +1,22 @@
 -- What a step of the code does to the state.
-use Rattle.std.specs.Prelude.{◌≡◌, ℕ, ◌+◌, List, [], ◌∷◌, Bool, ◌||◌, if◌then◌else◌, Option, Some}
+use Rattle.std.specs.Prelude.{◌≡◌, ℕ, ◌+◌, List, [], ◌∷◌, Bool, false, ◌&&◌, if◌then◌else◌, Option, Some, None}
 use Rattle.std.specs.Str.{bytes_eq}
 use Rattle.gl_base.specs.Texts.{Text}
-use Rattle.gl_arena.specs.Id.{Id}
-use Rattle.gl_arena.specs.Arena.{Arena, IsOwn}
+use Rattle.gl_arena.specs.Id.{Id, same_id}
+use Rattle.gl_arena.specs.Arena.{Arena, IsOwn, by_stamp}
+use Rattle.gl_tags.specs.Tags as t
+use Rattle.gl_mods.specs.Mods as m
+use Rattle.gl_refs.specs.Forms as f
+use Rattle.gl_refs.specs.State as s
+use Rattle.gl_refs.specs.Refs.{Refs, rows_of}
 use Rattle.gl_meaning.specs.Path.{V}
 use Rattle.gl_meaning.specs.Scope.{Source}
 use Rattle.gl_meaning.specs.Parts.{Attrs}
-use Rattle.gl_plain.specs.Ids.{node, modifier_id}
-use Rattle.gl_plain.specs.State.{source_form, content, Installed, modifier_row, Thing, State, source_eq, put_thing, note_updated}
+use Rattle.gl_plain.specs.Ids.{a_modifier, Id as Name, kind_eq, hit, node, modifier_id}
+use Rattle.gl_plain.specs.State.{content, Installed, modifier_row, Thing, State, put_thing, note_updated}
+use Rattle.gl_plain.specs.Naming.{by_number, dropped_as}
 use Rattle.gl_plain.specs.Renew.{changed_attr}
-use Rattle.gl_plain.specs.Binding.{made_row}
-use Rattle.gl_vm.specs.View.{Tables, state_of, Agrees}
+use Rattle.gl_vm.specs.View.{Tables, is_led, state_of, Agrees}
 use Rattle.gl_vm.specs.declared.vm.Vm.{Vm}
 
 -- the code keeps this state now
@@ -28,10 +33,6 @@ pub record Numbers {T : Type 0} (old new : Arena T) (id : Id) : Type 0 where
   pub stamp : id.1 ≡ old.made
   pub own : IsOwn new id
   pub olds : (i : Id) → IsOwn old i → IsOwn new i
-
--- a source is made, and counts as touched
-abbrev pub made_source : Source → V → State → State
-made_source x v st = let r = made_row (source_form x v) st in record r { touched = λ y. source_eq y x || r.touched y }
 
 -- the node's attribute of a name is changed
 abbrev pub put_attr : ℕ → Text → Option Text → State → State
@@ -53,3 +54,22 @@ put_args m vs ns st = note_updated m (put_thing (modifier_id m) (modifier_row (g
 
 abbrev pub installed_at : ℕ → ℕ → Text → List V → List (Text × V) → Installed
 installed_at n i name vs ns = record { on_node = n; place = i; name = name; args = vs; names = ns }
+
+-- Ends
+
+-- the thing with that id goes, and no other
+abbrev pub dropped_one : Name → State → State
+dropped_one i st = dropped_as by_number (λ q. hit q i) st
+
+-- a modifier of that node
+abbrev pub is_on : Id → Option m.Installed → Bool
+is_on node None = false
+is_on node (Some x) = same_id x.node node
+
+-- how often an id is that of a modifier of that node
+abbrev pub on_count : m.Mods → Id → Name → ℕ
+on_count mods node q = if kind_eq q.kind a_modifier && is_on node (by_stamp mods.table q.num) then 1 else 0
+
+-- At no position's last evaluation was that read. Of what is no cell and no item it is so by itself.
+abbrev pub IsForgotten : Refs → Id → Type 0
+IsForgotten r id = (k : Id) (x : s.Row) (l : s.Last) (ids : List Id) → rows_of r k ≡ Some x → x.form ≡ f.all_form ids → x.last ≡ Some l → is_led (t.leads_of r.tags.tags l.tag) (rows_of r id) ≡ false

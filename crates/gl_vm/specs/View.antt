@@ -1,9 +1,9 @@
 -- What the code keeps, as the plain machine's state.
-use Rattle.std.specs.Prelude.{◌≡◌, ℕ, zero, suc, ◌==◌, List, [], ◌∷◌, map, Bool, true, false, ◌&&◌, if◌then◌else◌, Option, Some, None, option_map, is_some}
+use Rattle.std.specs.Prelude.{◌≡◌, ℕ, zero, suc, ◌==◌, List, [], ◌∷◌, map, Bool, true, false, ◌&&◌, if◌then◌else◌, Option, Some, None, option_map}
 use Rattle.std.specs.List.{list_any}
 use Rattle.gl_base.specs.Texts.{Text}
 use Rattle.gl_base.specs.Names.{at_place}
-use Rattle.gl_value.specs.Helpers.{helper_table, helper_numbered}
+use Rattle.gl_value.specs.Helpers.{helper_table}
 use Rattle.gl_arena.specs.Id.{Id, same_id}
 use Rattle.gl_arena.specs.Arena.{by_stamp}
 use Rattle.gl_tags.specs.Tags as t
@@ -85,17 +85,13 @@ holder rows (suc n) tag = if is_led (tag ∷ []) (rows n) then n else holder row
 abbrev pub seen_pair : Refs → f.Pair → Pair
 seen_pair r p = record { value = labelled p.value; sources = map (λ t. label (holder (by_stamp r.rows) r.rows.made t)) p.sources }
 
--- a call is of a helper in the table
-abbrev pub is_known : f.Form → Bool
-is_known (f.call_form h ids named) = is_some (helper_numbered h)
-is_known g = true
-
-abbrev pub AllKnown : Refs → Type 0
-AllKnown r = (i : Id) (g : f.Form) → forms_of r i ≡ Some g → is_known g ≡ true
-
 -- no reference reads a position
 abbrev pub PositionsUnread : Refs → Type 0
 PositionsUnread r = (i : Id) (ids : List Id) → forms_of r i ≡ Some (f.all_form ids) → f.IsUnread (forms_of r) i
+
+-- no reference of the machine reads a position
+pub record Calm (vm : Vm) : Type 0 where
+  pub unread : PositionsUnread vm.refs
 
 abbrev pub is_all : Option f.Form → Bool
 is_all (Some (f.all_form ids)) = true

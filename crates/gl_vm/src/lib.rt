@@ -1,6 +1,7 @@
 //! What the machine keeps, and its primitive steps. Contracts see it as the state of the plain machine.
 #![tactic(auto)]
 
+mod ends;
 mod nodes;
 mod placing;
 mod positions;

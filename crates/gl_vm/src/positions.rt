@@ -1,24 +1,29 @@
-// Values of references, and positions that are evaluated.
-ghost use Rattle.std.specs.Prelude.{◌≡◌, ℕ, Bool, List, IfOk, OnOk, IsSome, true};
+// Values of references, positions that are evaluated, and the beginning of a turn.
+ghost use Rattle.std.specs.Prelude.{◌≡◌, ◌+◌, Bool, List, [], IfOk, OnOk, IsSome, Some, true, false};
 ghost use Rattle.gl_value.specs.View.{view};
+ghost use Rattle.gl_arena.specs.Arena.{IsOwn};
 ghost use Rattle.gl_meaning.specs.Scope.{Source};
-ghost use Rattle.gl_refs.specs.Refs.{forms_of};
+ghost use Rattle.gl_refs.specs.Forms.{Each, all_form};
+ghost use Rattle.gl_refs.specs.State.{is_readable};
+ghost use Rattle.gl_refs.specs.Refs.{forms_of, HasRoom};
 ghost use Rattle.gl_plain.specs.State.{pair_of};
-ghost use Rattle.gl_plain.specs.Renew.{evaluate};
+ghost use Rattle.gl_plain.specs.Binding.{place};
+ghost use Rattle.gl_plain.specs.Turns.{begin};
+ghost use Rattle.gl_plain.specs.Renew.{evaluate, is_stale};
 ghost use Rattle.gl_vm.specs.Labels.{labelled};
-ghost use Rattle.gl_vm.specs.View.{Tables, state_of, AllKnown, PositionsUnread, is_all};
-ghost use Rattle.gl_vm.specs.Steps.{Does};
+ghost use Rattle.gl_vm.specs.Led.{IsTelling};
+ghost use Rattle.gl_vm.specs.View.{Tables, stamps, state_of, Calm, Agrees, is_all};
+ghost use Rattle.gl_vm.specs.Steps.{Does, Numbers};
 
 use crate::Vm;
-use gl_refs::RefId;
+use gl_refs::{Form, Ids, RefId};
 use gl_value::Value;
 use std::alloc::AllocError;
 
 impl Vm {
     /// What a reference gives over the present cells and items. Nothing is kept of it.
     pub fn value(&self, id: RefId) -> Result<Value, AllocError>
-        requires live { IsSome (forms_of self.now.refs id) }
-        requires known { AllKnown self.now.refs }
+        requires { IsSome (forms_of self.now.refs id) }
         ensures { IfOk result (λ v. (n : Tables) (touched : Source → Bool) → (pair_of (state_of n self.now touched).look id.1).value ≡ labelled (view v)) }
     {
         self.refs.sound();
@@ -28,15 +33,66 @@ impl Vm {
     /// Evaluates a position, which no reference reads.
     pub fn evaluate(&mut self, id: RefId) -> Result<(), AllocError>
         requires position { is_all (forms_of self.old.refs id) ≡ true }
-        requires known { AllKnown self.old.refs }
-        requires unread { PositionsUnread self.old.refs }
+        requires calm { Calm self.old }
         ensures step { OnOk result (Does (λ n. evaluate id.1) self.old self.new) }
         ensures forms { forms_of self.new.refs ≡ forms_of self.old.refs }
+        ensures made { self.new.refs.rows.made ≡ self.old.refs.rows.made }
+        ensures owns { (i : _) → IsOwn self.old.refs.rows i → IsOwn self.new.refs.rows i }
         ensures rest { self.new ≡ record self.old { refs = self.new.refs } }
+        ensures calm { Calm self.new }
     {
         self.refs.sound();
         let done = self.refs.renew(id);
         self.refs.sound();
         done
+    }
+
+    /// Makes a position over references that may be read, and evaluates it for the first time.
+    pub fn place(&mut self, ids: Ids) -> Result<RefId, AllocError>
+        requires parts { Each (λ q. is_readable (forms_of self.old.refs q) ≡ true) ids }
+        requires calm { Calm self.old }
+        ensures step { IfOk result (λ id. Does (λ n st. (place (record { ids = stamps ids; made = []; state = st })).state) self.old self.new) }
+        ensures id { IfOk result (λ id. Numbers self.old.refs.rows self.new.refs.rows id) }
+        ensures form { IfOk result (λ id. forms_of self.new.refs id ≡ Some (all_form ids)) }
+        ensures olds { (i : _) → IsSome (forms_of self.old.refs i) → forms_of self.new.refs i ≡ forms_of self.old.refs i }
+        ensures rest { self.new ≡ record self.old { refs = self.new.refs } }
+        ensures calm { Calm self.new }
+    {
+        self.refs.sound();
+        let id = self.bind(Form::All(ids))?;
+        self.evaluate(id)?;
+        Ok(id)
+    }
+
+    /// Whether a source that a position read at its last evaluation was touched in this turn. Where tags can't tell, it
+    /// says so too: before the first turn, of a position that was never evaluated, and where what it read lives no more.
+    pub fn stale(&mut self, id: RefId) -> bool
+        requires room { HasRoom self.old.refs }
+        requires position { is_all (forms_of self.old.refs id) ≡ true }
+        ensures found { (n : Tables) (touched : Source → Bool) → Agrees touched self.old → is_stale (state_of n self.old touched) id.1 ≡ true → result ≡ true }
+        ensures exact { IsTelling self.old.refs id → (n : Tables) (touched : Source → Bool) → Agrees touched self.old → is_stale (state_of n self.old touched) id.1 ≡ result }
+        ensures rest { self.new ≡ record self.old { refs = record self.old.refs { asks = self.new.refs.asks } } }
+    {
+        self.refs.sound();
+        let now = self.refs.now();
+        if now == 0 {
+            true
+        } else {
+            !self.refs.valid(id, now - 1)
+        }
+    }
+
+    /// Begins a turn: nothing is touched, and the lists of what was done are empty.
+    pub fn begin(&mut self)
+        requires { HasRoom self.old.refs }
+        ensures step { Does (λ n. begin) self.old self.new }
+        ensures untouched { Agrees (λ x. false) self.new }
+        ensures clock { self.new.refs.tags.clock ≡ self.old.refs.tags.clock + 1 }
+        ensures forms { forms_of self.new.refs ≡ forms_of self.old.refs }
+        ensures calm { Calm self.old → Calm self.new }
+    {
+        self.refs.sound();
+        self.refs.begin();
+        drop(self.mods.commit());
     }
 }

@@ -11,4 +11,4 @@ returns-clause-ok c = on_if c.insert_row.result (λ id g. gives-mapped seen_row 
 pub returns-clause-sound : goal.returns-clause-sound
 returns-clause-sound c =
     let q = c.requires in
-    made_or_not c.insert_row.result c.args.tags.now c.args.rows.now c.insert_row.new.rows c.args.kind q.sound c.stamps.ensures q.parts q.fits q.fresh c.insert_row.ensures.ok c.insert_row.ensures.err
+    made_or_not c.insert_row.result c.args.tags.now c.args.rows.now c.insert_row.new.rows c.args.kind q.sound c.stamps.ensures q.parts q.known q.fits q.fresh c.insert_row.ensures.ok c.insert_row.ensures.err

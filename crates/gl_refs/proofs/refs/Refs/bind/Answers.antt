@@ -8,4 +8,4 @@ use Rattle.gl_refs.proofs.refs.Refs.bind.Goals as goal
 
 pub make-requires-clause-parts : goal.make-requires-clause-parts
 make-requires-clause-parts c =
-    of_seen (λ x. Each (λ q. IsSome (forms x q)) (parts (seen_form c.args.form))) c.self.inside.rows (subst (λ (r : Refs). Each (λ q. IsSome (forms_of r q)) (parts (seen_form c.args.form))) (sym c.self.view_is) c.requires)
+    of_seen (λ x. Each (λ q. IsSome (forms x q)) (parts (seen_form c.args.form))) c.self.inside.rows (subst (λ (r : Refs). Each (λ q. IsSome (forms_of r q)) (parts (seen_form c.args.form))) (sym c.self.view_is) c.requires.parts)

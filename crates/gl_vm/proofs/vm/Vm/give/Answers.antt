@@ -1,6 +1,7 @@
 use Rattle.std.proofs.Common.{◌⊎◌, inl, inr}
 use Rattle.gl_value.specs.View.{view}
 use Rattle.gl_vm.proofs.Sets.{give_step}
+use Rattle.gl_vm.proofs.Calms.{calm_given}
 use Rattle.gl_vm.proofs.vm.Vm.give.Goals as goal
 
 -- what is said by cases, as two implications
@@ -16,3 +17,6 @@ pub returns-clause-step : goal.returns-clause-step
 returns-clause-step c =
     give_step c.args.self.now c.give.new.self c.args.item (view c.args.value) c.sound.ensures.stamped c.sound.ensures.sound c.requires.item (where_it_holds c.give.ensures)
     (where_it_fails c.give.ensures)
+
+pub returns-clause-calm : goal.returns-clause-calm
+returns-clause-calm c calm = record { unread = calm_given c.args.self.now.refs c.give.new.self c.args.item (view c.args.value) c.give.ensures calm.unread }

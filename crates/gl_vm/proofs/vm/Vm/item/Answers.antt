@@ -2,6 +2,8 @@ use Rattle.std.proofs.Common.{true}
 use Rattle.gl_value.specs.View.{view}
 use Rattle.gl_arena.proofs.Stamps.{on_if}
 use Rattle.gl_vm.proofs.Sources.{source_step, source_numbers}
+use Rattle.gl_vm.proofs.Calms.{on_err, either_way, calm_same, calm_source, olds_source, olds_kept, item_source}
+use Rattle.gl_vm.proofs.Wants.{keeps_step, keeps_forms}
 use Rattle.gl_vm.proofs.vm.Vm.item.Goals as goal
 
 pub returns-clause-step : goal.returns-clause-step
@@ -11,3 +13,20 @@ returns-clause-step c =
 pub returns-clause-id : goal.returns-clause-id
 returns-clause-id c =
     on_if c.item.result (λ id m. source_numbers c.args.self.now c.item.new.self id true (view c.args.value) c.sound.ensures.stamped c.sound.ensures.sound m) c.item.ensures.ok
+
+pub returns-clause-item : goal.returns-clause-item
+returns-clause-item c = on_if c.item.result (λ id m. item_source c.args.self.now.refs c.item.new.self id (view c.args.value) m) c.item.ensures.ok
+
+pub returns-clause-olds : goal.returns-clause-olds
+returns-clause-olds c =
+    either_way c.item.result (λ id m. olds_source c.args.self.now.refs c.item.new.self id true (view c.args.value) m) (λ e. olds_kept c.args.self.now.refs c.item.new.self (keeps_forms c.args.self.now.refs c.item.new.self e)) c.item.ensures.ok
+    c.item.ensures.err
+
+pub returns-clause-calm : goal.returns-clause-calm
+returns-clause-calm c calm = record {
+  unread = either_way c.item.result (λ id m. calm_source c.args.self.now.refs c.item.new.self id true (view c.args.value) m c.sound.ensures.sound.lower calm.unread)
+      (λ e. calm_same c.args.self.now.refs c.item.new.self (keeps_forms c.args.self.now.refs c.item.new.self e) calm.unread) c.item.ensures.ok c.item.ensures.err;
+}
+
+pub returns-clause-err : goal.returns-clause-err
+returns-clause-err c = on_err c.item.result (λ k. keeps_step c.args.self.now c.item.new.self c.sound.ensures.stamped c.sound.ensures.sound k) c.item.ensures.err

@@ -9,5 +9,5 @@ use Rattle.gl_vm.proofs.vm.Vm.value.Goals as goal
 pub returns : goal.returns
 returns c =
     on_if c.look.result
-    (λ v e n touched. ap (λ (p : Pair). p.value) (means c.args.self.now.refs c.sound.ensures.stamped c.sound.ensures.sound c.requires.known (state_of n c.args.self.now touched).look (λ k. refl) c.args.id c.requires.live) ∙ ap labelled (sym e))
+    (λ v e n touched. ap (λ (p : Pair). p.value) (means c.args.self.now.refs c.sound.ensures.stamped c.sound.ensures.sound (state_of n c.args.self.now touched).look (λ k. refl) c.args.id c.requires) ∙ ap labelled (sym e))
     c.look.ensures
