@@ -3,3 +3,4 @@ pub mod Feeding
 pub mod Keyings
 pub mod Moving
 pub mod Plans
+pub mod Standing

@@ -1,5 +1,7 @@
 // The keys of a list's items.
-ghost use Rattle.std.specs.Prelude.{◌≡◌, ◌<◌, ℕ, [], IfOk, map};
+ghost use Rattle.std.specs.Prelude.{◌≡◌, ◌<◌, ◌+◌, ◌^◌, ℕ, [], IfOk, map, cond, Some, unwrap_or};
+ghost use Rattle.indexmap.specs.IndexMap.{get};
+ghost use Rattle.gl_each.specs.Key as k;
 ghost use Rattle.std.specs.Str.{chars};
 ghost use Rattle.std.specs.List.{zip};
 ghost use Rattle.gl_value.specs.View.{view, seen_items};
@@ -9,7 +11,7 @@ ghost use Rattle.gl_value.specs.Proper.{IsProper};
 ghost use Rattle.gl_meaning.specs.Path.{Path};
 ghost use Rattle.gl_meaning.specs.Render.{entries};
 ghost use Rattle.gl_meaning.specs.Laws.{NoRepeat};
-ghost use Rattle.gl_each.specs.Key.{entry_keys};
+ghost use Rattle.gl_each.specs.Key.{entry_keys, same_key};
 ghost use Rattle.gl_each.specs.Counted.{item_keys, counts, AreProper, KeysAreProper};
 ghost use Rattle.gl_each.specs.View.{seen_keys};
 
@@ -30,6 +32,31 @@ fn values_at(alloc: Global, items: &[Value], key: &str) -> Result<Vec<Value>, Al
     Ok(list)
 }
 
+// Counts one more of a value, and gives how often it was counted before. A value that is new is looked up once.
+fn count_one<'a>(
+    counted: &mut IndexMap<KeyRef<'a>, u64>,
+    value: &'a Value,
+) -> Result<u64, AllocError>
+    requires { unwrap_or (get same_key counted.old (view value.now, 0)) 0 < 2 ^ 63 }
+    ensures before { IfOk result (λ n. n ≡ unwrap_or (get same_key counted.old (view value.now, 0)) 0) }
+    ensures after { IfOk result (λ n. (q : k.Key) → get same_key counted.new q ≡ cond (same_key (view value.now, 0) q) (Some (n + 1)) (get same_key counted.old q)) }
+{
+    let before = counted.insert(first(value), 1)?.unwrap_or(0);
+    if before > 0 {
+        counted.insert(first(value), before + 1)?;
+    }
+    Ok(before)
+}
+
+fn first<'a>(value: &'a Value) -> KeyRef<'a>
+    ensures { result ≡ (view value.now, 0) }
+{
+    KeyRef {
+        value,
+        occurrence: 0,
+    }
+}
+
 // How many equal values stand before each.
 fn occurrences(alloc: Global, values: &[Value]) -> Result<Vec<u64>, AllocError>
     ensures { IfOk result (λ ns. ns.items ≡ counts (seen_items values.now)) }
@@ -37,13 +64,7 @@ fn occurrences(alloc: Global, values: &[Value]) -> Result<Vec<u64>, AllocError>
     let mut seen: IndexMap<KeyRef, u64> = IndexMap::with_capacity(alloc, values.len())?;
     let mut list = Vec::with_capacity(alloc, values.len())?;
     for value in values {
-        let at = KeyRef {
-            value,
-            occurrence: 0,
-        };
-        let before = seen.get(&at).copied().unwrap_or(0);
-        list.push(before)?;
-        seen.insert(at, before + 1)?;
+        list.push(count_one(&mut seen, value)?)?;
     }
     Ok(list)
 }

@@ -4,6 +4,7 @@
 //! `laws` has what follows from them.
 #![tactic(auto)]
 
+mod finder;
 mod finding;
 mod key;
 mod keying;

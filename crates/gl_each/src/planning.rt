@@ -6,26 +6,10 @@ ghost use Rattle.gl_each.specs.Sync.{AreSteps, IsSync, kept, has_place, unkept};
 ghost use Rattle.gl_each.specs.Planned.{step_for, greater};
 ghost use Rattle.gl_each.specs.View.{seen_keys, step_view, seen_steps};
 
-use crate::finding::KeyRef;
+use crate::finder::Finder;
 use crate::step::Plan;
 use crate::{Key, Keys, Places, PlanStep, PlanSteps};
-use indexmap::IndexSet;
 use std::alloc::{AllocError, Global};
-
-// The old keys, each at its place.
-fn table(alloc: Global, old: &[Key]) -> Result<IndexSet<KeyRef<'_>>, AllocError>
-    requires { NoRepeat (seen_keys old.now) }
-    ensures { IfOk result (λ t. t.keys ≡ seen_keys old.now) }
-{
-    let mut places = IndexSet::with_capacity(alloc, old.len())?;
-    for key in old {
-        places.insert(KeyRef {
-            value: &key.value,
-            occurrence: key.occurrence,
-        })?;
-    }
-    Ok(places)
-}
 
 // The step of a new key that stands at a place of the old list or nowhere, where `greatest` is the greatest
 // place that was kept so far.
@@ -53,21 +37,15 @@ fn greater(place: Option<usize>, greatest: Option<usize>) -> Option<usize>
 }
 
 // One step for each new key.
-fn steps_to(
-    alloc: Global,
-    places: &IndexSet<KeyRef<'_>>,
-    new: &[Key],
-) -> Result<PlanSteps, AllocError>
-    ensures { IfOk result (λ ss. AreSteps places.now.keys [] (seen_keys new.now) ss) }
+fn steps_to(alloc: Global, old: &[Key], new: &[Key]) -> Result<PlanSteps, AllocError>
+    requires { NoRepeat (seen_keys old.now) }
+    ensures { IfOk result (λ ss. AreSteps (seen_keys old.now) [] (seen_keys new.now) ss) }
 {
-    let mut list = PlanSteps::new(alloc);
+    let mut list = PlanSteps::from_vec(Vec::with_capacity(alloc, new.len())?);
+    let mut finder = Finder::new(alloc, old);
     let mut greatest = None;
     for key in new {
-        let at = KeyRef {
-            value: &key.value,
-            occurrence: key.occurrence,
-        };
-        let place = (&*places).get_index_of(&at);
+        let place = finder.find(key)?;
         list.push(step_for(place, greatest))?;
         greatest = greater(place, greatest);
     }
@@ -110,8 +88,7 @@ pub fn plan(old: &Keys, new: &Keys) -> Result<Plan, AllocError>
     ensures { IfOk result (λ p. IsSync old.now new.now p.steps p.removed) }
 {
     let alloc = old.allocator();
-    let places = table(alloc, old.as_slice())?;
-    let steps = steps_to(alloc, &places, new.as_slice())?;
+    let steps = steps_to(alloc, old.as_slice(), new.as_slice())?;
     let removed = removed(alloc, old.len(), steps.as_slice())?;
     Ok(Plan { steps, removed })
 }

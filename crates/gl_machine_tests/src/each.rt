@@ -9,7 +9,7 @@ use std::test::Fail;
 // old places that are removed. Each item is a character, and is its own key.
 type Planned = (&'static str, &'static str, &'static str, &'static str);
 
-static PLANS: [Planned; 9] = [
+static PLANS: [Planned; 11] = [
     ("abcd", "dxba", "3 + >1 >0 ", "2 "),
     ("", "", "", ""),
     ("abc", "cab", "2 >0 >1 ", ""),
@@ -19,6 +19,13 @@ static PLANS: [Planned; 9] = [
     ("abc", "acb", "0 2 >1 ", ""),
     ("aab", "ab", "0 2 ", "1 "),
     ("aba", "baa", "1 >0 2 ", ""),
+    ("abcdef", "fedcba", "5 >4 >3 >2 >1 >0 ", ""),
+    (
+        "abcdefghijkl",
+        "cahxkebljdgf",
+        "2 >0 7 + 10 >4 >1 11 >9 >3 >6 >5 ",
+        "8 ",
+    ),
 ];
 
 fn letters(alloc: Global, text: &str) -> Result<Vec<Value>, Fail> {

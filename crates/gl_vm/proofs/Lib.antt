@@ -13,3 +13,7 @@ pub mod Begins
 pub mod Wants
 pub mod Drops
 pub mod Ended
+pub mod Reached
+pub mod Stale
+pub mod Starts
+pub mod Leading

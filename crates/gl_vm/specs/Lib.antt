@@ -2,3 +2,4 @@ pub mod Labels
 pub mod Kept
 pub mod View
 pub mod Steps
+pub mod Led

@@ -6,23 +6,25 @@ ghost use Rattle.gl_refs.specs.State.{is_source};
 ghost use Rattle.gl_refs.specs.Refs.{rows_of, forms_of};
 ghost use Rattle.gl_plain.specs.Ids.{ref as ref_id, instance_id, block_id};
 ghost use Rattle.gl_plain.specs.Naming.{by_number, dropped_as};
+ghost use Rattle.gl_vm.specs.Led.{Led};
 ghost use Rattle.gl_vm.specs.View.{Calm};
-ghost use Rattle.gl_vm.specs.Steps.{Does, dropped_one, on_count, IsForgotten};
+ghost use Rattle.gl_vm.specs.Steps.{Does, dropped_one, on_count};
 
 use crate::Vm;
 use gl_arena::{BlockId, Id, InstMark, NodeMark};
 use gl_refs::RefId;
 
 impl Vm {
-    /// Ends a reference that no live one reads. A cell or an item is one that no position read at its last evaluation.
+    /// Ends a reference that no live one reads.
     pub fn end_reference(&mut self, id: RefId)
         requires live { IsSome (forms_of self.old.refs id) }
         requires unread { IsUnread (forms_of self.old.refs) id }
-        ensures step { (is_source (rows_of self.old.refs id) ≡ true → IsForgotten self.old.refs id) → Does (λ n. dropped_one (ref_id id.1)) self.old self.new }
+        ensures step { (is_source (rows_of self.old.refs id) ≡ true → Led self.old.refs) → Does (λ n. dropped_one (ref_id id.1)) self.old self.new }
         ensures ended { forms_of self.new.refs id ≡ None }
         ensures others { (i : _) → i ≢ id → forms_of self.new.refs i ≡ forms_of self.old.refs i }
         ensures rest { self.new ≡ record self.old { refs = self.new.refs } }
         ensures calm { Calm self.old → Calm self.new }
+        ensures led { Led self.old.refs → Led self.new.refs }
     {
         self.refs.sound();
         self.refs.free(id);

@@ -9,8 +9,9 @@ ghost use Rattle.gl_refs.specs.Refs.{forms_of, HasRoom};
 ghost use Rattle.gl_plain.specs.State.{pair_of};
 ghost use Rattle.gl_plain.specs.Binding.{place};
 ghost use Rattle.gl_plain.specs.Turns.{begin};
-ghost use Rattle.gl_plain.specs.Renew.{evaluate};
+ghost use Rattle.gl_plain.specs.Renew.{evaluate, is_stale};
 ghost use Rattle.gl_vm.specs.Labels.{labelled};
+ghost use Rattle.gl_vm.specs.Led.{Led, IsTelling};
 ghost use Rattle.gl_vm.specs.View.{Tables, stamps, state_of, Calm, Agrees, is_all};
 ghost use Rattle.gl_vm.specs.Steps.{Does, Numbers};
 
@@ -39,6 +40,7 @@ impl Vm {
         ensures owns { (i : _) → IsOwn self.old.refs.rows i → IsOwn self.new.refs.rows i }
         ensures rest { self.new ≡ record self.old { refs = self.new.refs } }
         ensures calm { Calm self.new }
+        ensures led { OnOk result (Led self.old.refs → Led self.new.refs) }
     {
         self.refs.sound();
         let done = self.refs.renew(id);
@@ -56,11 +58,30 @@ impl Vm {
         ensures olds { (i : _) → IsSome (forms_of self.old.refs i) → forms_of self.new.refs i ≡ forms_of self.old.refs i }
         ensures rest { self.new ≡ record self.old { refs = self.new.refs } }
         ensures calm { Calm self.new }
+        ensures led { IfOk result (λ id. Led self.old.refs → Led self.new.refs) }
     {
         self.refs.sound();
         let id = self.bind(Form::All(ids))?;
         self.evaluate(id)?;
         Ok(id)
+    }
+
+    /// Whether a source that a position read at its last evaluation was touched in this turn. Where tags can't tell, it
+    /// says so too: before the first turn, of a position that was never evaluated, and where what it read lives no more.
+    pub fn stale(&mut self, id: RefId) -> bool
+        requires room { HasRoom self.old.refs }
+        requires position { is_all (forms_of self.old.refs id) ≡ true }
+        ensures found { (n : Tables) (touched : Source → Bool) → Agrees touched self.old → is_stale (state_of n self.old touched) id.1 ≡ true → result ≡ true }
+        ensures exact { IsTelling self.old.refs id → (n : Tables) (touched : Source → Bool) → Agrees touched self.old → is_stale (state_of n self.old touched) id.1 ≡ result }
+        ensures rest { self.new ≡ record self.old { refs = record self.old.refs { asks = self.new.refs.asks } } }
+    {
+        self.refs.sound();
+        let now = self.refs.now();
+        if now == 0 {
+            true
+        } else {
+            !self.refs.valid(id, now - 1)
+        }
     }
 
     /// Begins a turn: nothing is touched, and the lists of what was done are empty.
@@ -71,6 +92,7 @@ impl Vm {
         ensures clock { self.new.refs.tags.clock ≡ self.old.refs.tags.clock + 1 }
         ensures forms { forms_of self.new.refs ≡ forms_of self.old.refs }
         ensures calm { Calm self.old → Calm self.new }
+        ensures led { Led self.old.refs → Led self.new.refs }
     {
         self.refs.sound();
         self.refs.begin();

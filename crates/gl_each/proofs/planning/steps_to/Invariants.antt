@@ -6,6 +6,7 @@ use Rattle.gl_each.proofs.planning.steps_to.Given as goal
 
 abbrev pub invariant-loop-key : goal.invariant-loop-key
 invariant-loop-key l = record {
-  made : AreSteps l.places.keys [] (seen_keys (take l.key-index l.new)) l.list;
+  made : AreSteps (seen_keys l.old) [] (seen_keys (take l.key-index l.new)) l.list;
+  finds : l.finder ≡ seen_keys l.old;
   reached : (i : ℕ) → is_passed (kept l.list) i ≡ is_below i l.greatest;
 }
