@@ -55,7 +55,7 @@ pub made_pushed : (form : Form) (vm vm' : Vm) (old new : Machine) (id : Id) → 
 made_pushed form vm vm' old new id d i m =
     done_then (λ n. s.push_new form) (λ n. pushed_made id.1) (λ n. made_row form) vm vm' old new d m
     (λ n t. let st = made_row form (state_of n vm t) in let k = mach_by n st old in
-        ap (λ r. go st (k.stack ++ (None, r) ∷ []) (k.made ++ ref r ∷ []) (suc k.pc) k.rest) (sym i.stamp))
+    ap (λ r. go st (k.stack ++ (None, r) ∷ []) (k.made ++ ref r ∷ []) (suc k.pc) k.rest) (sym i.stamp))
 
 -- the last ones of the stack were taken, and a reference over them is pushed
 pub after_taking : (count : ℕ) (form : List ℕ → Form) (vm vm' : Vm) (old : Machine) (stack : Vec Pushed Global) (new : Machine) (rs : List ℕ)
@@ -73,7 +73,7 @@ pub after_calling : (count : ℕ) (name : Text) (vm vm' : Vm) (old : Machine) (s
 after_calling count name vm vm' old stack new rs ns e d l x n t a =
     subst (λ qs. GoesOn n (s.push_new (call_form name qs (s.named_ones (s.upper count (seen_stack old.stack.items)))) (record (mach_of n t vm old) { stack = s.lower count (seen_stack old.stack.items) })) vm' new) e
     (subst (λ ms. GoesOn n (s.push_new (call_form name rs ms) (record (mach_of n t vm old) { stack = s.lower count (seen_stack old.stack.items) })) vm' new) d
-      (subst (λ y. GoesOn n (s.push_new (call_form name rs ns) (record (mach_of n t vm old) { stack = y })) vm' new) l (x n t a)))
+    (subst (λ y. GoesOn n (s.push_new (call_form name rs ns) (record (mach_of n t vm old) { stack = y })) vm' new) l (x n t a)))
 
 -- the same of a modifier
 pub after_modifying : (count name : ℕ) (old : Machine) (stack : Vec Pushed Global) (new : Machine) (rs : List ℕ) (ns : Names)
@@ -108,7 +108,7 @@ put_shown vm vm1 vm2 old new top id node t code is d i e j v m n u a =
     let f : Text → PlainCode → Run = λ x b. go (made_node (text_content x) (placed_in (top.id.1 ∷ []) st)) k.stack [] (suc k.pc) (record k.rest { here = added b k.rest.here }) in
     let b : st.next a_node ≡ node.1 = sym (j.stamp ∙ ap (λ (x : State). x.next a_node) w.state) in
     let p : put_code (st.next a_node) (record { ref = st.next a_ref; made = k.made ++ ref (st.next a_ref) ∷ [] }) ≡ seen_code n code
-        = ap (λ x. put_code x (record { ref = st.next a_ref; made = k.made ++ ref (st.next a_ref) ∷ [] })) b ∙ (ap (λ x. put_code node.1 (record { ref = x; made = k.made ++ ref x ∷ [] })) (sym i.stamp) ∙ sym (is n)) in
+    = ap (λ x. put_code x (record { ref = st.next a_ref; made = k.made ++ ref (st.next a_ref) ∷ [] })) b ∙ (ap (λ x. put_code node.1 (record { ref = x; made = k.made ++ ref x ∷ [] })) (sym i.stamp) ∙ sym (is n)) in
     record {
       state = made_node (text_content t) (placed_in (top.id.1 ∷ []) st);
       follows = does_then (λ n. placed_in (top.id.1 ∷ [])) (λ n. made_node (text_content t)) vm vm1 vm2 d e n u a;

@@ -71,9 +71,14 @@ pub struct Listing {
 #[derive(Drop)]
 pub enum Code {
     /// A text or a comment of the template.
-    Still { node: NodeId },
+    Still {
+        node: NodeId,
+    },
     /// A text mustache.
-    Put { node: NodeId, spot: Spot },
+    Put {
+        node: NodeId,
+        spot: Spot,
+    },
     Element {
         node: NodeId,
         made: Ids,
@@ -116,7 +121,10 @@ pub enum Code {
         body: Codes,
     },
     /// The root.
-    Root { owner: Rc<Owner>, body: Codes },
+    Root {
+        owner: Rc<Owner>,
+        body: Codes,
+    },
     Yield {
         name: Text,
         made: Ids,

@@ -54,9 +54,19 @@ pub struct Item {
 /// A part of a tag that waits for the tag's end.
 #[derive(Drop)]
 pub enum Waiting {
-    Fixed { name: Text, text: Text },
-    Live { name: Text, id: RefId },
-    Modifier { name: u32, args: Ids, named: NamedIds },
+    Fixed {
+        name: Text,
+        text: Text,
+    },
+    Live {
+        name: Text,
+        id: RefId,
+    },
+    Modifier {
+        name: u32,
+        args: Ids,
+        named: NamedIds,
+    },
 }
 
 /// What was begun.

@@ -83,6 +83,17 @@ impl NodeTree {
         self.make(Node::Element { tag, attrs })
     }
 
+    /// Makes an element with these attributes, which is not in the tree yet.
+    pub fn element_with(&mut self, tag: Text, attrs: Attrs) -> Result<NodeId, AllocError>
+        ensures ok { IfOk result (λ i. Makes self.old self.new i (n.element tag attrs)) }
+        ensures flat { IfOk result (λ i. MakesFlat self.old self.new i (n.element tag attrs)) }
+        ensures sound { IsFlat self.new }
+        ensures err { OnErr result (self.new ≡ self.old) }
+    {
+        self.flat();
+        self.make(Node::Element { tag, attrs })
+    }
+
     /// Makes a text, which is not in the tree yet.
     pub fn text(&mut self, text: &str) -> Result<NodeId, AllocError>
         ensures ok { IfOk result (λ i. Makes self.old self.new i (n.text (chars text.now))) }

@@ -14,6 +14,7 @@ use Rattle.gl_nodes.specs.Node as n
 use Rattle.gl_nodes.specs.Flat.{node_by}
 use Rattle.gl_mods.specs.Mods as m
 use Rattle.gl_meaning.specs.Scope.{Source, Pair}
+use Rattle.gl_meaning.specs.View.{path_view}
 use Rattle.gl_plain.specs.State.{any_of, Form, constant_form, source_form, property_form, call_form, joined_form, all_form, Row, Names, Inst, named_as, Content, element_content, text_content, comment_content, Installed, State}
 use Rattle.gl_vm.specs.Labels.{label, labelled, all_labelled, names_labelled}
 use Rattle.gl_vm.specs.Kept.{Kept, some_below, state_by}
@@ -105,7 +106,7 @@ seen_node (n.text s) = text_content s
 seen_node (n.comment s) = comment_content s
 
 abbrev pub seen_instance : Tables → ℕ → Instance → Inst
-seen_instance tables k i = record { id = k; path = i.path.steps; cells = named_as (tables.fields i.class) (stamps i.cells) }
+seen_instance tables k i = record { id = k; path = path_view i.path; cells = named_as (tables.fields i.class) (stamps i.cells) }
 
 abbrev pub seen_modifier : Tables → m.Installed → Installed
 seen_modifier tables i = record { on_node = i.node.1; place = i.place; name = tables.modifier i.name; args = all_labelled i.args; names = names_labelled i.named }

@@ -11,7 +11,8 @@ ghost use Rattle.gl_vm.specs.View.{seen_node};
 ghost use Rattle.gl_vm.specs.Steps.{Does, Numbers, put_attr, times_named};
 
 use crate::Vm;
-use gl_nodes::NodeId;
+use gl_nodes::{Attrs, NodeId};
+use gl_value::Text;
 use std::alloc::AllocError;
 
 impl Vm {
@@ -24,6 +25,17 @@ impl Vm {
         ensures err { OnErr result (self.new ≡ self.old) }
     {
         self.tree.element(tag)
+    }
+
+    /// Makes an element with these attributes, which stands nowhere yet.
+    pub fn element_with(&mut self, tag: Text, attrs: Attrs) -> Result<NodeId, AllocError>
+        ensures step { IfOk result (λ id. Does (λ n. made_node (element_content tag attrs)) self.old self.new) }
+        ensures id { IfOk result (λ id. Numbers self.old.tree.nodes self.new.tree.nodes id) }
+        ensures flat { IfOk result (λ id. MakesFlat self.old.tree self.new.tree id (n.element tag attrs)) }
+        ensures rest { self.new ≡ record self.old { tree = self.new.tree } }
+        ensures err { OnErr result (self.new ≡ self.old) }
+    {
+        self.tree.element_with(tag, attrs)
     }
 
     /// Makes a text, which stands nowhere yet.

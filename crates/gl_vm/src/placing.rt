@@ -5,6 +5,7 @@ ghost use Rattle.gl_scope.specs.View.{seen_block};
 ghost use Rattle.gl_plain.specs.Ids.{an_instance, a_block, a_modifier};
 ghost use Rattle.gl_plain.specs.State.{named_as, instance_row, block_row, modifier_row, make, note_installed};
 ghost use Rattle.gl_vm.specs.Labels.{all_labelled, names_labelled};
+ghost use Rattle.gl_meaning.specs.View.{path_view};
 ghost use Rattle.gl_vm.specs.View.{stamps};
 ghost use Rattle.gl_vm.specs.Steps.{Does, Numbers, installed_at, put_args};
 
@@ -38,7 +39,7 @@ impl Vm {
         path: Path,
         cells: Ids,
     ) -> Result<Id<InstMark>, AllocError>
-        ensures step { IfOk result (λ id. Does (λ names. make an_instance (instance_row (record { id = self.old.instances.made; path = path.steps; cells = named_as (names.fields class) (stamps cells) }))) self.old self.new) }
+        ensures step { IfOk result (λ id. Does (λ names. make an_instance (instance_row (record { id = self.old.instances.made; path = path_view path; cells = named_as (names.fields class) (stamps cells) }))) self.old self.new) }
         ensures id { IfOk result (λ id. Numbers self.old.instances self.new.instances id) }
         ensures rest { self.new ≡ record self.old { instances = self.new.instances } }
         ensures err { OnErr result (self.new ≡ self.old) }

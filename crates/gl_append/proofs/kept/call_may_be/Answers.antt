@@ -6,6 +6,7 @@ use Rattle.gl_append.proofs.Readable.{each_joined, helper_known}
 use Rattle.gl_append.proofs.kept.call_may_be.Goals as goal
 
 pub returns : goal.returns
-returns c t =
-    (each_joined (λ q. is_readable (forms_of c.args.refs.now q) ≡ true) c.args.ids.now (ids_of c.args.named.now) (c.if-not-all_readable.ensures refl) (c.values_readable.ensures t),
-     helper_known c.args.helper c.if-helper-ge-HELPERS.false)
+returns c t = (
+  each_joined (λ q. is_readable (forms_of c.args.refs.now q) ≡ true) c.args.ids.now (ids_of c.args.named.now) (c.if-not-all_readable.ensures refl) (c.values_readable.ensures t),
+  helper_known c.args.helper c.if-helper-ge-HELPERS.false,
+)

@@ -11,4 +11,4 @@ pub returns-clause-step : goal.returns-clause-step
 returns-clause-step c =
     on_ok_weaker c.show.result
     (node_shown (comment_content c.args.text.now) c.args.vm.now c.comment.new.self c.args.self.now c.show.new.self c.in_ok-node.node c.still-code.result c.still-code.ensures
-      (subst (λ x. Does (λ n. made_node (comment_content x)) c.args.vm.now c.comment.new.self) c.as_str.ensures.value c.in_ok-node.ensures.step) c.in_ok-node.ensures.id) c.show.ensures
+    (subst (λ x. Does (λ n. made_node (comment_content x)) c.args.vm.now c.comment.new.self) c.as_str.ensures.value c.in_ok-node.ensures.step) c.in_ok-node.ensures.id) c.show.ensures

@@ -10,5 +10,5 @@ pub returns : goal.returns
 returns c =
     on_ok_weaker c.add_part.result
     (after_modifying c.args.count c.args.name c.args.self.now c.take_last.new.stack c.add_part.new.self (stamps c.in_ok-args.args) (name_stamps c.in_ok-named.named)
-      (c.in_ok-args.ensures ∙ ap s.positional (ap seen_stack c.as_slice.ensures.value ∙ c.in_ok-taken.ensures.taken))
-      (c.in_ok-named.ensures ∙ ap s.named_ones (ap seen_stack c.as_slice-2.ensures.value ∙ c.in_ok-taken.ensures.taken)) c.in_ok-taken.ensures.rest) c.add_part.ensures
+    (c.in_ok-args.ensures ∙ ap s.positional (ap seen_stack c.as_slice.ensures.value ∙ c.in_ok-taken.ensures.taken))
+    (c.in_ok-named.ensures ∙ ap s.named_ones (ap seen_stack c.as_slice-2.ensures.value ∙ c.in_ok-taken.ensures.taken)) c.in_ok-taken.ensures.rest) c.add_part.ensures
