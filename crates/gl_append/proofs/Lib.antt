@@ -1,3 +1,4 @@
+pub mod Frames
 pub mod Readable
 pub mod Scopes
 pub mod Stacks

@@ -27,6 +27,8 @@ use Rattle.gl_append.specs.declared.machine.Waiting.{Waiting}
 use Rattle.gl_append.specs.declared.machine.Waiting.TheVariants as w
 use Rattle.gl_append.specs.declared.machine.Kind.{Kind}
 use Rattle.gl_append.specs.declared.machine.Kind.TheVariants as k
+use Rattle.gl_append.specs.declared.machine.Call.{Call}
+use Rattle.gl_append.specs.declared.machine.Call.TheVariants as l
 use Rattle.gl_append.specs.declared.machine.Frame.{Frame}
 use Rattle.gl_append.specs.declared.machine.Making.{Making}
 use Rattle.gl_append.specs.declared.machine.Machine.{Machine}
@@ -78,14 +80,23 @@ seen_kind n (k.Component b o block made args) =
     let i = seen_owner n o.value in let gm = p.block_id block.1 ∷ refs_made made in
     m.in_component (seen_back n b) i (p.instance_id i.id ∷ (gm ++ refs_made o.value.cells)) gm (name_stamps args.value) (Some block.1)
 seen_kind n (k.Block b name made locals) = m.in_block (seen_back n b) name (refs_made made) locals
-seen_kind n (k.Getter b) = m.in_getter (seen_back n b)
-seen_kind n (k.Parts b) = m.in_parts (seen_back n b)
 
 abbrev pub seen_frame : Tables → Frame → m.Frame
 seen_frame n f = record { here = seen_here n f.here; kind = seen_kind n f.kind }
 
 abbrev pub seen_frames : Tables → List Frame → List m.Frame
 seen_frames n fs = map (seen_frame n) fs
+
+abbrev pub call_kind : Tables → Call → m.Kind
+call_kind n (l.Getter b) = m.in_getter (seen_back n b)
+call_kind n (l.Parts b) = m.in_parts (seen_back n b)
+
+-- Calls stand on all frames, and the body does not change in them.
+abbrev pub seen_call : Tables → m.Here → Call → m.Frame
+seen_call n h c = record { here = h; kind = call_kind n c }
+
+abbrev pub seen_calls : Tables → m.Here → List Call → List m.Frame
+seen_calls n h cs = map (seen_call n h) cs
 
 abbrev pub seen_making : Tables → Making → m.Making
 seen_making n k = record { tag = k.tag; class = k.class; args = name_stamps k.args; parts = seen_parts n k.parts.items; start = k.start; slots = seen_slots k.slots.items }
@@ -104,7 +115,7 @@ mach_by n st a = record {
     here = seen_here n a.here;
     making = seen_making n a.making;
     left = a.left;
-    frames = seen_frames n a.frames.items;
+    frames = seen_frames n a.frames.items ++ seen_calls n (seen_here n a.here) a.calls.items;
   };
 }
 

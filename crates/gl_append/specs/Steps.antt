@@ -1,13 +1,26 @@
 -- What a step of the code does.
-use Rattle.std.specs.Prelude.{◌≡◌, ℕ, suc, List, [], ◌∷◌, ◌++◌, Bool, None, Result, Ok, Err}
+use Rattle.std.specs.Prelude.{◌≡◌, ℕ, suc, List, [], ◌∷◌, ◌++◌, Bool, Option, Some, None, Result, Ok, Err}
 use Rattle.gl_meaning.specs.Scope.{Source}
 use Rattle.gl_plain.specs.Ids.{ref}
 use Rattle.gl_plain.specs.State.{State}
-use Rattle.gl_machine.specs.Mach.{Mach, Run, going, finished, too_deep, go}
+use Rattle.gl_machine.specs.Mach.{Frame as PlainFrame, Mach, Run, going, finished, too_deep, go, fresh, all_of}
+use Rattle.gl_machine.specs.Step.{popped}
 use Rattle.gl_vm.specs.View.{Tables, Agrees}
 use Rattle.gl_vm.specs.Steps.{Follows}
 use Rattle.gl_vm.specs.declared.vm.Vm.{Vm}
-use Rattle.gl_append.specs.MachineView.{mach_by, mach_of}
+use Rattle.gl_vm.specs.View.{stamps}
+use Rattle.gl_append.specs.View.{seen_sight}
+use Rattle.gl_append.specs.MachineView.{mach_by, mach_of, seen_back, seen_here, seen_kind, seen_frame}
+use Rattle.gl_append.specs.CodeView.{seen_codes}
+use Rattle.gl_append.specs.declared.code.Codes.{Codes}
+use Rattle.gl_append.specs.declared.machine.Frame.{Frame}
+use Rattle.gl_append.specs.declared.machine.Here.{Here}
+use Rattle.gl_append.specs.declared.machine.Kind.{Kind}
+use Rattle.gl_meaning.specs.View.{path_view}
+use Rattle.gl_meaning.specs.declared.path.Path.{Path}
+use Rattle.gl_append.specs.declared.machine.Back.{Back}
+use Rattle.gl_append.specs.declared.machine.Call.{Call}
+use Rattle.gl_append.specs.declared.sight.Sight.{Sight}
 use Rattle.gl_append.specs.declared.machine.Machine.{Machine}
 
 -- a reference that was made is pushed, and is the present statement's own
@@ -31,3 +44,42 @@ pub record GoesOn (n : Tables) (r : Run) (vm : Vm) (new : Machine) : Type 0 wher
 -- The code does this step of the machine, whichever sources were touched, and whatever the manifest's names are.
 abbrev pub Takes : (Tables → Mach → Run) → Vm → Machine → Vm → Machine → Type 0
 Takes f vm old vm' new = (n : Tables) (touched : Source → Bool) → Agrees touched vm → GoesOn n (f n (mach_of n touched vm old)) vm' new
+
+-- The scope is another one, and the way back leads behind the present word.
+pub record LeavesFor (old new : Machine) (back : Back) (sight : Sight) : Type 0 where
+  pub is : new ≡ record old { pc = suc old.pc; sight = sight }
+  pub goes_back : (n : Tables) → seen_back n back ≡ record { getter = old.getter; pc = suc old.pc; sight = seen_sight n old.sight; pending = stamps old.pending }
+
+-- It goes on where the way back leads.
+pub record GoesBack (old new : Machine) (back : Back) : Type 0 where
+  pub is : new ≡ record old { getter = back.getter; pc = back.pc; sight = back.sight; pending = back.pending }
+
+-- The last call was taken, or there was none.
+abbrev pub PopsCall : Machine → Machine → Option Call → Type 0
+PopsCall old new None = (new ≡ record old { calls = new.calls }) × (old.calls.items ≡ []) × (new.calls.items ≡ [])
+PopsCall old new (Some c) = (new ≡ record old { calls = new.calls }) × (old.calls.items ≡ new.calls.items ++ c ∷ [])
+
+-- the machine with these frames
+abbrev pub mach_back : Tables → State → List PlainFrame → Machine → Mach
+mach_back n st fs a = let m = mach_by n st a in record m { rest = record m.rest { frames = fs } }
+
+-- A body begins at a path: the one round it waits in a frame.
+abbrev pub Begins : Machine → Machine → Path → Kind → Type 0
+Begins old new path kind =
+    (n : Tables) (st : State)
+    → mach_by n st new ≡ (let m = mach_by n st old in record m { rest = record m.rest { here = fresh (path_view path); frames = m.rest.frames ++ record { here = m.rest.here; kind = seen_kind n kind } ∷ [] } })
+
+-- A body ends where no call is under way: the one round it is gone on with.
+abbrev pub Ends : Machine → Machine → Here → Codes → Type 0
+Ends old new here codes =
+    ((n : Tables) → seen_codes n codes ≡ all_of (seen_here n old.here).codes)
+    × (old.calls.items ≡ [] → (n : Tables) (st : State) → mach_by n st new ≡ (let m = mach_by n st old in record m { rest = record m.rest { here = seen_here n here } }))
+    × (new.calls ≡ old.calls)
+
+-- The last frame was taken, or there was none; no call is under way.
+abbrev pub PopsFrame : Machine → Machine → Option Frame → Type 0
+PopsFrame old new None = (old.calls.items ≡ []) × ((n : Tables) (st : State) → popped (mach_by n st old).rest.frames ≡ None) × ((n : Tables) (st : State) → mach_by n st new ≡ mach_by n st old)
+PopsFrame old new (Some f) =
+    (old.calls.items ≡ []) × (new.calls ≡ old.calls)
+    × ((n : Tables) (st : State) → popped (mach_by n st old).rest.frames ≡ Some ((mach_by n st new).rest.frames, seen_frame n f))
+    × ((n : Tables) (st : State) → mach_by n st new ≡ (let m = mach_by n st old in record m { rest = record m.rest { frames = (mach_by n st new).rest.frames } }))

@@ -45,3 +45,7 @@ shared xs = map (λ x. x.value) xs
 
 abbrev pub seen_sight : Tables → Sight → s.Sight
 seen_sight n x = seen_level n x.level (seen_links n (shared x.chain.items))
+
+-- what a getter of the same instance sees
+abbrev pub own_of : s.Sight → s.Sight
+own_of x = s.sight (s.class_of x) (s.inst_in x) (s.args_in x) [] s.not_passed

@@ -1,6 +1,8 @@
 //! Appends an application.
 #![tactic(auto)]
 
+mod bodies;
+mod calls;
 mod code;
 mod exprs;
 mod kept;
@@ -11,5 +13,5 @@ mod stack;
 mod tags;
 
 pub use code::{AttrSpot, Choice, Code, Codes, ItemCode, ItemSpot, Listing, ModSpot, Spot};
-pub use machine::{Back, Entry, Frame, Here, Item, Kind, Machine, Making, Pushed, Waiting};
+pub use machine::{Back, Call, Entry, Frame, Here, Item, Kind, Machine, Making, Pushed, Waiting};
 pub use sight::{Level, Link, Owner, Sight, Slot};

@@ -121,12 +121,14 @@ pub enum Kind {
         made: Ids,
         locals: usize,
     },
-    Getter {
-        back: Back,
-    },
-    Parts {
-        back: Back,
-    },
+}
+
+/// Words elsewhere that are run for the present place: a getter's, or those of the parts for which `...attributes`
+/// stands. No body begins in them.
+#[derive(Drop)]
+pub enum Call {
+    Getter(Back),
+    Parts(Back),
 }
 
 /// A body that was begun.
@@ -161,4 +163,5 @@ pub struct Machine {
     pub making: Making,
     pub left: u32,
     pub frames: Vec<Frame>,
+    pub calls: Vec<Call>,
 }

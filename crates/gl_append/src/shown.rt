@@ -21,6 +21,9 @@ impl Machine {
     pub fn show(&mut self, code: Code) -> Result<(), AllocError>
         ensures { OnOk result (Moves (λ n m. s.show (seen_code n code, m.state) m) self.old self.new) }
     {
+        if !self.calls.is_empty() {
+            return Err(AllocError);
+        }
         self.advance()?;
         self.here.index = self.here.index.checked_add(1).ok_or(AllocError)?;
         self.here.codes.push(code)?;

@@ -3,7 +3,7 @@ ghost use Rattle.std.specs.Prelude.{◌≡◌, IfOk, option_map};
 ghost use Rattle.std.specs.Str.{chars};
 ghost use Rattle.gl_base.specs.Names.{named};
 ghost use Rattle.gl_machine.specs.Step.{last_symbol};
-ghost use Rattle.gl_append.specs.View.{seen_level, seen_sight, shared};
+ghost use Rattle.gl_append.specs.View.{seen_level, seen_sight, shared, own_of};
 
 use gl_arena::{BlockId, Id, InstMark};
 use gl_meaning::Path;
@@ -68,6 +68,21 @@ impl Level {
 }
 
 impl Sight {
+    /// What a getter of the same instance sees: no parameters, and nothing passed.
+    pub fn own(&self) -> Result<Sight, AllocError>
+        ensures { IfOk result (λ r. (n : _) → seen_sight n r ≡ own_of (seen_sight n self.now)) }
+    {
+        let alloc = *self.chain.allocator();
+        Ok(Sight {
+            level: Level {
+                owner: Rc::clone(&self.level.owner)?,
+                args: Rc::clone(&self.level.args)?,
+                locals: Locals::new(alloc),
+            },
+            chain: Vec::new(alloc),
+        })
+    }
+
     pub fn copy(&self) -> Result<Sight, AllocError>
         ensures { IfOk result (λ r. (n : _) → seen_sight n r ≡ seen_sight n self.now) }
     {
