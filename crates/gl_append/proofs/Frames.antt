@@ -1,5 +1,5 @@
 -- The last frame, where no call is under way.
-use Rattle.std.proofs.Common.{◌≡◌, List, [], ◌∷◌, ◌++◌, map, Some, refl, sym, ◌∙◌, ap, append-nil}
+use Rattle.std.proofs.Common.{◌≡◌, List, [], ◌∷◌, ◌++◌, Some, sym, ◌∙◌, ap, append-nil}
 use Rattle.gl_machine.specs.Step.{popped}
 use Rattle.gl_vm.specs.View.{Tables}
 use Rattle.gl_append.specs.MachineView.{seen_frame, seen_frames, seen_calls, seen_here}

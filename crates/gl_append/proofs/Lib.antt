@@ -1,4 +1,5 @@
 pub mod Frames
+pub mod LetBegins
 pub mod Readable
 pub mod Scopes
 pub mod Stacks

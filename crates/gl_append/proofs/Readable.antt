@@ -1,5 +1,5 @@
 -- Lists of references that may be read, and the numbers of helpers.
-use Rattle.std.proofs.Common.{◌≡◌, ℕ, zero, suc, ◌<◌, ◌+◌, true, List, [], ◌∷◌, ◌++◌, length, map, Some, None, is_some, refl, arith}
+use Rattle.std.proofs.Common.{◌≡◌, ℕ, zero, suc, ◌<◌, true, List, [], ◌∷◌, ◌++◌, length, map, Some, None, is_some, refl, arith}
 use Rattle.gl_value.specs.Helpers.{helper_table, helper_numbered}
 use Rattle.std.proofs.lemmas.List.{length-map}
 use Rattle.gl_base.specs.Names.{at_place}

@@ -1,5 +1,5 @@
 -- The stack, as what it stands for.
-use Rattle.std.proofs.Common.{◌≡◌, ℕ, ◌-◌, List, [], ◌∷◌, ◌++◌, map, take, drop, length, Some, refl, sym, ◌∙◌, ap}
+use Rattle.std.proofs.Common.{◌≡◌, ℕ, ◌-◌, List, [], ◌∷◌, ◌++◌, map, take, drop, length, Some, sym, ◌∙◌, ap}
 use Rattle.std.proofs.lemmas.List.{map-append, take-map, drop-map, length-map}
 use Rattle.gl_machine.specs.Step.{popped, lower, upper}
 use Rattle.gl_machine.proofs.Stacks.{popped-last}

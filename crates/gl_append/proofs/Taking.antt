@@ -14,7 +14,7 @@ use Rattle.gl_append.specs.declared.code.Code.{Code}
 use Rattle.gl_machine.specs.Mach.{Mach, Pushed as PlainPushed, Run, going, go, added}
 use Rattle.gl_plain.specs.Tags.{modifier_part}
 use Rattle.gl_machine.specs.Step as s
-use Rattle.gl_vm.specs.View.{Tables, Agrees, state_of}
+use Rattle.gl_vm.specs.View.{Tables, state_of}
 use Rattle.gl_vm.specs.Steps.{Follows, Does, Numbers}
 use Rattle.gl_vm.specs.declared.vm.Vm.{Vm}
 use Rattle.std.specs.declared.vec.Vec.{Vec}

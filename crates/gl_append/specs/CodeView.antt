@@ -1,6 +1,5 @@
 -- What the code's updating program stands for.
 use Rattle.std.specs.Prelude.{ℕ, List, [], ◌∷◌, ◌++◌, map, Option, Some, None, option_map}
-use Rattle.gl_base.specs.Texts.{Text}
 use Rattle.gl_arena.specs.Id.{Id}
 use Rattle.gl_value.specs.Value.{plain}
 use Rattle.gl_value.specs.View.{view}
@@ -18,7 +17,6 @@ use Rattle.gl_append.specs.declared.code.ItemSpot.{ItemSpot}
 use Rattle.gl_append.specs.declared.code.Choice.{Choice}
 use Rattle.gl_append.specs.declared.code.Listing.{Listing}
 use Rattle.gl_append.specs.declared.code.Code.{Code, fold-Code}
-use Rattle.gl_append.specs.declared.code.ItemCode.{ItemCode, fold-ItemCode}
 use Rattle.gl_append.specs.declared.code.Codes.{Codes, fold-Codes}
 use Rattle.gl_append.specs.declared.code.Code.TheOpen.{Code-F, ItemCode-F, Codes-F}
 

@@ -1,7 +1,5 @@
 -- What the machine's registers stand for.
-use Rattle.std.specs.Prelude.{ℕ, List, [], ◌∷◌, ◌++◌, map, reverse, Bool, Option, Some, None, option_map}
-use Rattle.gl_base.specs.Texts.{Text}
-use Rattle.gl_arena.specs.Id.{Id}
+use Rattle.std.specs.Prelude.{List, ◌∷◌, ◌++◌, map, reverse, Bool, Some}
 use Rattle.gl_value.specs.Value.{plain}
 use Rattle.gl_value.specs.View.{view}
 use Rattle.gl_meaning.specs.Render as r

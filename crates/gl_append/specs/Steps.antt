@@ -1,9 +1,12 @@
 -- What a step of the code does.
-use Rattle.std.specs.Prelude.{◌≡◌, ℕ, suc, List, [], ◌∷◌, ◌++◌, Bool, Option, Some, None, Result, Ok, Err}
+use Rattle.std.specs.Prelude.{◌≡◌, ℕ, suc, List, [], ◌∷◌, ◌++◌, Bool, Option, Some, None}
 use Rattle.gl_meaning.specs.Scope.{Source}
+use Rattle.gl_arena.specs.Id.{Id}
 use Rattle.gl_plain.specs.Ids.{ref}
 use Rattle.gl_plain.specs.State.{State}
-use Rattle.gl_machine.specs.Mach.{Frame as PlainFrame, Mach, Run, going, finished, too_deep, go, fresh, all_of}
+use Rattle.gl_machine.specs.Mach.{Frame as PlainFrame, Mach, Run, going, go, mach, fresh, all_of, in_let}
+use Rattle.gl_machine.specs.Sight.{Sight as PlainSight}
+use Rattle.gl_meaning.specs.Path.{Path as PlainPath}
 use Rattle.gl_machine.specs.Step.{popped}
 use Rattle.gl_vm.specs.View.{Tables, Agrees}
 use Rattle.gl_vm.specs.Steps.{Follows}
@@ -83,3 +86,13 @@ PopsFrame old new (Some f) =
     (old.calls.items ≡ []) × (new.calls ≡ old.calls)
     × ((n : Tables) (st : State) → popped (mach_by n st old).rest.frames ≡ Some ((mach_by n st new).rest.frames, seen_frame n f))
     × ((n : Tables) (st : State) → mach_by n st new ≡ (let m = mach_by n st old in record m { rest = record m.rest { frames = (mach_by n st new).rest.frames } }))
+
+-- The first of a list was taken, or there was none.
+abbrev pub TakesFirst : List Id → List Id → Option Id → Type 0
+TakesFirst old new None = (old ≡ []) × (new ≡ [])
+TakesFirst old new (Some i) = old ≡ i ∷ new
+
+-- the body of a `let` is begun at a path, with these references for its parameters
+abbrev pub let_entered : List ℕ → PlainSight → PlainPath → Mach → Mach
+let_entered pend w p m =
+    mach m.state m.stack [] (suc m.pc) (record m.rest { pending = pend; here = fresh p; frames = m.rest.frames ++ record { here = m.rest.here; kind = in_let w m.rest.pending m.made } ∷ [] })

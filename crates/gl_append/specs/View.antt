@@ -4,7 +4,7 @@ use Rattle.gl_base.specs.Texts.{Text}
 use Rattle.gl_arena.specs.Id.{Id}
 use Rattle.gl_meaning.specs.View.{path_view}
 use Rattle.gl_plain.specs.Ids as p
-use Rattle.gl_plain.specs.State.{Names, named_as, Inst}
+use Rattle.gl_plain.specs.State.{named_as, Inst}
 use Rattle.gl_machine.specs.Sight as s
 use Rattle.gl_vm.specs.View.{Tables, stamps, name_stamps}
 use Rattle.gl_append.specs.declared.sight.Owner.{Owner}

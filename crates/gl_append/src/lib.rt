@@ -1,4 +1,5 @@
-//! Appends an application.
+//! The registers of the append machine and its opcodes. Contracts see them as the machine over words: what an opcode
+//! does to them and to what is kept is that machine's step.
 #![tactic(auto)]
 
 mod bodies;
@@ -6,6 +7,7 @@ mod calls;
 mod code;
 mod exprs;
 mod kept;
+mod lets;
 mod machine;
 mod shown;
 mod sight;

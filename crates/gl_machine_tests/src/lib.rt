@@ -1,4 +1,5 @@
-//! Tests of ids, of the tree of nodes, its lines, keyed lists, tags and scopes, as callers meet them.
+//! Tests of ids, of the tree of nodes, its lines, keyed lists, tags and scopes, and of the steps of what the machine
+//! keeps, as callers meet them.
 //!
 //! They stand above the crates that they test, so that a check of them proves the tests alone.
 #![tactic(auto)]
@@ -15,3 +16,5 @@ mod print;
 mod scope;
 #[cfg(test)]
 mod tags;
+#[cfg(test)]
+mod vm;

@@ -1,9 +1,9 @@
 -- What positions read at their last evaluations lives: what keeps that.
-use Rattle.std.proofs.Common.{◌≡◌, ◌≢◌, ℕ, zero, suc, ◌+◌, ◌<◌, Bool, true, false, Option, Some, None, option_map, IsSome, is_some, List, [], ◌∷◌, ◌++◌, flat_map, refl, sym, ap, subst, ◌∙◌, inl, inr, ◌⊎◌, arith}
+use Rattle.std.proofs.Common.{◌≡◌, ◌≢◌, ℕ, zero, suc, ◌+◌, ◌<◌, Bool, true, false, Option, Some, None, option_map, IsSome, List, refl, sym, ap, subst, ◌∙◌, inl, inr, ◌⊎◌, arith}
 use Rattle.std.specs.List.{list_any}
 use Rattle.gl_arena.specs.Id.{Id, same_id}
 use Rattle.gl_arena.specs.Arena.{Arena, named, Gives, Ends}
-use Rattle.gl_arena.proofs.Ids.{id_cases, same_id-refl}
+use Rattle.gl_arena.proofs.Ids.{id_cases}
 use Rattle.gl_arena.proofs.Values.{with_value-writes, Writes}
 use Rattle.gl_tags.specs.Tags as t
 use Rattle.gl_refs.specs.Forms as f

@@ -1,18 +1,18 @@
 -- A machine that keeps nothing.
-use Rattle.std.proofs.Common.{◌≡◌, ℕ, false, Option, Some, None, option_map, List, [], refl, sym, ap, ◌∙◌}
+use Rattle.std.proofs.Common.{◌≡◌, ℕ, false, Option, Some, None, option_map, [], refl, sym, ap, ◌∙◌}
 use Rattle.std.specs.Prelude.{slice_index_or}
 use Rattle.gl_arena.specs.Id.{Id}
 use Rattle.gl_arena.specs.Arena.{Arena, named, stamped, by_stamp, at_stamp}
 use Rattle.gl_arena.proofs.Stamps.{by_stamp-id}
 use Rattle.gl_refs.specs.Forms as f
 use Rattle.gl_refs.specs.State as s
-use Rattle.gl_refs.specs.Refs.{Refs, rows_of, forms_of}
+use Rattle.gl_refs.specs.Refs.{Refs, forms_of}
 use Rattle.gl_nodes.specs.Tree.{node_at}
 use Rattle.gl_plain.specs.Ids.{Kind, a_ref, a_node, an_instance, a_block, a_modifier}
 use Rattle.gl_plain.specs.State.{row, content, instance_row, block_row, modifier_row}
 use Rattle.gl_vm.specs.Kept.{next_of, state_by}
 use Rattle.gl_vm.specs.Led.{Led}
-use Rattle.gl_vm.specs.View.{Tables, stamps, seen_row, seen_node, seen_instance, seen_modifier, kept_of, Agrees, PositionsUnread}
+use Rattle.gl_vm.specs.View.{Tables, stamps, seen_row, seen_node, seen_instance, seen_modifier, kept_of, PositionsUnread}
 use Rattle.gl_vm.specs.Steps.{Follows, empty}
 use Rattle.gl_vm.specs.declared.vm.Vm.{Vm}
 use Rattle.gl_vm.proofs.States.{state_is, look_is}

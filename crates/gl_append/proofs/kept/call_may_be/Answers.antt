@@ -1,7 +1,7 @@
 use Rattle.std.proofs.Common.{◌≡◌, true, refl}
 use Rattle.gl_refs.specs.State.{is_readable}
 use Rattle.gl_refs.specs.Refs.{forms_of}
-use Rattle.gl_refs.specs.Forms.{Each, ids_of}
+use Rattle.gl_refs.specs.Forms.{ids_of}
 use Rattle.gl_append.proofs.Readable.{each_joined, helper_known}
 use Rattle.gl_append.proofs.kept.call_may_be.Goals as goal
 

@@ -1,4 +1,4 @@
-use Rattle.std.proofs.Common.{◌≡◌, ℕ, ◌-◌, length, rules}
+use Rattle.std.proofs.Common.{◌≡◌, ◌-◌, length, rules}
 use Rattle.gl_append.proofs.Stacks.{lower_of, upper_of}
 use Rattle.gl_append.proofs.stack.take_last.Goals as goal
 

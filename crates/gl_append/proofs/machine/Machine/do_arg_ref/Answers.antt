@@ -1,4 +1,4 @@
-use Rattle.std.proofs.Common.{◌≡◌, Some, None, option_map, ◌∙◌, ap, ap₂, sym, subst}
+use Rattle.std.proofs.Common.{option_map, ◌∙◌, ap, ap₂, sym, subst}
 use Rattle.std.proofs.lemmas.Result.{on_ok_weaker}
 use Rattle.gl_base.specs.Names.{last_named}
 use Rattle.gl_value.specs.Value.{undefined}

@@ -1,6 +1,5 @@
-use Rattle.std.proofs.Common.{◌≡◌, Some, option_map, ◌∙◌, ap, sym, subst}
+use Rattle.std.proofs.Common.{option_map, ◌∙◌, ap, sym}
 use Rattle.std.proofs.lemmas.Result.{on_ok_weaker}
-use Rattle.gl_machine.specs.Mach.{going}
 use Rattle.gl_machine.specs.Sight.{locals_in}
 use Rattle.gl_machine.specs.Step as s
 use Rattle.gl_append.specs.MachineView.{mach_by}

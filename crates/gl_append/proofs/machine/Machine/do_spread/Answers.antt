@@ -1,10 +1,10 @@
-use Rattle.std.proofs.Common.{◌≡◌, ℕ, List, ◌∙◌, ap, ap₂, sym, refl, ◌∷◌}
+use Rattle.std.proofs.Common.{◌≡◌, ℕ, List, ◌∙◌, ap, sym}
 use Rattle.std.proofs.lemmas.Result.{on_ok_weaker}
 use Rattle.gl_base.specs.Texts.{Text}
 use Rattle.gl_machine.specs.Sight.{passing, passing_in}
 use Rattle.gl_machine.specs.Step as s
 use Rattle.gl_vm.specs.View.{Tables}
-use Rattle.gl_append.specs.View.{seen_links, seen_level, seen_slots, seen_sight, shared}
+use Rattle.gl_append.specs.View.{seen_links, seen_level, seen_slots, shared}
 use Rattle.gl_append.specs.MachineView.{mach_by}
 use Rattle.gl_append.specs.Steps.{Moves}
 use Rattle.gl_append.specs.declared.sight.Link.{Link}

@@ -1,8 +1,7 @@
-use Rattle.std.proofs.Common.{◌≡◌, subst}
+use Rattle.std.proofs.Common.{subst}
 use Rattle.std.proofs.lemmas.Result.{on_ok_weaker}
 use Rattle.gl_plain.specs.State.{text_content}
 use Rattle.gl_plain.specs.Grow.{made_node}
-use Rattle.gl_machine.specs.Step as s
 use Rattle.gl_vm.specs.Steps.{Does}
 use Rattle.gl_append.proofs.Taking.{node_shown}
 use Rattle.gl_append.proofs.machine.Machine.do_text.Goals as goal

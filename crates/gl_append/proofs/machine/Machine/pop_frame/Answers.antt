@@ -1,4 +1,4 @@
-use Rattle.std.proofs.Common.{◌≡◌, List, [], ◌++◌, ◌∙◌, ap, sym, refl, rules}
+use Rattle.std.proofs.Common.{◌≡◌, [], refl}
 use Rattle.gl_append.proofs.Frames.{popped_body}
 use Rattle.gl_append.proofs.machine.Machine.pop_frame.Goals as goal
 

@@ -1,8 +1,5 @@
 use Rattle.std.proofs.lemmas.Result.{on_ok_weaker}
-use Rattle.gl_value.specs.View.{view}
 use Rattle.gl_refs.specs.View.{seen_form as code_form}
-use Rattle.gl_plain.specs.State.{constant_form}
-use Rattle.gl_vm.specs.Labels.{labelled}
 use Rattle.gl_vm.specs.View.{seen_form}
 use Rattle.gl_append.proofs.Taking.{made_pushed}
 use Rattle.gl_append.proofs.machine.Machine.push_new.Goals as goal

@@ -1,4 +1,4 @@
-use Rattle.std.proofs.Common.{◌≡◌, ◌∙◌, ap}
+use Rattle.std.proofs.Common.{◌∙◌, ap}
 use Rattle.gl_append.specs.View.{seen_level, seen_links, shared}
 use Rattle.gl_append.proofs.sight.Sight.copy.Goals as goal
 

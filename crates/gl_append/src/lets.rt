@@ -1,0 +1,95 @@
+// `let` and the parameters of blocks.
+ghost use Rattle.std.specs.Prelude.{◌≡◌, ◌++◌, ◌∷◌, [], suc, IfOk, OnOk};
+ghost use Rattle.gl_meaning.specs.View.{path_view};
+ghost use Rattle.gl_machine.specs.Step as s;
+ghost use Rattle.gl_machine.specs.Code as c;
+ghost use Rattle.gl_machine.specs.Sight.{with_locals};
+ghost use Rattle.gl_vm.specs.View.{stamps, Calm};
+ghost use Rattle.gl_append.specs.View.{refs_made, seen_sight};
+ghost use Rattle.gl_append.specs.CodeView.{seen_code, seen_codes};
+ghost use Rattle.gl_append.specs.MachineView.{seen_here, seen_kind};
+ghost use Rattle.gl_append.specs.Steps.{Moves, Changes, Takes, TakesFirst, let_entered};
+
+use crate::bodies::below;
+use crate::calls::same_ids;
+use crate::code::{Code, Codes};
+use crate::machine::{Frame, Kind, Machine};
+use crate::sight::Sight;
+use crate::stack::{positional, take_last};
+use gl_meaning::{Path, PathStep};
+use gl_refs::{Ids, RefId};
+use gl_vm::Vm;
+use std::alloc::{AllocError, Global};
+use std::mem;
+
+impl Code {
+    /// A `let`.
+    pub fn named(made: Ids, params: Ids, body: Codes) -> Code
+        ensures { (n : _) → seen_code n result ≡ c.let_code (refs_made made) (stamps params) (seen_codes n body) }
+    {
+        Code::Let { made, params, body }
+    }
+}
+
+impl Machine {
+    /// A `let` over the last ones of the stack begins.
+    pub fn do_let(&mut self, count: u32) -> Result<(), AllocError>
+        ensures { OnOk result (Moves (λ n. s.do_let count) self.old self.new) }
+    {
+        let taken = take_last(&mut self.stack, count)?;
+        let pending = positional(self.alloc, taken.as_slice())?;
+        let sight = self.sight.copy()?;
+        let path = self.next_path()?;
+        let path = below(self.alloc, &path, PathStep::Then)?;
+        self.begin_let(path, sight, pending)
+    }
+
+    fn begin_let(&mut self, path: Path, sight: Sight, pending: Ids) -> Result<(), AllocError>
+        ensures { OnOk result (Changes (λ n. let_entered (stamps pending) (seen_sight n sight) (path_view path)) self.old self.new) }
+    {
+        self.advance()?;
+        let pending = mem::replace(&mut self.pending, pending);
+        let made = mem::replace(&mut self.made, Ids::new(self.alloc));
+        self.begin(
+            path,
+            Kind::Let {
+                sight,
+                pending,
+                made,
+            },
+        )
+    }
+
+    /// A parameter takes the reference that is next among those that wait, or a new one, which is undefined.
+    pub fn do_bind(&mut self, vm: &mut Vm, symbol: u32) -> Result<(), AllocError>
+        ensures step { OnOk result (Takes (λ n m. s.do_bind symbol m m.rest.pending) vm.old self.old vm.new self.new) }
+        ensures calm { Calm vm.old → Calm vm.new }
+    {
+        match take_first(self.alloc, &mut self.pending)? {
+            Some(id) => self.add_param(symbol, id),
+            None => Err(AllocError),
+        }
+    }
+
+    fn add_param(&mut self, symbol: u32, id: RefId) -> Result<(), AllocError>
+        ensures { OnOk result (Changes (λ n m. record m { pc = suc m.pc; rest = record m.rest { sight = with_locals ((symbol, id.1) ∷ []) m.rest.sight } }) self.old self.new) }
+    {
+        self.advance()?;
+        self.sight.level.locals.push(symbol, id)
+    }
+}
+
+/// Takes the first of a list.
+pub fn take_first(alloc: Global, ids: &mut Ids) -> Result<Option<RefId>, AllocError>
+    ensures { IfOk result (TakesFirst ids.old ids.new) }
+{
+    match ids.as_slice().split_first() {
+        None => Ok(None),
+        Some((first, rest)) => {
+            let first = *first;
+            let rest = same_ids(alloc, rest)?;
+            *ids = rest;
+            Ok(Some(first))
+        }
+    }
+}
