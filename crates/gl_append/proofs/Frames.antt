@@ -8,7 +8,7 @@ use Rattle.gl_append.specs.declared.machine.Frame.{Frame}
 use Rattle.gl_append.specs.declared.machine.Here.{Here}
 use Rattle.gl_append.proofs.Stacks.{popped_from}
 
-no_calls : (n : Tables) (h : Here) (cs : List Call) (fs : List Frame) → cs ≡ [] → seen_frames n fs ++ seen_calls n (seen_here n h) cs ≡ seen_frames n fs
+pub no_calls : (n : Tables) (h : Here) (cs : List Call) (fs : List Frame) → cs ≡ [] → seen_frames n fs ++ seen_calls n (seen_here n h) cs ≡ seen_frames n fs
 no_calls n h cs fs e = ap (λ xs. seen_frames n fs ++ seen_calls n (seen_here n h) xs) e ∙ append-nil (seen_frames n fs)
 
 pub popped_body : (n : Tables) (h : Here) (cs : List Call) (fs gs : List Frame) (f : Frame) → cs ≡ [] → fs ≡ gs ++ f ∷ []

@@ -7,7 +7,7 @@ use Rattle.gl_plain.specs.State.{State}
 use Rattle.gl_machine.specs.Mach.{Frame as PlainFrame, Mach, Run, going, go, mach, fresh, all_of, in_let}
 use Rattle.gl_machine.specs.Sight.{Sight as PlainSight}
 use Rattle.gl_meaning.specs.Path.{Path as PlainPath}
-use Rattle.gl_machine.specs.Step.{popped}
+use Rattle.gl_machine.specs.Step.{popped, with_made}
 use Rattle.gl_vm.specs.View.{Tables, Agrees}
 use Rattle.gl_vm.specs.Steps.{Follows}
 use Rattle.gl_vm.specs.declared.vm.Vm.{Vm}
@@ -96,3 +96,11 @@ TakesFirst old new (Some i) = old ≡ i ∷ new
 abbrev pub let_entered : List ℕ → PlainSight → PlainPath → Mach → Mach
 let_entered pend w p m =
     mach m.state m.stack [] (suc m.pc) (record m.rest { pending = pend; here = fresh p; frames = m.rest.frames ++ record { here = m.rest.here; kind = in_let w m.rest.pending m.made } ∷ [] })
+
+-- What was made for a parameter is kept by the last frame, which is there.
+abbrev pub KeepsMade : Machine → Machine → Id → Type 0
+KeepsMade old new id =
+    (n : Tables) (st : State)
+    → (f : List PlainFrame × PlainFrame)
+    × (popped (mach_by n st old).rest.frames ≡ Some f)
+    × (mach_by n st new ≡ (let m = mach_by n st old in record m { rest = record m.rest { frames = f.0 ++ record { here = f.1.here; kind = with_made (ref id.1) f.1.kind } ∷ [] } }))

@@ -4,11 +4,13 @@ ghost use Rattle.gl_meaning.specs.View.{path_view, path_step_view};
 ghost use Rattle.gl_machine.specs.Mach as m;
 ghost use Rattle.gl_machine.specs.Step as s;
 ghost use Rattle.gl_append.specs.MachineView.{seen_here, seen_kind, seen_list};
-ghost use Rattle.gl_append.specs.Steps.{Begins, Ends, PopsFrame};
+ghost use Rattle.gl_append.specs.Steps.{Moves, Begins, Ends, PopsFrame};
 
 use crate::code::Codes;
 use crate::machine::{Frame, Here, Kind, Machine};
+use crate::sight::Slot;
 use gl_meaning::{Path, PathStep, PathSteps};
+use gl_value::Text;
 use std::alloc::{AllocError, Global};
 use std::mem;
 
@@ -105,5 +107,24 @@ impl Machine {
             Some(frame) => Ok(Some(frame)),
             None => Ok(None),
         }
+    }
+
+    /// A block that is passed: its words are passed over.
+    pub fn do_block(&mut self, name: &Text, next: u32) -> Result<(), AllocError>
+        ensures { OnOk result (Moves (λ n. s.do_block name.now next) self.old self.new) }
+    {
+        let name = name.copy()?;
+        self.advance()?;
+        let start = self.pc;
+        self.making.slots.push(Slot { name, start })?;
+        self.pc = next;
+        Ok(())
+    }
+
+    /// No block is passed.
+    pub fn do_bare(&mut self) -> Result<(), AllocError>
+        ensures { OnOk result (Moves (λ n. s.do_bare) self.old self.new) }
+    {
+        self.advance()
     }
 }

@@ -2,13 +2,14 @@
 ghost use Rattle.std.specs.Prelude.{◌≡◌, ◌++◌, ◌∷◌, [], suc, IfOk, OnOk};
 ghost use Rattle.gl_meaning.specs.View.{path_view};
 ghost use Rattle.gl_machine.specs.Step as s;
+ghost use Rattle.gl_plain.specs.Ids.{ref};
 ghost use Rattle.gl_machine.specs.Code as c;
 ghost use Rattle.gl_machine.specs.Sight.{with_locals};
 ghost use Rattle.gl_vm.specs.View.{stamps, Calm};
 ghost use Rattle.gl_append.specs.View.{refs_made, seen_sight};
 ghost use Rattle.gl_append.specs.CodeView.{seen_code, seen_codes};
 ghost use Rattle.gl_append.specs.MachineView.{seen_here, seen_kind};
-ghost use Rattle.gl_append.specs.Steps.{Moves, Changes, Takes, TakesFirst, let_entered};
+ghost use Rattle.gl_append.specs.Steps.{Moves, Changes, Takes, TakesFirst, KeepsMade, let_entered};
 
 use crate::bodies::below;
 use crate::calls::same_ids;
@@ -18,6 +19,7 @@ use crate::sight::Sight;
 use crate::stack::{positional, take_last};
 use gl_meaning::{Path, PathStep};
 use gl_refs::{Ids, RefId};
+use gl_value::Value;
 use gl_vm::Vm;
 use std::alloc::{AllocError, Global};
 use std::mem;
@@ -28,6 +30,46 @@ impl Code {
         ensures { (n : _) → seen_code n result ≡ c.let_code (refs_made made) (stamps params) (seen_codes n body) }
     {
         Code::Let { made, params, body }
+    }
+}
+
+impl Frame {
+    /// The frame, which keeps what was made for a parameter.
+    pub fn keeping(self, id: RefId) -> Result<Frame, AllocError>
+        ensures here { IfOk result (λ f. f.here ≡ self.here) }
+        ensures kind { IfOk result (λ f. (n : _) → seen_kind n f.kind ≡ s.with_made (ref id.1) (seen_kind n self.kind)) }
+    {
+        let Frame { here, kind } = self;
+        let kind = match kind {
+            Kind::Let {
+                sight,
+                pending,
+                mut made,
+            } => {
+                made.push(id)?;
+                Kind::Let {
+                    sight,
+                    pending,
+                    made,
+                }
+            }
+            Kind::Block {
+                back,
+                name,
+                mut made,
+                locals,
+            } => {
+                made.push(id)?;
+                Kind::Block {
+                    back,
+                    name,
+                    made,
+                    locals,
+                }
+            }
+            _ => return Err(AllocError),
+        };
+        Ok(Frame { here, kind })
     }
 }
 
@@ -67,6 +109,24 @@ impl Machine {
     {
         match take_first(self.alloc, &mut self.pending)? {
             Some(id) => self.add_param(symbol, id),
+            None => {
+                let id = vm.constant(Value::Undefined)?;
+                self.keep_made(id)?;
+                self.add_param(symbol, id)
+            }
+        }
+    }
+
+    /// What is made for a parameter is kept by the last frame.
+    fn keep_made(&mut self, id: RefId) -> Result<(), AllocError>
+        ensures { OnOk result (KeepsMade self.old self.new id) }
+    {
+        match self.pop_frame()? {
+            Some(frame) => {
+                let frame = frame.keeping(id)?;
+                self.frames.push(frame)?;
+                Ok(())
+            }
             None => Err(AllocError),
         }
     }
