@@ -1,5 +1,6 @@
 pub mod Frames
 pub mod LetBegins
+pub mod LetEnds
 pub mod Params
 pub mod Readable
 pub mod Scopes

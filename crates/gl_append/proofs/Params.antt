@@ -1,18 +1,17 @@
 -- Parameters that take a reference that is there, or a new one.
-use Rattle.std.proofs.Common.{◌≡◌, ℕ, suc, Bool, List, [], ◌∷◌, ◌++◌, Some, refl, sym, subst, ◌∙◌, ap, ap₂}
+use Rattle.std.proofs.Common.{◌≡◌, ℕ, suc, List, [], ◌∷◌, ◌++◌, Some, sym, ◌∙◌, ap, ap₂}
 use Rattle.std.proofs.lemmas.List.{map-append}
 use Rattle.std.specs.declared.vec.Vec.{Vec}
 use Rattle.std.specs.declared.alloc.Global.{Global}
 use Rattle.gl_arena.specs.Id.{Id}
 use Rattle.gl_value.specs.Value.{undefined}
-use Rattle.gl_meaning.specs.Scope.{Source}
 use Rattle.gl_plain.specs.Ids.{a_ref, ref}
 use Rattle.gl_plain.specs.State.{constant_form, State}
 use Rattle.gl_plain.specs.Binding.{made_row}
 use Rattle.gl_machine.specs.Sight.{with_locals}
 use Rattle.gl_machine.specs.Mach.{Frame as PlainFrame, Mach, Run, going, go}
 use Rattle.gl_machine.specs.Step as s
-use Rattle.gl_vm.specs.View.{Tables, stamps, Agrees, state_of}
+use Rattle.gl_vm.specs.View.{Tables, stamps, state_of}
 use Rattle.gl_vm.specs.Steps.{Does, Numbers}
 use Rattle.gl_vm.specs.declared.vm.Vm.{Vm}
 use Rattle.gl_append.specs.MachineView.{seen_here, seen_kind, seen_frame, seen_frames, seen_calls, mach_by, mach_of}

@@ -1,12 +1,15 @@
 // `let` and the parameters of blocks.
-ghost use Rattle.std.specs.Prelude.{◌≡◌, ◌++◌, ◌∷◌, [], suc, IfOk, OnOk};
+ghost use Rattle.std.specs.Prelude.{◌≡◌, ◌++◌, ◌∷◌, [], suc, drop, IfOk, OnOk};
 ghost use Rattle.gl_meaning.specs.View.{path_view};
 ghost use Rattle.gl_machine.specs.Step as s;
 ghost use Rattle.gl_plain.specs.Ids.{ref};
 ghost use Rattle.gl_machine.specs.Code as c;
 ghost use Rattle.gl_machine.specs.Sight.{with_locals};
 ghost use Rattle.gl_vm.specs.View.{stamps, Calm};
-ghost use Rattle.gl_append.specs.View.{refs_made, seen_sight};
+ghost use Rattle.gl_append.specs.View.{refs_made, seen_sight, seen_locals};
+ghost use Rattle.gl_machine.specs.RenewCode.{refs_in};
+ghost use Rattle.gl_machine.specs.Mach.{going};
+ghost use Rattle.gl_append.specs.MachineView.{mach_by};
 ghost use Rattle.gl_append.specs.CodeView.{seen_code, seen_codes};
 ghost use Rattle.gl_append.specs.MachineView.{seen_here, seen_kind};
 ghost use Rattle.gl_append.specs.Steps.{Moves, Changes, Takes, TakesFirst, KeepsMade, let_entered};
@@ -86,6 +89,41 @@ impl Machine {
         self.begin_let(path, sight, pending)
     }
 
+    /// A `let` ends.
+    pub fn do_end_let(&mut self) -> Result<(), AllocError>
+        ensures { OnOk result (Moves (λ n m. s.with_top m s.do_end_let) self.old self.new) }
+    {
+        match self.pop_frame()? {
+            Some(frame) => self.end_let(frame),
+            None => Err(AllocError),
+        }
+    }
+
+    fn end_let(&mut self, frame: Frame) -> Result<(), AllocError>
+        ensures { OnOk result ((n : _) (st : _) → s.do_end_let (mach_by n st self.old) (mach_by n st self.old).rest.frames (seen_here n frame.here) (seen_kind n frame.kind) ≡ going (mach_by n st self.new)) }
+    {
+        let Frame { here, kind } = frame;
+        match kind {
+            Kind::Let {
+                sight,
+                pending,
+                made,
+            } => {
+                if self.is_calling() {
+                    return Err(AllocError);
+                }
+                let locals = self.sight.level.locals.as_slice();
+                let params = params_from(self.alloc, locals, sight.level.locals.len())?;
+                self.sight = sight;
+                self.pending = pending;
+                let body = self.end(here);
+                let code = Code::named(made, params, body);
+                self.show(code)
+            }
+            _ => Err(AllocError),
+        }
+    }
+
     fn begin_let(&mut self, path: Path, sight: Sight, pending: Ids) -> Result<(), AllocError>
         ensures { OnOk result (Changes (λ n. let_entered (stamps pending) (seen_sight n sight) (path_view path)) self.old self.new) }
     {
@@ -137,6 +175,28 @@ impl Machine {
         self.advance()?;
         self.sight.level.locals.push(symbol, id)
     }
+}
+
+/// The references of these parameters.
+fn ids_in(alloc: Global, locals: &[(u32, RefId)]) -> Result<Ids, AllocError>
+    ensures { IfOk result (λ v. stamps v ≡ refs_in (seen_locals locals.now)) }
+{
+    let mut ids = Ids::new(alloc);
+    for local in locals {
+        ids.push(local.1)?;
+    }
+    Ok(ids)
+}
+
+/// The references of the parameters from a place on.
+pub fn params_from(alloc: Global, locals: &[(u32, RefId)], at: usize) -> Result<Ids, AllocError>
+    ensures { IfOk result (λ v. stamps v ≡ refs_in (drop at (seen_locals locals.now))) }
+{
+    if at > locals.len() {
+        return Err(AllocError);
+    }
+    let (_, rest) = locals.split_at(at);
+    ids_in(alloc, rest)
 }
 
 /// Takes the first of a list.
