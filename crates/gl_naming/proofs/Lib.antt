@@ -1,3 +1,5 @@
 pub mod Pairs
 pub mod Bound
 pub mod Tagged
+pub mod Grown
+pub mod Cases

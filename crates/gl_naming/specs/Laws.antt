@@ -1,16 +1,18 @@
 -- The laws of naming.
-use Rattle.std.specs.Prelude.{◌≡◌, ℕ, List, Bool, Option}
+use Rattle.std.specs.Prelude.{◌≡◌, ℕ, List, [], Bool, Option}
 use Rattle.gl_ast.specs.Template.{Exprs, Part}
 use Rattle.gl_meaning.specs.App.{App}
 use Rattle.gl_meaning.specs.Path.{Path}
 use Rattle.gl_meaning.specs.Scope.{Source}
+use Rattle.gl_meaning.specs.Eval.{Store}
 use Rattle.gl_plain.specs.Ids.{Id}
 use Rattle.gl_plain.specs.State.{MScope, inst_of, Thing, State, pair_of}
 use Rattle.gl_plain.specs.Naming.{by_number}
 use Rattle.gl_plain.specs.Binding.{BoundAll, bind_exprs_as, bind_exprs, place}
 use Rattle.gl_plain.specs.Parts.{mwritten_parts}
 use Rattle.gl_plain.specs.Tags.{Waiting, bind_written, bind_written_as, flush_parts, install_parts}
-use Rattle.gl_naming.specs.Renamed.{pair_with, there_with, state_with, bound_all_with, placed_with, parts_with, attrs_with, mods_with, OwnerRight, ScopeRight}
+use Rattle.gl_plain.specs.Grow.{grow_app, grow_app_as}
+use Rattle.gl_naming.specs.Renamed.{pair_with, there_with, state_with, bound_all_with, placed_with, parts_with, attrs_with, mods_with, run_with, OwnerRight, ScopeRight, StoresAgree, Right}
 
 abbrev pub IsOneToOne : (Path → Path) → Type 0
 IsOneToOne f = (o p : Path) → f o ≡ f p → o ≡ p
@@ -42,3 +44,10 @@ PlacedRenamed =
     → ((b : BoundAll) → place (bound_all_with f g touched b) ≡ placed_with f g touched (place b))
     × ((ps : List Waiting) (st : State) → flush_parts ps (state_with f g touched st) ≡ attrs_with f g touched (flush_parts ps st))
     × ((n i : ℕ) (ps : List Waiting) (st : State) → install_parts n i ps (state_with f g touched st) ≡ mods_with f g touched (install_parts n i ps st))
+
+-- What is appended by paths is what is appended by numbers: the same tree, with the same ids, and the same state but for names and for
+-- what is touched. The names are right for the tree that was appended.
+abbrev pub GrownRenamed : Type 0
+GrownRenamed =
+    (f : Path → Path) (g : Source → Source) (touched : Source → Bool) → IsOneToOne f → (app : App) (σ τ : Store) → StoresAgree f g app σ τ → (st : State)
+    → let r = grow_app_as by_number app σ st in Right f g [] r.0 → grow_app app τ (state_with f g touched st) ≡ run_with f g touched r
