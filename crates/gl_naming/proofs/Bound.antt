@@ -171,7 +171,7 @@ module _ (f : Path → Path) (g : Source → Source) (hot : Source → Bool) whe
   -- Positions
 
   module _ (once : (o p : Path) → f o ≡ f p → o ≡ p) where
-    pairs_im : (st : State) (rs : List ℕ) → map (pair_of (im st).look) rs ≡ map (pair_with f g) (map (pair_of st.look) rs)
+    pub pairs_im : (st : State) (rs : List ℕ) → map (pair_of (im st).look) rs ≡ map (pair_with f g) (map (pair_of st.look) rs)
     pairs_im st [] = refl
     pairs_im st (r ∷ rs) = ap₂ (λ p ps. p ∷ ps) (pair_to f g once st.look r) (pairs_im st rs)
 

@@ -61,23 +61,23 @@ module _ (f : Path → Path) (g : Source → Source) where
   texts_same [] = refl
   texts_same (p ∷ ps) = ap₂ (λ o ys. cons_option o ys) (rules_leave_owners f p.value).2 (texts_same ps)
 
-  attribute_same : (ps : List Pair) → attribute_value (map to ps) ≡ attribute_value ps
+  pub attribute_same : (ps : List Pair) → attribute_value (map to ps) ≡ attribute_value ps
   attribute_same ps = ap joined_texts (texts_same ps)
 
   pub first_on : (ps : List Pair) → first_value (map to ps) ≡ with_owners f (first_value ps)
   first_on ps = ap (λ p. p.value) (place_map to absent 0 ps)
 
-  firsts_on : (n : ℕ) (vs : List V) → first_values n (map (with_owners f) vs) ≡ map (with_owners f) (first_values n vs)
+  pub firsts_on : (n : ℕ) (vs : List V) → first_values n (map (with_owners f) vs) ≡ map (with_owners f) (first_values n vs)
   firsts_on zero vs = refl
   firsts_on (suc n) [] = refl
   firsts_on (suc n) (v ∷ vs) = ap (λ ws. with_owners f v ∷ ws) (firsts_on n vs)
 
-  from_on : (n : ℕ) (vs : List V) → values_from n (map (with_owners f) vs) ≡ map (with_owners f) (values_from n vs)
+  pub from_on : (n : ℕ) (vs : List V) → values_from n (map (with_owners f) vs) ≡ map (with_owners f) (values_from n vs)
   from_on zero vs = refl
   from_on (suc n) [] = refl
   from_on (suc n) (v ∷ vs) = from_on n vs
 
-  named_on : (ns : List Text) (vs : List V) → named_with ns (map (with_owners f) vs) ≡ names_with f (named_with ns vs)
+  pub named_on : (ns : List Text) (vs : List V) → named_with ns (map (with_owners f) vs) ≡ names_with f (named_with ns vs)
   named_on [] vs = refl
   named_on (n ∷ ns) [] = refl
   named_on (n ∷ ns) (v ∷ vs) = ap (λ ws. (n, with_owners f v) ∷ ws) (named_on ns vs)

@@ -1,2 +1,3 @@
 pub mod Renamed
 pub mod Laws
+pub mod Numbered

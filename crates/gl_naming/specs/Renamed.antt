@@ -1,8 +1,11 @@
 -- What is kept, with other names of owners and sources.
 use Rattle.std.specs.Prelude.{◌≡◌, ℕ, List, [], ◌∷◌, map, Bool, true, false, Option, Some, None}
+use Rattle.gl_base.specs.Texts.{Text}
 use Rattle.gl_value.specs.Owners.{with_owners}
 use Rattle.gl_meaning.specs.Path.{Path, V, main, otherwise, items, item, slot}
 use Rattle.gl_meaning.specs.Scope.{Source, cell, item_value, item_index, Pair}
+use Rattle.gl_meaning.specs.App.{App}
+use Rattle.gl_meaning.specs.Eval.{Store, cell_value}
 use Rattle.gl_meaning.specs.Render.{Entry}
 use Rattle.gl_labels.specs.Laws.{names_with}
 use Rattle.gl_plain.specs.State.{Form, constant_form, source_form, property_form, call_form, joined_form, all_form, Row, Names, Inst, MScope, mscope, MPassed, mnothing, mpassed, Installed, Thing, row, content, instance_row, block_row, modifier_row, State}
@@ -81,6 +84,10 @@ module _ (f : Path → Path) (g : Source → Source) where
 
   abbrev pub entry_with : Entry → Entry
   entry_with x = record { key = x.key; occurrence = x.occurrence; value = with_owners f x.value; index = x.index }
+
+  -- each cell of the second store holds what it holds in the first one
+  abbrev pub StoresAgree : App → Store → Store → Type 0
+  StoresAgree app σ τ = (q : Path) (x : Text) → cell_value app τ q x ≡ with_owners f (cell_value app σ q x)
 
 -- Where the names of numbers are right: f gives the owner of an instance its path, and g each source of a tree that of its path.
 module _ (f : Path → Path) (g : Source → Source) where
