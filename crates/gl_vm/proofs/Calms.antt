@@ -99,6 +99,9 @@ module _ (a b : Refs) (id : Id) where
   pub olds_source : (kind : Bool) (v : f.V) → MakesSource a b id kind v → (i : Id) → IsSome (forms_of a i) → forms_of b i ≡ forms_of a i
   olds_source kind v m i live = olds_given (record { form = f.source_form kind m.gives.tag v; last = None }) m.gives.gives i live
 
+  pub live_source : (kind : Bool) (v : f.V) → MakesSource a b id kind v → IsSome (forms_of b id)
+  live_source kind v m = subst IsSome (sym (ap (option_map form_in) m.gives.gives.given)) refl
+
   pub cell_source : (v : f.V) → MakesSource a b id false v → s.is_cell (forms_of b id) ≡ true
   cell_source v m = ap (λ o. s.is_cell (option_map form_in o)) m.gives.gives.given
 

@@ -15,3 +15,5 @@ pub mod Drops
 pub mod Ended
 pub mod Reached
 pub mod Stale
+pub mod Starts
+pub mod Leading

@@ -54,7 +54,7 @@ any_none q [] e = refl
 any_none q (x ∷ xs) e = ap₂ (λ a b. a || b) e.0 (any_none q xs e.1)
 
 -- what no live form names is read for itself alone
-only_read : (l : f.Look) (i q : Id) → f.IsReadFor l i q → f.IsUnread l q → q ≡ i
+pub only_read : (l : f.Look) (i q : Id) → f.IsReadFor l i q → f.IsUnread l q → q ≡ i
 only_read l i q f.itself u = refl
 only_read l i q (f.through k q2 h e) u = by (l k) refl where
   by : (o : Option f.Form) → l k ≡ o → q2 ≡ i

@@ -64,7 +64,7 @@ below_either f g p (suc n) = ap (λ b. ((f n || g n) && p n) || b) (below_either
   by false true false d e = refl
   by false false c d e = refl
 
-each_flat : (P : Id → Type 0) (src : Id → List Id) (qs : List Id) → f.Each (λ q. f.Each P (src q)) qs → f.Each P (flat_map src qs)
+pub each_flat : (P : Id → Type 0) (src : Id → List Id) (qs : List Id) → f.Each (λ q. f.Each P (src q)) qs → f.Each P (flat_map src qs)
 each_flat P src [] e = tt
 each_flat P src (q ∷ qs) e = each_append P (src q) (flat_map src qs) e.0 (each_flat P src qs e.1)
 

@@ -12,8 +12,9 @@ use Rattle.gl_refs.specs.Refs.{Refs, rows_of}
 use Rattle.gl_meaning.specs.Path.{V}
 use Rattle.gl_meaning.specs.Scope.{Source}
 use Rattle.gl_meaning.specs.Parts.{Attrs}
-use Rattle.gl_plain.specs.Ids.{a_modifier, Id as Name, kind_eq, hit, node, modifier_id}
+use Rattle.gl_plain.specs.Ids.{a_node, a_modifier, Id as Name, kind_eq, hit, node, modifier_id}
 use Rattle.gl_plain.specs.State.{content, Installed, modifier_row, Thing, State, put_thing, note_updated}
+use Rattle.gl_plain.specs.Turns.{blank}
 use Rattle.gl_plain.specs.Naming.{by_number, dropped_as}
 use Rattle.gl_plain.specs.Renew.{changed_attr}
 use Rattle.gl_vm.specs.View.{Tables, is_led, state_of, Agrees}
@@ -54,6 +55,10 @@ put_args m vs ns st = note_updated m (put_thing (modifier_id m) (modifier_row (g
 
 abbrev pub installed_at : ℕ → ℕ → Text → List V → List (Text × V) → Installed
 installed_at n i name vs ns = record { on_node = n; place = i; name = name; args = vs; names = ns }
+
+-- a machine that keeps nothing: the root of the tree has the first number of a node
+abbrev pub empty : State
+empty = record blank { next = λ k. if kind_eq k a_node then 1 else 0 }
 
 -- Ends
 

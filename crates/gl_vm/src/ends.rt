@@ -24,6 +24,7 @@ impl Vm {
         ensures others { (i : _) → i ≢ id → forms_of self.new.refs i ≡ forms_of self.old.refs i }
         ensures rest { self.new ≡ record self.old { refs = self.new.refs } }
         ensures calm { Calm self.old → Calm self.new }
+        ensures led { Led self.old.refs → Led self.new.refs }
     {
         self.refs.sound();
         self.refs.free(id);

@@ -6,6 +6,7 @@ mod nodes;
 mod placing;
 mod positions;
 mod references;
+mod starting;
 mod vm;
 
 pub use vm::{Instance, Vm};

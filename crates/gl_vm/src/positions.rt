@@ -11,7 +11,7 @@ ghost use Rattle.gl_plain.specs.Binding.{place};
 ghost use Rattle.gl_plain.specs.Turns.{begin};
 ghost use Rattle.gl_plain.specs.Renew.{evaluate, is_stale};
 ghost use Rattle.gl_vm.specs.Labels.{labelled};
-ghost use Rattle.gl_vm.specs.Led.{IsTelling};
+ghost use Rattle.gl_vm.specs.Led.{Led, IsTelling};
 ghost use Rattle.gl_vm.specs.View.{Tables, stamps, state_of, Calm, Agrees, is_all};
 ghost use Rattle.gl_vm.specs.Steps.{Does, Numbers};
 
@@ -40,6 +40,7 @@ impl Vm {
         ensures owns { (i : _) → IsOwn self.old.refs.rows i → IsOwn self.new.refs.rows i }
         ensures rest { self.new ≡ record self.old { refs = self.new.refs } }
         ensures calm { Calm self.new }
+        ensures led { OnOk result (Led self.old.refs → Led self.new.refs) }
     {
         self.refs.sound();
         let done = self.refs.renew(id);
@@ -57,6 +58,7 @@ impl Vm {
         ensures olds { (i : _) → IsSome (forms_of self.old.refs i) → forms_of self.new.refs i ≡ forms_of self.old.refs i }
         ensures rest { self.new ≡ record self.old { refs = self.new.refs } }
         ensures calm { Calm self.new }
+        ensures led { IfOk result (λ id. Led self.old.refs → Led self.new.refs) }
     {
         self.refs.sound();
         let id = self.bind(Form::All(ids))?;
@@ -90,6 +92,7 @@ impl Vm {
         ensures clock { self.new.refs.tags.clock ≡ self.old.refs.tags.clock + 1 }
         ensures forms { forms_of self.new.refs ≡ forms_of self.old.refs }
         ensures calm { Calm self.old → Calm self.new }
+        ensures led { Led self.old.refs → Led self.new.refs }
     {
         self.refs.sound();
         self.refs.begin();

@@ -11,6 +11,7 @@ ghost use Rattle.gl_plain.specs.Naming.{by_number, made_source};
 ghost use Rattle.gl_plain.specs.Binding.{made_row};
 ghost use Rattle.gl_plain.specs.Renew.{give};
 ghost use Rattle.gl_vm.specs.Labels.{label, labelled};
+ghost use Rattle.gl_vm.specs.Led.{Led};
 ghost use Rattle.gl_vm.specs.View.{Calm, seen_form};
 ghost use Rattle.gl_vm.specs.Steps.{Does, Numbers};
 
@@ -28,6 +29,7 @@ impl Vm {
         ensures olds { (i : _) → IsSome (forms_of self.old.refs i) → forms_of self.new.refs i ≡ forms_of self.old.refs i }
         ensures rest { self.new ≡ record self.old { refs = self.new.refs } }
         ensures calm { Calm self.old → Calm self.new }
+        ensures led { IfOk result (λ id. Led self.old.refs → Led self.new.refs) }
         ensures err { OnErr result (self.new ≡ self.old) }
     {
         self.refs.sound();
@@ -44,6 +46,7 @@ impl Vm {
         ensures olds { (i : _) → IsSome (forms_of self.old.refs i) → forms_of self.new.refs i ≡ forms_of self.old.refs i }
         ensures rest { self.new ≡ record self.old { refs = self.new.refs } }
         ensures calm { Calm self.old → Calm self.new }
+        ensures led { IfOk result (λ id. Led self.old.refs → Led self.new.refs) }
         ensures err { OnErr result (self.new ≡ self.old) }
     {
         self.refs.sound();
@@ -55,9 +58,11 @@ impl Vm {
         ensures step { IfOk result (λ id. Does (λ n. made_source by_number (label self.old.refs.rows.made) (labelled (view value))) self.old self.new) }
         ensures id { IfOk result (λ id. Numbers self.old.refs.rows self.new.refs.rows id) }
         ensures cell { IfOk result (λ id. is_cell (forms_of self.new.refs id) ≡ true) }
+        ensures live { IfOk result (λ id. IsSome (forms_of self.new.refs id)) }
         ensures olds { (i : _) → IsSome (forms_of self.old.refs i) → forms_of self.new.refs i ≡ forms_of self.old.refs i }
         ensures rest { self.new ≡ record self.old { refs = self.new.refs } }
         ensures calm { Calm self.old → Calm self.new }
+        ensures led { IfOk result (λ id. Led self.old.refs → Led self.new.refs) }
         ensures err { OnErr result (Does (λ n st. st) self.old self.new) }
     {
         self.refs.sound();
@@ -69,9 +74,11 @@ impl Vm {
         ensures step { IfOk result (λ id. Does (λ n. made_source by_number (label self.old.refs.rows.made) (labelled (view value))) self.old self.new) }
         ensures id { IfOk result (λ id. Numbers self.old.refs.rows self.new.refs.rows id) }
         ensures item { IfOk result (λ id. is_item (forms_of self.new.refs id) ≡ true) }
+        ensures live { IfOk result (λ id. IsSome (forms_of self.new.refs id)) }
         ensures olds { (i : _) → IsSome (forms_of self.old.refs i) → forms_of self.new.refs i ≡ forms_of self.old.refs i }
         ensures rest { self.new ≡ record self.old { refs = self.new.refs } }
         ensures calm { Calm self.old → Calm self.new }
+        ensures led { IfOk result (λ id. Led self.old.refs → Led self.new.refs) }
         ensures err { OnErr result (Does (λ n st. st) self.old self.new) }
     {
         self.refs.sound();
@@ -85,6 +92,7 @@ impl Vm {
         ensures step { Does (λ n. touch cell.1 (label cell.1) (labelled (view value))) self.old self.new }
         ensures rest { self.new ≡ record self.old { refs = self.new.refs } }
         ensures calm { Calm self.old → Calm self.new }
+        ensures led { Led self.old.refs → Led self.new.refs }
     {
         self.refs.sound();
         self.refs.set(cell, value)
@@ -97,6 +105,7 @@ impl Vm {
         ensures step { Does (λ n. give item.1 (label item.1) (labelled (view value))) self.old self.new }
         ensures rest { self.new ≡ record self.old { refs = self.new.refs } }
         ensures calm { Calm self.old → Calm self.new }
+        ensures led { Led self.old.refs → Led self.new.refs }
     {
         self.refs.sound();
         self.refs.give(item, value)

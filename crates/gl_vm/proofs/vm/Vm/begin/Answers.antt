@@ -1,10 +1,11 @@
-use Rattle.std.proofs.Common.{sym, subst, false}
+use Rattle.std.proofs.Common.{sym, ap, subst, false}
 use Rattle.gl_mods.specs.Mods.{Mods}
 use Rattle.gl_refs.specs.Refs.{Refs}
 use Rattle.gl_plain.specs.Turns.{begin}
 use Rattle.gl_vm.specs.View.{Agrees}
 use Rattle.gl_vm.specs.Steps.{Does}
 use Rattle.gl_vm.proofs.Begins.{begun, begin_step, untouched}
+use Rattle.gl_vm.proofs.Leading.{led_same}
 use Rattle.gl_vm.proofs.vm.Vm.begin.Goals as goal
 
 pub returns-clause-step : goal.returns-clause-step
@@ -17,3 +18,6 @@ pub returns-clause-untouched : goal.returns-clause-untouched
 returns-clause-untouched c =
     let vm = c.args.self.now in
     subst (λ (r : Refs). Agrees (λ x. false) (record vm { refs = r })) (sym c.begin.ensures) (untouched vm c.sound.ensures.stamped c.sound.ensures.sound)
+
+pub returns-clause-led : goal.returns-clause-led
+returns-clause-led c led = led_same c.args.self.now.refs c.begin.new.self (ap (λ (r : Refs). r.rows) c.begin.ensures) (ap (λ (r : Refs). r.tags.tags) c.begin.ensures) led

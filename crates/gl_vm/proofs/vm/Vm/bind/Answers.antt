@@ -9,6 +9,7 @@ use Rattle.gl_refs.proofs.Rows.{bound_form}
 use Rattle.gl_vm.proofs.Rows.{plain_step, plain_numbers, bound_plain}
 use Rattle.gl_vm.specs.View.{PositionsUnread}
 use Rattle.gl_vm.proofs.Calms.{live_of, either_way, calm_makes, olds_makes, olds_err, form_makes}
+use Rattle.gl_vm.proofs.Leading.{led_makes}
 use Rattle.gl_vm.proofs.vm.Vm.bind.Goals as goal
 
 pub returns-clause-step : goal.returns-clause-step
@@ -39,3 +40,6 @@ returns-clause-calm c calm = record {
   unread = either_way c.bind.result (λ id m. calm_makes c.args.self.now.refs c.bind.new.self id (code.seen_form c.args.form) m c.sound.ensures.sound.lower c.requires.parts calm.unread)
       (λ e. subst PositionsUnread (sym e) calm.unread) c.bind.ensures.ok c.bind.ensures.err;
 }
+
+pub returns-clause-led : goal.returns-clause-led
+returns-clause-led c = on_if c.bind.result (λ id m led. led_makes c.args.self.now.refs c.bind.new.self id (code.seen_form c.args.form) c.sound.ensures.sound m led) c.bind.ensures.ok

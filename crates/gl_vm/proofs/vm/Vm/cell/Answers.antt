@@ -2,8 +2,9 @@ use Rattle.std.proofs.Common.{false}
 use Rattle.gl_value.specs.View.{view}
 use Rattle.gl_arena.proofs.Stamps.{on_if}
 use Rattle.gl_vm.proofs.Sources.{source_step, source_numbers}
-use Rattle.gl_vm.proofs.Calms.{on_err, either_way, calm_same, calm_source, olds_source, olds_kept, cell_source}
+use Rattle.gl_vm.proofs.Calms.{on_err, either_way, calm_same, calm_source, olds_source, olds_kept, cell_source, live_source}
 use Rattle.gl_vm.proofs.Wants.{keeps_step, keeps_forms}
+use Rattle.gl_vm.proofs.Leading.{led_source}
 use Rattle.gl_vm.proofs.vm.Vm.cell.Goals as goal
 
 pub returns-clause-step : goal.returns-clause-step
@@ -30,3 +31,9 @@ returns-clause-calm c calm = record {
 
 pub returns-clause-err : goal.returns-clause-err
 returns-clause-err c = on_err c.cell.result (λ k. keeps_step c.args.self.now c.cell.new.self c.sound.ensures.stamped c.sound.ensures.sound k) c.cell.ensures.err
+
+pub returns-clause-live : goal.returns-clause-live
+returns-clause-live c = on_if c.cell.result (λ id m. live_source c.args.self.now.refs c.cell.new.self id false (view c.args.value) m) c.cell.ensures.ok
+
+pub returns-clause-led : goal.returns-clause-led
+returns-clause-led c = on_if c.cell.result (λ id m led. led_source c.args.self.now.refs c.cell.new.self id false (view c.args.value) c.sound.ensures.sound m led) c.cell.ensures.ok

@@ -3,6 +3,7 @@ use Rattle.gl_refs.specs.State as s
 use Rattle.gl_vm.proofs.Calms.{calm_ended}
 use Rattle.gl_vm.proofs.Ended.{forgotten, reference_gone}
 use Rattle.gl_vm.proofs.Reached.{led_forgotten}
+use Rattle.gl_vm.proofs.Leading.{led_ended}
 use Rattle.gl_vm.proofs.vm.Vm.end_reference.Goals as goal
 
 pub returns-clause-step : goal.returns-clause-step
@@ -21,3 +22,6 @@ returns-clause-calm c calm = record {
   unread = calm_ended c.args.self.now.refs c.free.new.self c.args.id (λ q ne. ap (option_map (λ (x : s.Row). x.form)) (c.free.ensures.ends.others q ne)) calm.unread
       (ap (option_map (λ (x : s.Row). x.form)) c.free.ensures.ends.ended);
 }
+
+pub returns-clause-led : goal.returns-clause-led
+returns-clause-led c led = let e = c.free.ensures in led_ended c.args.self.now.refs c.free.new.self c.args.id c.sound.ensures.sound c.requires.unread e.ends e.tags led

@@ -2,6 +2,7 @@ use Rattle.gl_vm.proofs.States.{on_ok}
 use Rattle.gl_vm.proofs.Settled.{position_ids, evaluate_step, is_live}
 use Rattle.gl_vm.proofs.Calms.{calm_same}
 use Rattle.gl_vm.proofs.Placed.{owns_same}
+use Rattle.gl_vm.proofs.Leading.{led_evaluated}
 use Rattle.gl_vm.proofs.vm.Vm.evaluate.Goals as goal
 
 pub renew-done-requires : goal.renew-done-requires
@@ -20,3 +21,8 @@ returns-clause-owns c i own =
 
 pub returns-clause-calm : goal.returns-clause-calm
 returns-clause-calm c = record { unread = calm_same c.args.self.now.refs c.renew-done.new.self c.renew-done.ensures.reads.settles.forms c.requires.calm.unread }
+
+pub returns-clause-led : goal.returns-clause-led
+returns-clause-led c =
+    on_ok c.renew-done.result (λ kept k led. led_evaluated c.args.self.now.refs c.renew-done.new.self c.args.id c.renew-done.ensures.reads c.requires.calm.unread c.sound-2.ensures.sound kept led) c.renew-done.ensures.kept
+    c.renew-done.ensures.kept

@@ -2,6 +2,7 @@ use Rattle.std.proofs.Common.{◌⊎◌, inl, inr}
 use Rattle.gl_value.specs.View.{view}
 use Rattle.gl_vm.proofs.Sets.{give_step}
 use Rattle.gl_vm.proofs.Calms.{calm_given}
+use Rattle.gl_vm.proofs.Leading.{led_given}
 use Rattle.gl_vm.proofs.vm.Vm.give.Goals as goal
 
 -- what is said by cases, as two implications
@@ -20,3 +21,6 @@ returns-clause-step c =
 
 pub returns-clause-calm : goal.returns-clause-calm
 returns-clause-calm c calm = record { unread = calm_given c.args.self.now.refs c.give.new.self c.args.item (view c.args.value) c.give.ensures calm.unread }
+
+pub returns-clause-led : goal.returns-clause-led
+returns-clause-led c led = led_given c.args.self.now.refs c.give.new.self c.args.item (view c.args.value) c.sound.ensures.sound c.give.ensures led

@@ -14,3 +14,6 @@ returns-clause-form c = ap (λ l. l c.in_ok-id.id) c.in_ok-evaluate.ensures.form
 
 pub returns-clause-olds : goal.returns-clause-olds
 returns-clause-olds c i live = ap (λ l. l i) c.in_ok-evaluate.ensures.forms ∙ c.in_ok-id.ensures.olds i live
+
+pub returns-clause-led : goal.returns-clause-led
+returns-clause-led c led = c.in_ok-evaluate.ensures.led (c.in_ok-id.ensures.led led)
