@@ -12,3 +12,5 @@ mod Stacks
 mod Tagging
 mod Found
 mod Telling
+mod Encoded
+mod Propers

@@ -4,7 +4,8 @@ use Rattle.std.specs.List.{list_any}
 use Rattle.gl_arena.specs.Id.{Id}
 use Rattle.gl_arena.specs.Arena.{IsStamped, by_stamp}
 use Rattle.gl_tags.specs.Tags as t
-use Rattle.gl_refs.specs.Forms.{V, Form, Look, form_at, parts, own_sources, pair_by, below, meaning, Like, Each}
+use Rattle.gl_value.specs.Proper.{IsProper}
+use Rattle.gl_refs.specs.Forms.{V, Form, constant_form, source_form, Look, form_at, parts, own_sources, pair_by, below, meaning, Like, Each}
 use Rattle.gl_refs.specs.State.{Row, Rows, forms, held, held_value, held_tag, has_tag, IsKept, IsValid, IsSound, Sets, Binds, Evaluates, Frees, is_bound}
 use Rattle.gl_refs.specs.Refs.{Refs, Reads}
 
@@ -63,3 +64,16 @@ abbrev pub FormsByStamp : Type 0
 FormsByStamp =
     (old new : Refs) (id : Id) → IsStamped old.rows → IsStamped new.rows → Reads old new id → (s : ℕ) →
     option_map (λ (r : Row). r.form) (by_stamp new.rows s) ≡ option_map (λ (r : Row). r.form) (by_stamp old.rows s)
+
+-- a constant, a cell or an item holds a proper value
+abbrev pub HoldsProper : Form → Type 0
+HoldsProper (constant_form v) = IsProper v
+HoldsProper (source_form k s v) = IsProper v
+HoldsProper g = Unit {0}
+
+abbrev pub AreProper : Look → Type 0
+AreProper l = (i : Id) (g : Form) → l i ≡ Some g → HoldsProper g
+
+-- Where each constant, cell and item holds a proper value, each reference means a proper one.
+abbrev pub MeansProper : Type 0
+MeansProper = (l : Look) → AreProper l → (i : Id) → IsProper (meaning l i).value

@@ -1,7 +1,7 @@
 //! What references mean, and what keeps it. Each function does nothing: its contract is the law. The words of
 //! the contracts stand in `specs/Laws.antt`, each with its sentence.
 
-ghost use Rattle.gl_refs.specs.Laws.{MeaningIs, UntouchedStays, ApartStays, KeptIsNow, SetKeeps, BindKeeps, EvaluationKeeps, FreeKeeps, KeptLike, ValidByTag, FormsByStamp};
+ghost use Rattle.gl_refs.specs.Laws.{MeaningIs, UntouchedStays, ApartStays, KeptIsNow, SetKeeps, BindKeeps, EvaluationKeeps, FreeKeeps, KeptLike, ValidByTag, FormsByStamp, MeansProper};
 
 /// What a reference means is one equation, whatever stands in the others.
 pub fn meaning_is()
@@ -36,4 +36,10 @@ pub fn tags_tell()
 /// For whoever speaks of references by stamps: a read and an evaluation leave the form at each stamp.
 pub fn forms_by_stamp()
     ensures { FormsByStamp }
+{}
+
+/// Where constants, cells and items hold proper values, what a reference means is proper, and so is what a read, an
+/// evaluation and a look give.
+pub fn meaning_is_proper()
+    ensures { MeansProper }
 {}
