@@ -493,9 +493,6 @@ module _ (f : Path → Path) (g : Source → Source) (once : (o p : Path) → f 
     installs = st.installs;
     updates = st.updates;
   }) ∙ ap (λ z. im (λ w. source_eq w z || hot w) (touch r x v st)) e) where
-    new : Thing
-    new = row (record { form = source_form x v; last = any_of [] })
-
     by : (q : Id) (b : Bool) → (if b then Some (row (record { form = source_form (g x) (with_owners f v); last = any_of [] })) else there_with f g (st.look q)) ≡ there_with f g (if b then Some (row (record { form = source_form x v; last = any_of [] })) else st.look q)
     by q true = refl
     by q false = refl
