@@ -1,3 +1,4 @@
+pub mod BranchBegins
 pub mod Frames
 pub mod LetBegins
 pub mod LetEnds

@@ -1,10 +1,11 @@
 -- What a step of the code does.
-use Rattle.std.specs.Prelude.{◌≡◌, ℕ, suc, List, [], ◌∷◌, ◌++◌, Bool, Option, Some, None}
+use Rattle.std.specs.Prelude.{◌≡◌, if◌then◌else◌, ℕ, suc, List, [], ◌∷◌, ◌++◌, Bool, Option, Some, None}
 use Rattle.gl_meaning.specs.Scope.{Source}
 use Rattle.gl_arena.specs.Id.{Id}
 use Rattle.gl_plain.specs.Ids.{ref}
 use Rattle.gl_plain.specs.State.{State}
-use Rattle.gl_machine.specs.Mach.{Frame as PlainFrame, Mach, Run, going, go, mach, fresh, all_of, in_let}
+use Rattle.gl_machine.specs.Mach.{Frame as PlainFrame, Mach, Run, going, go, mach, fresh, all_of, in_let, in_branch}
+use Rattle.gl_machine.specs.Code.{Choice as PlainChoice}
 use Rattle.gl_machine.specs.Sight.{Sight as PlainSight}
 use Rattle.gl_meaning.specs.Path.{Path as PlainPath}
 use Rattle.gl_machine.specs.Step.{popped, with_made}
@@ -104,3 +105,11 @@ KeepsMade old new id =
     → (f : List PlainFrame × PlainFrame)
     × (popped (mach_by n st old).rest.frames ≡ Some f)
     × (mach_by n st new ≡ (let m = mach_by n st old in record m { rest = record m.rest { frames = f.0 ++ record { here = f.1.here; kind = with_made (ref id.1) f.1.kind } ∷ [] } }))
+
+-- one of two bodies is begun at a path, with the position of the condition
+abbrev pub branch_entered : PlainChoice → ℕ → Bool → PlainPath → Mach → Mach
+branch_entered z r u p m =
+    mach m.state m.stack [] (if u then z.first else z.second) (record m.rest {
+      here = fresh p;
+      frames = m.rest.frames ++ record { here = m.rest.here; kind = in_branch z (record { ref = r; made = m.made ++ ref r ∷ [] }) u } ∷ [];
+    })

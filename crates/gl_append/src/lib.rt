@@ -3,6 +3,7 @@
 #![tactic(auto)]
 
 mod bodies;
+mod branches;
 mod calls;
 mod code;
 mod exprs;
