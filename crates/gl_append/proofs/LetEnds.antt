@@ -23,13 +23,18 @@ abbrev pub with_frames : List PlainFrame → Mach → Mach
 with_frames fs m = record m { rest = record m.rest { frames = fs } }
 
 -- What closes a frame that was popped doesn't look at the frames.
+pub top_popped : (f : Mach → List PlainFrame → PlainHere → PlainKind → Run) (old mid : Machine) (x : Frame)
+    → ((m : Mach) (xs fs : List PlainFrame) (h : PlainHere) (k : PlainKind) → f (with_frames xs m) fs h k ≡ f m fs h k) → PopsFrame old mid (Some x)
+    → (n : Tables) (st : State) → s.with_top (mach_by n st old) f ≡ f (mach_by n st mid) (mach_by n st mid).rest.frames (seen_here n x.here) (seen_kind n x.kind)
+top_popped f old mid x free p n st =
+    ap (λ o. s.given o (λ y. f (mach_by n st old) y.0 y.1.here y.1.kind)) (p.2 n st)
+    ∙ (sym (free (mach_by n st old) (mach_by n st mid).rest.frames (mach_by n st mid).rest.frames (seen_here n x.here) (seen_kind n x.kind))
+    ∙ ap (λ m. f m (mach_by n st mid).rest.frames (seen_here n x.here) (seen_kind n x.kind)) (sym (p.3 n st)))
+
 pub closed : (f : Mach → List PlainFrame → PlainHere → PlainKind → Run) (old mid new : Machine) (x : Frame)
     → ((m : Mach) (xs fs : List PlainFrame) (h : PlainHere) (k : PlainKind) → f (with_frames xs m) fs h k ≡ f m fs h k) → PopsFrame old mid (Some x)
     → ((n : Tables) (st : State) → f (mach_by n st mid) (mach_by n st mid).rest.frames (seen_here n x.here) (seen_kind n x.kind) ≡ going (mach_by n st new)) → Moves (λ n m. s.with_top m f) old new
-closed f old mid new x free p e n st =
-    ap (λ o. s.given o (λ y. f (mach_by n st old) y.0 y.1.here y.1.kind)) (p.2 n st)
-    ∙ (sym (free (mach_by n st old) (mach_by n st mid).rest.frames (mach_by n st mid).rest.frames (seen_here n x.here) (seen_kind n x.kind))
-    ∙ (ap (λ m. f m (mach_by n st mid).rest.frames (seen_here n x.here) (seen_kind n x.kind)) (sym (p.3 n st)) ∙ e n st))
+closed f old mid new x free p e n st = top_popped f old mid x free p n st ∙ e n st
 
 pub let_free : (m : Mach) (xs fs : List PlainFrame) (h : PlainHere) (k : PlainKind) → s.do_end_let (with_frames xs m) fs h k ≡ s.do_end_let m fs h k
 let_free m xs fs h (in_element a b d e) = refl

@@ -23,7 +23,7 @@ eq_flip i j = chosen (nat_eq i j) refl where
     false_not : false ≡ true → ⊥
     false_not x = let y : false ≡ true = x in absurd (cc)
 
-or_else-map : {A B : Type 0} (f : A → B) (x y : Option A) → or_else (option_map f x) (option_map f y) ≡ option_map f (or_else x y)
+pub or_else-map : {A B : Type 0} (f : A → B) (x y : Option A) → or_else (option_map f x) (option_map f y) ≡ option_map f (or_else x y)
 or_else-map f (Some x) y = refl
 or_else-map f None y = refl
 

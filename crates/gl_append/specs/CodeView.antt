@@ -18,6 +18,7 @@ use Rattle.gl_append.specs.declared.code.Choice.{Choice}
 use Rattle.gl_append.specs.declared.code.Listing.{Listing}
 use Rattle.gl_append.specs.declared.code.Code.{Code, fold-Code}
 use Rattle.gl_append.specs.declared.code.Codes.{Codes, fold-Codes}
+use Rattle.gl_append.specs.declared.code.ItemCode.{ItemCode, fold-ItemCode}
 use Rattle.gl_append.specs.declared.code.Code.TheOpen.{Code-F, ItemCode-F, Codes-F}
 
 -- the position itself is the last of what was made for it
@@ -78,3 +79,6 @@ seen_code n = fold-Code c.Code c.Codes (l.ItemSpot × (Option ℕ × c.Codes)) (
 
 abbrev pub seen_codes : Tables → Codes → c.Codes
 seen_codes n = fold-Codes c.Code c.Codes (l.ItemSpot × (Option ℕ × c.Codes)) (code_step n) codes_step item_step
+
+abbrev pub seen_item_code : Tables → ItemCode → l.ItemSpot × (Option ℕ × c.Codes)
+seen_item_code n = fold-ItemCode c.Code c.Codes (l.ItemSpot × (Option ℕ × c.Codes)) (code_step n) codes_step item_step

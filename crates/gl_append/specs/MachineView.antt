@@ -1,5 +1,5 @@
 -- What the machine's registers stand for.
-use Rattle.std.specs.Prelude.{List, ◌∷◌, ◌++◌, map, reverse, Bool, Some}
+use Rattle.std.specs.Prelude.{ℕ, List, ◌∷◌, ◌++◌, map, reverse, Bool, Option, Some}
 use Rattle.gl_value.specs.Value.{plain}
 use Rattle.gl_value.specs.View.{view}
 use Rattle.gl_meaning.specs.Render as r
@@ -7,6 +7,7 @@ use Rattle.gl_meaning.specs.Scope.{Source}
 use Rattle.gl_meaning.specs.View.{path_view}
 use Rattle.gl_plain.specs.Ids as p
 use Rattle.gl_plain.specs.State.{State}
+use Rattle.gl_plain.specs.Live.{ItemSpot as PlainItemSpot}
 use Rattle.gl_plain.specs.Tags as t
 use Rattle.gl_machine.specs.Code as c
 use Rattle.gl_machine.specs.Mach as m
@@ -14,13 +15,13 @@ use Rattle.gl_vm.specs.Labels.{labelled}
 use Rattle.gl_vm.specs.View.{Tables, stamps, name_stamps, state_of}
 use Rattle.gl_vm.specs.declared.vm.Vm.{Vm}
 use Rattle.gl_append.specs.View.{refs_made, seen_owner, seen_sight, seen_slots}
-use Rattle.gl_append.specs.CodeView.{seen_spot, seen_attr_spot, seen_item_spot, seen_choice, seen_listing, stamp_of, seen_code, seen_codes}
+use Rattle.gl_append.specs.CodeView.{seen_spot, seen_attr_spot, seen_item_spot, seen_choice, seen_listing, seen_code, seen_item_code}
 use Rattle.gl_append.specs.declared.code.Code.{Code}
+use Rattle.gl_append.specs.declared.code.ItemCode.{ItemCode}
 use Rattle.gl_append.specs.declared.machine.Pushed.{Pushed}
 use Rattle.gl_append.specs.declared.machine.Here.{Here}
 use Rattle.gl_append.specs.declared.machine.Back.{Back}
 use Rattle.gl_append.specs.declared.machine.Entry.{Entry}
-use Rattle.gl_append.specs.declared.machine.Item.{Item}
 use Rattle.gl_append.specs.declared.machine.Waiting.{Waiting}
 use Rattle.gl_append.specs.declared.machine.Waiting.TheVariants as w
 use Rattle.gl_append.specs.declared.machine.Kind.{Kind}
@@ -53,10 +54,13 @@ seen_entry e = record { key = plain (view e.key); occurrence = e.occurrence; val
 abbrev pub seen_left : List Entry → List r.Entry
 seen_left es = reverse (map seen_entry es)
 
-abbrev pub seen_item : Tables → Item → m.Item
-seen_item n x = record { spot = seen_item_spot x.spot; comment = stamp_of x.comment; codes = seen_codes n x.body }
+abbrev pub item_with : PlainItemSpot × (Option ℕ × c.Codes) → m.Item
+item_with x = record { spot = x.0; comment = x.1.0; codes = x.1.1 }
 
-abbrev pub seen_items : Tables → List Item → List m.Item
+abbrev pub seen_item : Tables → ItemCode → m.Item
+seen_item n x = item_with (seen_item_code n x)
+
+abbrev pub seen_items : Tables → List ItemCode → List m.Item
 seen_items n xs = map (seen_item n) xs
 
 abbrev pub seen_part : Tables → Waiting → t.Waiting
@@ -71,8 +75,7 @@ abbrev pub seen_kind : Tables → Kind → m.Kind
 seen_kind n (k.Element e made xs ps) = m.in_element e.1 (refs_made made) (map seen_attr_spot xs.items) (seen_parts n ps.items)
 seen_kind n (k.Branch z x u) = m.in_branch (seen_choice n z) (seen_spot x) u
 seen_kind n (k.Let s pending made) = m.in_let (seen_sight n s) (stamps pending) (refs_made made)
-seen_kind n (k.Each z x start es done) = m.in_each (seen_listing n z) (seen_spot x) start (seen_left es.items) (seen_items n done.items)
-seen_kind n (k.Item z x start es done i) = m.in_item (seen_listing n z) (seen_spot x) start (seen_left es.items) (seen_items n done.items) (seen_item_spot i)
+seen_kind n (k.Item i x) = m.in_item (seen_listing n i.listing) (seen_spot i.spot) i.start (seen_left i.left.items) (seen_items n i.done.items) (seen_item_spot x)
 seen_kind n (k.Other z x) = m.in_other (seen_listing n z) (seen_spot x)
 seen_kind n (k.Component b o block made args) =
     let i = seen_owner n o.value in let gm = p.block_id block.1 ∷ refs_made made in
@@ -88,6 +91,7 @@ seen_frames n fs = map (seen_frame n) fs
 abbrev pub call_kind : Tables → Call → m.Kind
 call_kind n (l.Getter b) = m.in_getter (seen_back n b)
 call_kind n (l.Parts b) = m.in_parts (seen_back n b)
+call_kind n (l.Each i) = m.in_each (seen_listing n i.listing) (seen_spot i.spot) i.start (seen_left i.left.items) (seen_items n i.done.items)
 
 -- Calls stand on all frames, and the body does not change in them.
 abbrev pub seen_call : Tables → m.Here → Call → m.Frame

@@ -1,21 +1,22 @@
 -- What a step of the code does.
-use Rattle.std.specs.Prelude.{◌≡◌, if◌then◌else◌, ℕ, suc, List, [], ◌∷◌, ◌++◌, Bool, Option, Some, None}
+use Rattle.std.specs.Prelude.{◌≡◌, if◌then◌else◌, ℕ, suc, List, [], ◌∷◌, ◌++◌, Bool, true, false, Option, Some, None}
 use Rattle.gl_meaning.specs.Scope.{Source}
 use Rattle.gl_arena.specs.Id.{Id}
 use Rattle.gl_plain.specs.Ids.{ref}
 use Rattle.gl_plain.specs.State.{State}
-use Rattle.gl_machine.specs.Mach.{Frame as PlainFrame, Mach, Run, going, go, mach, fresh, all_of, in_let, in_branch}
-use Rattle.gl_machine.specs.Code.{Choice as PlainChoice}
+use Rattle.gl_machine.specs.Mach.{Frame as PlainFrame, Here as PlainHere, Kind as PlainKind, Mach, Run, going, go, mach, fresh, all_of, in_let, in_branch}
+use Rattle.gl_machine.specs.Code.{Choice as PlainChoice, Codes as PlainCodes}
+use Rattle.gl_machine.specs.RenewCode.{commented}
 use Rattle.gl_machine.specs.Sight.{Sight as PlainSight}
 use Rattle.gl_meaning.specs.Path.{Path as PlainPath}
-use Rattle.gl_machine.specs.Step.{popped, with_made}
+use Rattle.gl_machine.specs.Step.{popped, with_made, unless_parts}
 use Rattle.gl_vm.specs.View.{Tables, Agrees}
 use Rattle.gl_vm.specs.Steps.{Follows}
 use Rattle.gl_vm.specs.declared.vm.Vm.{Vm}
 use Rattle.gl_vm.specs.View.{stamps}
 use Rattle.gl_append.specs.View.{seen_sight}
-use Rattle.gl_append.specs.MachineView.{mach_by, mach_of, seen_back, seen_here, seen_kind, seen_frame}
-use Rattle.gl_append.specs.CodeView.{seen_codes}
+use Rattle.gl_append.specs.MachineView.{mach_by, mach_of, seen_back, seen_here, seen_kind, call_kind, seen_frame}
+use Rattle.gl_append.specs.CodeView.{stamp_of, seen_codes}
 use Rattle.gl_append.specs.declared.code.Codes.{Codes}
 use Rattle.gl_append.specs.declared.machine.Frame.{Frame}
 use Rattle.gl_append.specs.declared.machine.Here.{Here}
@@ -62,6 +63,11 @@ pub record GoesBack (old new : Machine) (back : Back) : Type 0 where
 abbrev pub PopsCall : Machine → Machine → Option Call → Type 0
 PopsCall old new None = (new ≡ record old { calls = new.calls }) × (old.calls.items ≡ []) × (new.calls.items ≡ [])
 PopsCall old new (Some c) = (new ≡ record old { calls = new.calls }) × (old.calls.items ≡ new.calls.items ++ c ∷ [])
+
+-- It is gone on behind `...attributes`, where the words of its parts were run; else nothing changes, and other words may come.
+abbrev pub EndsParts : Machine → Machine → Bool → Type 0
+EndsParts old new true = (n : Tables) (st : State) (r : Run) → unless_parts (mach_by n st old) (popped (mach_by n st old).rest.frames) r ≡ going (mach_by n st new)
+EndsParts old new false = (new ≡ old) × ((n : Tables) (st : State) (r : Run) → unless_parts (mach_by n st old) (popped (mach_by n st old).rest.frames) r ≡ r)
 
 -- the machine with these frames
 abbrev pub mach_back : Tables → State → List PlainFrame → Machine → Mach
@@ -113,3 +119,26 @@ branch_entered z r u p m =
       here = fresh p;
       frames = m.rest.frames ++ record { here = m.rest.here; kind = in_branch z (record { ref = r; made = m.made ++ ref r ∷ [] }) u } ∷ [];
     })
+
+-- The code does this step with a frame that was taken, whichever sources were touched, and whatever the manifest's names are.
+abbrev pub EndsFrame : (Tables → Mach → List PlainFrame → PlainHere → PlainKind → Run) → Vm → Machine → Frame → Vm → Machine → Type 0
+EndsFrame f vm old frame vm' new =
+    (n : Tables) (touched : Source → Bool) → Agrees touched vm
+    → GoesOn n (f n (mach_of n touched vm old) (mach_of n touched vm old).rest.frames (seen_here n frame.here) (seen_kind n frame.kind)) vm' new
+
+-- What a frame waits for ends: with the frame popped, only registers change, whatever is kept.
+abbrev pub MovesFrame : (Tables → Mach → List PlainFrame → PlainHere → PlainKind → Run) → Machine → Frame → Machine → Type 0
+MovesFrame f old frame new =
+    (n : Tables) (st : State) → f n (mach_by n st old) (mach_by n st old).rest.frames (seen_here n frame.here) (seen_kind n frame.kind) ≡ going (mach_by n st new)
+
+-- The same with a call that was taken, in which the body is the present one.
+abbrev pub EndsCall : (Tables → Mach → List PlainFrame → PlainHere → PlainKind → Run) → Vm → Machine → Call → Vm → Machine → Type 0
+EndsCall f vm old call vm' new =
+    (n : Tables) (touched : Source → Bool) → Agrees touched vm
+    → GoesOn n (f n (mach_of n touched vm old) (mach_of n touched vm old).rest.frames (seen_here n old.here) (call_kind n call)) vm' new
+
+-- What was rendered with a state has this comment, where it has no node, and this is kept now.
+pub record Commented (n : Tables) (r : PlainCodes × State) (vm : Vm) (comment : Option Id) : Type 0 where
+  pub state : State
+  pub follows : Follows n state vm
+  pub is : commented r ≡ record { comment = stamp_of comment; codes = r.0; state = state }

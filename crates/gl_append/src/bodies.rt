@@ -34,7 +34,8 @@ fn step_copy(step: &PathStep) -> Result<PathStep, AllocError>
     })
 }
 
-fn path_copy(alloc: Global, path: &Path) -> Result<Path, AllocError>
+/// The same path.
+pub fn path_copy(alloc: Global, path: &Path) -> Result<Path, AllocError>
     ensures { IfOk result (λ p. path_view p ≡ path_view path.now) }
 {
     let mut steps = PathSteps::new(alloc);

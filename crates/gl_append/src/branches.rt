@@ -1,5 +1,5 @@
 // `if` and `unless`.
-ghost use Rattle.std.specs.Prelude.{◌≡◌, suc, not, IfOk, OnOk, if◌then◌else◌};
+ghost use Rattle.std.specs.Prelude.{◌≡◌, suc, not, is_none, IfOk, OnOk, if◌then◌else◌};
 ghost use Rattle.gl_value.specs.View.{view};
 ghost use Rattle.gl_value.specs.Value.{truthy};
 ghost use Rattle.gl_meaning.specs.Path as p;
@@ -7,13 +7,15 @@ ghost use Rattle.gl_meaning.specs.View.{path_view, path_step_view};
 ghost use Rattle.gl_machine.specs.Step as s;
 ghost use Rattle.gl_vm.specs.View.{Calm};
 ghost use Rattle.gl_append.specs.CodeView.{seen_choice};
-ghost use Rattle.gl_append.specs.MachineView.{seen_pushed};
+ghost use Rattle.gl_append.specs.MachineView.{mach_by, seen_pushed};
+ghost use Rattle.gl_append.specs.Stepping.{Stepped};
 ghost use Rattle.gl_append.specs.Steps.{Changes, Takes, branch_entered};
 
 use crate::bodies::below;
 use crate::code::{Choice, Spot};
 use crate::kept::position;
 use crate::machine::{Kind, Machine, Pushed};
+use crate::step::Next;
 use gl_meaning::{Path, PathStep};
 use gl_refs::{Ids, RefId};
 use gl_value::Value;
@@ -22,7 +24,7 @@ use std::alloc::AllocError;
 use std::mem;
 
 /// Whether the main body is shown for a value.
-fn takes(unless: bool, value: &Value) -> bool
+pub fn takes(unless: bool, value: &Value) -> bool
     ensures { result ≡ (if unless then not (truthy (view value.now)) else truthy (view value.now)) }
 {
     if unless {
@@ -32,19 +34,22 @@ fn takes(unless: bool, value: &Value) -> bool
     }
 }
 
-fn after(pc: u32) -> Result<u32, AllocError>
+/// The next address.
+pub fn after(pc: u32) -> Result<u32, AllocError>
     ensures { IfOk result (λ next. next ≡ suc pc) }
 {
     pc.checked_add(1).ok_or(AllocError)
 }
 
-fn chosen(main: bool, first: u32, second: u32) -> u32
+/// The address of the main body or of the other one.
+pub fn chosen(main: bool, first: u32, second: u32) -> u32
     ensures { result ≡ (if main then first else second) }
 {
     if main { first } else { second }
 }
 
-fn side(main: bool) -> PathStep
+/// The step to the main body or to the other one.
+pub fn side(main: bool) -> PathStep
     ensures { path_step_view result ≡ (if main then p.main else p.otherwise) }
 {
     if main { PathStep::Then } else { PathStep::Else }
@@ -97,5 +102,23 @@ impl Machine {
         let path = below(self.alloc, &path, side(main))?;
         let id = position(vm, ids)?;
         self.enter_branch(choice, id, main, path)
+    }
+
+    /// Whether no body is under way but the outermost.
+    pub fn is_outermost(&self) -> bool
+        ensures { (n : _) (st : _) → is_none (s.popped (mach_by n st self.now).rest.frames) ≡ result }
+    {
+        self.frames.as_slice().is_empty() && self.calls.as_slice().is_empty()
+    }
+
+    /// The first body of an `if` or an `each` ends: the other is passed over.
+    pub fn do_else(&mut self, behind: u32) -> Result<Next, AllocError>
+        ensures { IfOk result (λ r. (n : _) (vm : _) → Stepped n (λ m. s.else_at m behind (s.popped m.rest.frames)) vm self.old vm self.new r) }
+    {
+        if self.is_outermost() {
+            return Ok(Next::Finished);
+        }
+        self.pc = behind;
+        Ok(Next::Going)
     }
 }

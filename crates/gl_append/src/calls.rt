@@ -1,12 +1,11 @@
 // Words elsewhere that are run for the present place: getters, and the parts for which `...attributes` stands.
-ghost use Rattle.std.specs.Prelude.{◌≡◌, ◌++◌, ◌∷◌, [], IfOk, OnOk, suc, Some};
+ghost use Rattle.std.specs.Prelude.{◌≡◌, ◌++◌, ◌∷◌, [], IfOk, OnOk, suc, Some, true};
 ghost use Rattle.gl_machine.specs.Sight.{passing, passing_in};
-ghost use Rattle.gl_machine.specs.Mach.{going, in_getter};
 ghost use Rattle.gl_machine.specs.Step as s;
 ghost use Rattle.gl_vm.specs.View.{stamps};
 ghost use Rattle.gl_append.specs.View.{seen_sight};
 ghost use Rattle.gl_append.specs.MachineView.{mach_by, seen_back, seen_here};
-ghost use Rattle.gl_append.specs.Steps.{Moves, LeavesFor, GoesBack, PopsCall, mach_back};
+ghost use Rattle.gl_append.specs.Steps.{Moves, LeavesFor, GoesBack, PopsCall, EndsParts, mach_back};
 
 use crate::machine::{Back, Call, Machine};
 use crate::sight::{Sight, copied};
@@ -97,10 +96,28 @@ impl Machine {
         }
     }
 
-    /// A getter's words end.
-    pub fn end_getter(&mut self, back: Back)
-        ensures { (n : _) (st : _) (fs : _) → s.do_done (mach_by n st self.old) fs (seen_here n self.old.here) (in_getter (seen_back n back)) ≡ going (mach_back n st fs self.new) }
+    /// Behind the words of the parts for which `...attributes` stands it is gone on where that was. Tells whether these are
+    /// the words that were run.
+    pub fn end_parts(&mut self) -> Result<bool, AllocError>
+        ensures { IfOk result (EndsParts self.old self.new) }
     {
-        self.go_back(back);
+        match self.calls.as_slice().split_last() {
+            None => Ok(false),
+            Some((Call::Getter(_), _)) => Ok(false),
+            Some((Call::Each(_), _)) => Ok(false),
+            Some((Call::Parts(_), _)) => self.leave_parts(),
+        }
+    }
+
+    fn leave_parts(&mut self) -> Result<bool, AllocError>
+        ensures { IfOk result (λ b. (b ≡ true) × EndsParts self.old self.new b) }
+    {
+        match self.pop_call() {
+            Some(Call::Parts(back)) => {
+                self.go_back(back);
+                Ok(true)
+            }
+            _ => Err(AllocError),
+        }
     }
 }

@@ -1,5 +1,5 @@
 // The registers of the machine.
-use crate::code::{AttrSpot, Choice, Code, Codes, ItemSpot, Listing, Spot};
+use crate::code::{AttrSpot, Choice, Code, ItemCode, ItemSpot, Listing, Spot};
 use crate::sight::{Owner, Sight, Slot};
 use gl_arena::BlockId;
 use gl_meaning::Path;
@@ -43,12 +43,14 @@ pub struct Entry {
     pub index: u64,
 }
 
-/// An item that is rendered.
+/// An `each` with items: the address of its Item, the items that are left, the next one last, and those that are done.
 #[derive(Drop)]
-pub struct Item {
-    pub spot: ItemSpot,
-    pub comment: Option<NodeId>,
-    pub body: Codes,
+pub struct Iteration {
+    pub listing: Listing,
+    pub spot: Spot,
+    pub start: u32,
+    pub left: Vec<Entry>,
+    pub done: Vec<ItemCode>,
 }
 
 /// A part of a tag that waits for the tag's end.
@@ -88,20 +90,8 @@ pub enum Kind {
         pending: Ids,
         made: Ids,
     },
-    /// The items that are left, the next one last, and those that are done.
-    Each {
-        listing: Listing,
-        spot: Spot,
-        start: u32,
-        left: Vec<Entry>,
-        done: Vec<Item>,
-    },
     Item {
-        listing: Listing,
-        spot: Spot,
-        start: u32,
-        left: Vec<Entry>,
-        done: Vec<Item>,
+        iteration: Iteration,
         item: ItemSpot,
     },
     Other {
@@ -123,12 +113,13 @@ pub enum Kind {
     },
 }
 
-/// Words elsewhere that are run for the present place: a getter's, or those of the parts for which `...attributes`
-/// stands. No body begins in them.
+/// What stands above the frames, since the body stays the present one in it: words elsewhere that are run for the
+/// present place, a getter's or those of the parts for which `...attributes` stands, or an `each` between its items.
 #[derive(Drop)]
 pub enum Call {
     Getter(Back),
     Parts(Back),
+    Each(Iteration),
 }
 
 /// A body that was begun.

@@ -4,12 +4,12 @@ use Rattle.gl_base.specs.Answers.{◌>>=◌}
 use Rattle.gl_ast.specs.declared.token.Token.{Token}
 use Rattle.gl_exprs.specs.Fault.{Fails}
 use Rattle.gl_exprs.specs.Take.{Taken, read_many, with_front}
-use Rattle.gl_exprs.specs.declared.fault.ParseFault.{ParseFault}
-use Rattle.gl_exprs.specs.declared.fault.ParseFault.TheVariants as f
+use Rattle.gl_exprs.specs.declared.fault.Misread.{Misread}
+use Rattle.gl_exprs.specs.declared.fault.Misread.TheVariants as f
 
 -- where nothing can be read, more can't be read either
-pub fails_on : {A B : Type 0} (e : ParseFault) (read : Option A) (all : Option B) → (read ≡ None → all ≡ None) → Fails e read → Fails e all
-fails_on (f.NotInGrammar offset) read all h g = h g
+pub fails_on : {A B : Type 0} (e : Misread) (read : Option A) (all : Option B) → (read ≡ None → all ≡ None) → Fails e read → Fails e all
+fails_on f.NotSpelled read all h g = h g
 fails_on f.Memory read all h g = tt
 
 pub with_front_nil : {A B : Type 0} (read : Option (List A × B)) → with_front [] read ≡ read

@@ -8,7 +8,7 @@ ghost use Rattle.gl_base.specs.Texts.{is_ascii_text};
 ghost use Rattle.gl_exprs.specs.Fault.{Fails};
 ghost use Rattle.gl_exprs.specs.Take.{same_kind, stands, take_kind, stands_word, take_word};
 
-use crate::ParseFault;
+use crate::Misread;
 use gl_ast::{Str, Token, TokenKind};
 use std::marker::Model;
 
@@ -16,8 +16,6 @@ use std::marker::Model;
 #[derive(Drop)]
 pub struct Cursor<'a> {
     rest: &'a [Token],
-    // the text's length
-    end: u64,
 }
 
 impl<'a> Model for Cursor<'a> {
@@ -50,11 +48,11 @@ fn is_word(token: &Token, word: &str) -> bool
 }
 
 impl<'a> Cursor<'a> {
-    /// A cursor before these tokens of a text of so many bytes.
-    pub fn new(list: &'a [Token], end: u64) -> Cursor<'a>
+    /// A cursor before these tokens.
+    pub fn new(list: &'a [Token]) -> Cursor<'a>
         ensures { result ≡ list.now }
     {
-        Cursor { rest: list, end }
+        Cursor { rest: list }
     }
 
     /// Whether no token is left.
@@ -64,27 +62,13 @@ impl<'a> Cursor<'a> {
         self.rest.is_empty()
     }
 
-    /// The first byte of the next token, or the text's length where no token is left.
-    pub fn place(&self) -> u64 {
-        match self.rest.first() {
-            Some(token) => token.start,
-            None => self.end,
-        }
-    }
-
     /// A cursor after the next token, if there is one.
     pub fn ahead(&self) -> Cursor<'a>
         ensures { result ≡ drop 1 self.now }
     {
         match self.rest {
-            [] => Cursor {
-                rest: self.rest,
-                end: self.end,
-            },
-            [_, tail @ ..] => Cursor {
-                rest: tail,
-                end: self.end,
-            },
+            [] => Cursor { rest: self.rest },
+            [_, tail @ ..] => Cursor { rest: tail },
         }
     }
 
@@ -101,7 +85,7 @@ impl<'a> Cursor<'a> {
 
     /// Takes the next token, which is of this kind, and gives its text.
     #[tactic(auto, unfolding(crate::specs::Take::take_kind))]
-    pub fn take(&mut self, kind: TokenKind) -> Result<&'a Str, ParseFault>
+    pub fn take(&mut self, kind: TokenKind) -> Result<&'a Str, Misread>
         ensures { Gives Fails (λ t. (t.now, self.new)) result (take_kind kind self.old) }
     {
         match self.rest {
@@ -109,9 +93,7 @@ impl<'a> Cursor<'a> {
                 self.rest = tail;
                 Ok(&token.text)
             }
-            _ => Err(ParseFault::NotInGrammar {
-                offset: self.place(),
-            }),
+            _ => Err(Misread::NotSpelled),
         }
     }
 
@@ -129,7 +111,7 @@ impl<'a> Cursor<'a> {
 
     /// Takes the next token, which is a path that is this word of ASCII.
     #[tactic(auto, unfolding(crate::specs::Take::take_word))]
-    pub fn take_word(&mut self, word: &str) -> Result<(), ParseFault>
+    pub fn take_word(&mut self, word: &str) -> Result<(), Misread>
         requires { IsTrue (is_ascii_text word.now) }
         ensures { Gives Fails (λ _. self.new) result (take_word word.now self.old) }
     {
@@ -138,9 +120,7 @@ impl<'a> Cursor<'a> {
                 self.rest = tail;
                 Ok(())
             }
-            _ => Err(ParseFault::NotInGrammar {
-                offset: self.place(),
-            }),
+            _ => Err(Misread::NotSpelled),
         }
     }
 

@@ -6,7 +6,7 @@ ghost use Rattle.gl_ast.specs.View.{expr_view, named_view};
 ghost use Rattle.gl_exprs.specs.Fault.{Fails};
 ghost use Rattle.gl_exprs.specs.ReadExpr as read;
 
-use crate::ParseFault;
+use crate::Misread;
 use crate::cursor::Cursor;
 use crate::name::{name, stands_name};
 use crate::operand::operand;
@@ -46,7 +46,7 @@ fn starts_expr(tokens: &Cursor) -> bool
 /// An expression, where so many calls may nest.
 #[cycle(calls)]
 #[tactic(auto, unfolding(crate::specs::ReadExpr::read_expr))]
-pub fn expr(alloc: Global, tokens: &mut Cursor, calls: u32) -> Result<Expr, ParseFault>
+pub fn expr(alloc: Global, tokens: &mut Cursor, calls: u32) -> Result<Expr, Misread>
     ensures { Gives Fails (λ e. (expr_view e, tokens.new)) result (read.read_expr calls tokens.old) }
 {
     if calls == 0 || !tokens.stands(TokenKind::OpenParen) {
@@ -58,7 +58,7 @@ pub fn expr(alloc: Global, tokens: &mut Cursor, calls: u32) -> Result<Expr, Pars
 // A call in parentheses, in which so many calls may nest.
 #[cycle(calls)]
 #[tactic(auto, unfolding(crate::specs::ReadExpr::read_call))]
-fn call(alloc: Global, tokens: &mut Cursor, calls: u32) -> Result<Expr, ParseFault>
+fn call(alloc: Global, tokens: &mut Cursor, calls: u32) -> Result<Expr, Misread>
     ensures { Gives Fails (λ e. (expr_view e, tokens.new)) result (read.read_call (read.read_expr calls) tokens.old) }
 {
     let _ = tokens.take(TokenKind::OpenParen)?;
@@ -75,7 +75,7 @@ fn call(alloc: Global, tokens: &mut Cursor, calls: u32) -> Result<Expr, ParseFau
 /// Positional arguments, then named ones, as many as come next, in which so many calls may nest.
 #[cycle(calls)]
 #[tactic(auto, unfolding(crate::specs::ReadExpr::read_arguments))]
-pub fn arguments(alloc: Global, tokens: &mut Cursor, calls: u32) -> Result<Given, ParseFault>
+pub fn arguments(alloc: Global, tokens: &mut Cursor, calls: u32) -> Result<Given, Misread>
     ensures { Gives Fails (λ g. ((exprs_of g.args, named_of g.named), tokens.new)) result (read.read_arguments (read.read_expr calls) tokens.old) }
 {
     let args = exprs(alloc, tokens, calls)?;
@@ -85,7 +85,7 @@ pub fn arguments(alloc: Global, tokens: &mut Cursor, calls: u32) -> Result<Given
 
 /// Expressions one after another, as many as come next, in each of which so many calls may nest.
 #[cycle(calls)]
-pub fn exprs(alloc: Global, tokens: &mut Cursor, calls: u32) -> Result<Exprs, ParseFault>
+pub fn exprs(alloc: Global, tokens: &mut Cursor, calls: u32) -> Result<Exprs, Misread>
     ensures { Gives Fails (λ es. (es, tokens.new)) result (read.read_exprs (read.read_expr calls) (length tokens.old) tokens.old) }
 {
     let mut list = Exprs::new(alloc);
@@ -98,7 +98,7 @@ pub fn exprs(alloc: Global, tokens: &mut Cursor, calls: u32) -> Result<Exprs, Pa
 
 // Expressions, each after its name and `=`.
 #[cycle(calls)]
-fn pairs(alloc: Global, tokens: &mut Cursor, calls: u32) -> Result<Pairs, ParseFault>
+fn pairs(alloc: Global, tokens: &mut Cursor, calls: u32) -> Result<Pairs, Misread>
     ensures { Gives Fails (λ ns. (ns, tokens.new)) result (read.read_named (read.read_expr calls) (length tokens.old) tokens.old) }
 {
     let mut list = Pairs::new(alloc);
@@ -112,7 +112,7 @@ fn pairs(alloc: Global, tokens: &mut Cursor, calls: u32) -> Result<Pairs, ParseF
 // An expression after its name and `=`.
 #[cycle(calls)]
 #[tactic(auto, unfolding(crate::specs::ReadExpr::read_pair))]
-fn pair(alloc: Global, tokens: &mut Cursor, calls: u32) -> Result<NamedExpr, ParseFault>
+fn pair(alloc: Global, tokens: &mut Cursor, calls: u32) -> Result<NamedExpr, Misread>
     ensures { Gives Fails (λ p. (named_view p, tokens.new)) result (read.read_pair (read.read_expr calls) tokens.old) }
 {
     let name = name(alloc, tokens)?;
@@ -141,7 +141,7 @@ fn called(alloc: Global, name: Str, given: Given) -> Expr
 
 // A name with arguments, and no parentheses.
 #[tactic(auto, unfolding(crate::specs::ReadExpr::read_called))]
-fn read_called(alloc: Global, tokens: &mut Cursor) -> Result<Expr, ParseFault>
+fn read_called(alloc: Global, tokens: &mut Cursor) -> Result<Expr, Misread>
     ensures { Gives Fails (λ e. (expr_view e, tokens.new)) result (read.read_called tokens.old) }
 {
     let name = name(alloc, tokens)?;
@@ -151,7 +151,7 @@ fn read_called(alloc: Global, tokens: &mut Cursor) -> Result<Expr, ParseFault>
 
 // What stands in a mustache.
 #[tactic(auto, unfolding(crate::specs::ReadExpr::read_inner))]
-fn inner(alloc: Global, tokens: &mut Cursor) -> Result<Expr, ParseFault>
+fn inner(alloc: Global, tokens: &mut Cursor) -> Result<Expr, Misread>
     ensures { Gives Fails (λ e. (expr_view e, tokens.new)) result (read.read_inner tokens.old) }
 {
     if stands_name(tokens) {
@@ -163,7 +163,7 @@ fn inner(alloc: Global, tokens: &mut Cursor) -> Result<Expr, ParseFault>
 
 /// A mustache: `{{`, an expression or a name with arguments, `}}`.
 #[tactic(auto, unfolding(crate::specs::ReadExpr::read_mustache))]
-pub fn mustache(alloc: Global, tokens: &mut Cursor) -> Result<Expr, ParseFault>
+pub fn mustache(alloc: Global, tokens: &mut Cursor) -> Result<Expr, Misread>
     ensures { Gives Fails (λ e. (expr_view e, tokens.new)) result (read.read_mustache tokens.old) }
 {
     let _ = tokens.take(TokenKind::OpenMustache)?;

@@ -1,9 +1,8 @@
 // Why tokens spell no tree.
 ghost use Rattle.std.specs.Prelude.{◌≡◌};
-ghost use Rattle.gl_exprs.specs.Fault.{IsWithin, fault_of, is_memory};
+ghost use Rattle.gl_exprs.specs.declared.fault.Misread.TheVariants as misread;
 ghost use Rattle.gl_exprs.specs.declared.fault.ParseFault.TheVariants.{Memory};
 
-use gl_lex::LexFault;
 use std::alloc::{AllocError, AllocFailed};
 use thiserror::Error;
 
@@ -32,26 +31,25 @@ impl<T: Drop> From<AllocFailed<T>> for ParseFault {
     }
 }
 
-impl From<LexFault> for ParseFault {
-    ghost from_gives = { λ f e. e ≡ fault_of f };
+/// Why nothing is read of tokens: what is wanted isn't spelled there; or memory is wanting.
+#[derive(Clone, Copy, Debug, PartialEq, Eq)]
+pub enum Misread {
+    NotSpelled,
+    Memory,
+}
 
-    fn from(fault: LexFault) -> Self {
-        match fault {
-            LexFault::NoToken { offset } => ParseFault::NotInGrammar { offset },
-            LexFault::Memory => ParseFault::Memory,
-        }
+impl From<AllocError> for Misread {
+    ghost from_gives = { λ _ e. e ≡ misread.Memory };
+
+    fn from(_: AllocError) -> Self {
+        Misread::Memory
     }
 }
 
-/// The same fault, at most so many bytes from the start.
-pub fn at_most(fault: ParseFault, limit: u64) -> ParseFault
-    ensures cause { is_memory result ≡ is_memory fault }
-    ensures within { IsWithin limit result }
-{
-    match fault {
-        ParseFault::NotInGrammar { offset } => ParseFault::NotInGrammar {
-            offset: offset.min(limit),
-        },
-        ParseFault::Memory => ParseFault::Memory,
+impl<T: Drop> From<AllocFailed<T>> for Misread {
+    ghost from_gives = { λ _ e. e ≡ misread.Memory };
+
+    fn from(_: AllocFailed<T>) -> Self {
+        Misread::Memory
     }
 }

@@ -9,12 +9,12 @@ mod fault;
 pub mod laws;
 pub mod name;
 mod number;
-mod operand;
+pub mod operand;
 mod path;
 mod scan;
 pub mod words;
 
 pub use cursor::Cursor;
 pub use decode::decoded;
-pub use fault::{ParseFault, at_most};
+pub use fault::{Misread, ParseFault};
 pub use scan::Scan;

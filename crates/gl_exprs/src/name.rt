@@ -11,7 +11,7 @@ ghost use Rattle.gl_exprs.specs.Fault.{Fails};
 ghost use Rattle.gl_exprs.specs.Pieces.{ascii_words};
 ghost use Rattle.gl_exprs.specs.ReadExpr as read;
 
-use crate::ParseFault;
+use crate::Misread;
 use crate::cursor::Cursor;
 use crate::scan::Scan;
 use gl_ast::{Str, Token, TokenKind};
@@ -82,8 +82,8 @@ pub fn is_argument(name: &Str) -> bool
     }
 }
 
-// Whether a path is one name that is not reserved.
-fn is_lone(raw: &Str) -> bool
+/// Whether a path is one name that is not reserved.
+pub fn is_lone(raw: &Str) -> bool
     ensures { result ≡ read.is_lone raw.now }
 {
     !has_dot(raw) && !is_argument(raw) && !is_reserved(raw)
@@ -102,13 +102,12 @@ pub(crate) fn stands_name(tokens: &Cursor) -> bool
 
 /// Takes the next token, which is a path of one name that is not reserved, and gives the name.
 #[tactic(auto, unfolding(crate::specs::ReadExpr::read_name))]
-pub fn name(alloc: Global, tokens: &mut Cursor) -> Result<Str, ParseFault>
+pub fn name(alloc: Global, tokens: &mut Cursor) -> Result<Str, Misread>
     ensures { Gives Fails (λ n. (n, tokens.new)) result (read.read_name tokens.old) }
 {
-    let offset = tokens.place();
     let raw = tokens.take(TokenKind::Path)?;
     if !is_lone(raw) {
-        return Err(ParseFault::NotInGrammar { offset });
+        return Err(Misread::NotSpelled);
     }
     Ok(raw.copy()?)
 }

@@ -1,19 +1,19 @@
 // Expressions of one token.
-ghost use Rattle.std.specs.Prelude.{◌≡◌, ◌∷◌, option_map};
+ghost use Rattle.std.specs.Prelude.{◌≡◌, ◌∷◌, IfOk, is_some, option_map};
 ghost use Rattle.gl_base.specs.Answers.{Gives};
 ghost use Rattle.gl_ast.specs.View.{expr_view, lit_view};
 ghost use Rattle.gl_ast.specs.TokenText.{names_of};
 ghost use Rattle.gl_exprs.specs.Fault.{Fails};
 ghost use Rattle.gl_exprs.specs.ReadExpr as read;
 
-use crate::ParseFault;
+use crate::Misread;
 use crate::cursor::Cursor;
 use crate::name::{is_argument, is_reserved, is_text};
 use crate::number::whole_of;
 use crate::path::{Path, names_of};
 use crate::words::{string_of, without_first};
 use gl_ast::{Expr, Lit, Names, Str, Token, TokenKind};
-use std::alloc::Global;
+use std::alloc::{AllocError, Global};
 
 // The constant that a word stands for.
 #[tactic(auto, unfolding(crate::specs::ReadExpr::constant_of))]
@@ -34,12 +34,12 @@ fn constant_of(name: &Str) -> Option<Lit>
 }
 
 // The path of these names after `this`.
-fn this_path(rest: Names, offset: u64) -> Result<Expr, ParseFault>
+fn this_path(rest: Names) -> Result<Expr, Misread>
     ensures { Gives Fails expr_view result (read.this_path rest) }
 {
     let mut list = rest.into_vec();
     if list.is_empty() {
-        return Err(ParseFault::NotInGrammar { offset });
+        return Err(Misread::NotSpelled);
     }
     let member = list.remove(0);
     Ok(Expr::This {
@@ -49,21 +49,21 @@ fn this_path(rest: Names, offset: u64) -> Result<Expr, ParseFault>
 }
 
 // The constant of a word that no names follow.
-fn constant_path(name: &Str, rest: &Names, offset: u64) -> Result<Expr, ParseFault>
+fn constant_path(name: &Str, rest: &Names) -> Result<Expr, Misread>
     ensures { Gives Fails expr_view result (read.constant_path name.now rest.now) }
 {
     if rest.len() != 0 {
-        return Err(ParseFault::NotInGrammar { offset });
+        return Err(Misread::NotSpelled);
     }
     match constant_of(name) {
         Some(lit) => Ok(Expr::Lit(lit)),
-        None => Err(ParseFault::NotInGrammar { offset }),
+        None => Err(Misread::NotSpelled),
     }
 }
 
 // The expression that a path's names are.
 #[tactic(auto, unfolding(crate::specs::ReadExpr::path_expr))]
-fn path_expr(alloc: Global, path: Path, offset: u64) -> Result<Expr, ParseFault>
+fn path_expr(alloc: Global, path: Path) -> Result<Expr, Misread>
     ensures { Gives Fails expr_view result (read.path_expr (path.head ∷ path.rest)) }
 {
     let Path { head, rest } = path;
@@ -74,25 +74,25 @@ fn path_expr(alloc: Global, path: Path, offset: u64) -> Result<Expr, ParseFault>
         });
     }
     if is_text(&head, "this") {
-        return this_path(rest, offset);
+        return this_path(rest);
     }
     if is_reserved(&head) {
-        return constant_path(&head, &rest, offset);
+        return constant_path(&head, &rest);
     }
     Ok(Expr::Bare { name: head, rest })
 }
 
 // The expression that a path is.
-fn whole_path(alloc: Global, token: &Token) -> Result<Expr, ParseFault>
+fn whole_path(alloc: Global, token: &Token) -> Result<Expr, Misread>
     ensures { Gives Fails expr_view result (read.path_expr (names_of token.now.text)) }
 {
     let path = names_of(alloc, &token.text)?;
-    path_expr(alloc, path, token.start)
+    path_expr(alloc, path)
 }
 
 // The expression that one token is.
 #[tactic(auto, unfolding(crate::specs::ReadExpr::token_expr))]
-fn token_expr(alloc: Global, token: &Token) -> Result<Expr, ParseFault>
+fn token_expr(alloc: Global, token: &Token) -> Result<Expr, Misread>
     ensures { Gives Fails expr_view result (read.token_expr token.now.kind token.now.text) }
 {
     if token.kind == TokenKind::Path {
@@ -100,22 +100,29 @@ fn token_expr(alloc: Global, token: &Token) -> Result<Expr, ParseFault>
     } else if token.kind == TokenKind::Number {
         match whole_of(&token.text) {
             Some(number) => Ok(Expr::Lit(Lit::Int(number))),
-            None => Err(ParseFault::NotInGrammar {
-                offset: token.start,
-            }),
+            None => Err(Misread::NotSpelled),
         }
     } else if token.kind == TokenKind::StringLit {
         Ok(Expr::Lit(Lit::Str(string_of(alloc, &token.text)?)))
     } else {
-        Err(ParseFault::NotInGrammar {
-            offset: token.start,
-        })
+        Err(Misread::NotSpelled)
+    }
+}
+
+/// Whether the token is an expression.
+pub fn is_operand(alloc: Global, token: &Token) -> Result<bool, AllocError>
+    ensures { IfOk result (λ b. b ≡ is_some (read.token_expr token.now.kind token.now.text)) }
+{
+    match token_expr(alloc, token) {
+        Ok(_) => Ok(true),
+        Err(Misread::NotSpelled) => Ok(false),
+        Err(Misread::Memory) => Err(AllocError),
     }
 }
 
 /// An expression of one token.
 #[tactic(auto, unfolding(crate::specs::ReadExpr::read_token))]
-pub fn operand(alloc: Global, tokens: &mut Cursor) -> Result<Expr, ParseFault>
+pub fn operand(alloc: Global, tokens: &mut Cursor) -> Result<Expr, Misread>
     ensures { Gives Fails (λ e. (expr_view e, tokens.new)) result (read.read_token tokens.old) }
 {
     match tokens.first() {
@@ -123,8 +130,6 @@ pub fn operand(alloc: Global, tokens: &mut Cursor) -> Result<Expr, ParseFault>
             *tokens = tokens.ahead();
             token_expr(alloc, token)
         }
-        None => Err(ParseFault::NotInGrammar {
-            offset: tokens.place(),
-        }),
+        None => Err(Misread::NotSpelled),
     }
 }

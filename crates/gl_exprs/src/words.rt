@@ -116,12 +116,12 @@ fn ends_tag_name(c: char) -> bool
     is_white(c) || c == '>'
 }
 
-/// Whether the text of an end tag has this name.
-pub fn is_end_of(tag: &Str, name: &Str) -> bool
+/// Whether the text of an end tag has the name that these characters are.
+pub fn is_end_of(tag: &Str, name: &Scan) -> bool
     ensures { result ≡ bytes_eq (text.end_name_of tag.now) name.now }
 {
     let mut rest = Scan::new(tag);
-    let mut want = Scan::new(name);
+    let mut want = name.copy();
     skip_two(&mut rest);
     while let Some(c) = rest.next() {
         if ends_tag_name(c) {

@@ -1,4 +1,7 @@
+pub mod Begun
 pub mod Class
 pub mod Clear
 pub mod Fault
 pub mod Found
+pub mod Front
+pub mod Stops

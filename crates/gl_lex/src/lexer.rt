@@ -3,44 +3,86 @@ ghost use Rattle.std.specs.Prelude.{◌≡◌, ◌≤◌, ◌+◌, ◌++◌, ◌
 ghost use Rattle.std.specs.Str.{chars, IsCharBoundary};
 ghost use Rattle.gl_base.specs.Answers.{Gives};
 ghost use Rattle.gl_ast.specs.Modes.{skips_white};
-ghost use Rattle.gl_ast.specs.TokenReading.{read_from, stands_white, template_tokens, lone_tokens};
+ghost use Rattle.gl_ast.specs.declared.mode.Mode.TheVariants as m;
+ghost use Rattle.gl_ast.specs.TokenReading.{stands_white, template_tokens, lone_tokens};
 ghost use Rattle.gl_ast.specs.Spans.{Spans};
 ghost use Rattle.gl_ast.specs.Tokens.{IsTokens, IsLoneTokens};
 ghost use Rattle.gl_lex.specs.Fault.{Fails, IsWithin, Tells};
+ghost use Rattle.gl_lex.specs.Front.{front_from, stop_at};
+ghost use Rattle.gl_lex.specs.Stops.{GivesFront, NamesStop};
 
+use crate::begun::is_begun;
 use crate::class::is_white;
 use crate::fault::LexFault;
 use crate::modes::{skips_white, spaced, token};
 use gl_ast::{Mode, Str, Token, TokenKind, Tokens};
 use std::alloc::{AllocError, Global};
 
+/// The tokens of a text up to where none stands.
+#[derive(Drop)]
+pub struct Front {
+    /// They, in order.
+    pub tokens: Tokens,
+    /// The first place where no token stands, counted in bytes from 0, if there is one. It is the text's length where
+    /// the bytes from there on would be a token with more bytes after them.
+    pub stop: Option<u64>,
+}
+
 /// The tokens of a template: at each place the longest that may stand there, with the slice of its span. `NoToken`
-/// exactly where the text has no such reading; its offset counts bytes, and is at most the length of the text.
+/// exactly where the text has no such reading. Its offset counts bytes: it is that of the first place where no token
+/// stands, or the text's length where the bytes from there on are the beginning of a token.
 #[tactic(auto, unfolding(gl_ast::specs::TokenReading::template_tokens))]
 pub fn tokens(alloc: Global, text: &str) -> Result<Tokens, LexFault>
     ensures reading { Tells (IsTokens text.now) result }
     ensures spans { IfOk result (Spans text.now 0) }
     ensures value { Gives Fails (λ list. list) result (template_tokens text.now) }
+    ensures place { IfErr result (NamesStop m.Content text.now) }
     ensures within { IfErr result (IsWithin (length text.now)) }
 {
-    read(alloc, Mode::Content, text)
+    let front = read(alloc, Mode::Content, text)?;
+    whole(front)
 }
 
-/// The tokens of an expression that stands alone: those of a mustache, without its end.
+/// The tokens of an expression that stands alone: those of a mustache, without its end. `NoToken` as for a template.
 #[tactic(auto, unfolding(gl_ast::specs::TokenReading::lone_tokens))]
 pub fn expression_tokens(alloc: Global, text: &str) -> Result<Tokens, LexFault>
     ensures reading { Tells (IsLoneTokens text.now) result }
     ensures spans { IfOk result (Spans text.now 0) }
     ensures value { Gives Fails (λ list. list) result (lone_tokens text.now) }
+    ensures place { IfErr result (NamesStop m.Expression text.now) }
     ensures within { IfErr result (IsWithin (length text.now)) }
+{
+    let front = read(alloc, Mode::Expression, text)?;
+    whole(front)
+}
+
+/// The tokens of a template up to where none stands.
+pub fn template_front(alloc: Global, text: &str) -> Result<Front, AllocError>
+    ensures { IfOk result (λ f. (f.tokens, f.stop) ≡ front_from m.Content 0 0 text.now) }
+{
+    read(alloc, Mode::Content, text)
+}
+
+/// The tokens of an expression that stands alone, up to where none stands.
+pub fn expression_front(alloc: Global, text: &str) -> Result<Front, AllocError>
+    ensures { IfOk result (λ f. (f.tokens, f.stop) ≡ front_from m.Expression 0 0 text.now) }
 {
     read(alloc, Mode::Expression, text)
 }
 
-// The tokens of a text that begins in this mode.
-fn read(alloc: Global, mode: Mode, text: &str) -> Result<Tokens, LexFault>
-    ensures value { Gives Fails (λ list. list) result (read_from mode 0 0 text.now) }
-    ensures within { IfErr result (IsWithin (length text.now)) }
+// All tokens, where one stands at each place.
+fn whole(front: Front) -> Result<Tokens, LexFault>
+    ensures { GivesFront (front.tokens, front.stop) result }
+{
+    match front.stop {
+        None => Ok(front.tokens),
+        Some(offset) => Err(LexFault::NoToken { offset }),
+    }
+}
+
+// The tokens of a text that begins in this mode, up to where none stands.
+fn read(alloc: Global, mode: Mode, text: &str) -> Result<Front, AllocError>
+    ensures { IfOk result (λ f. (f.tokens, f.stop) ≡ front_from mode 0 0 text.now) }
 {
     let mut tokens = Tokens::new(alloc);
     let mut mode = mode;
@@ -56,7 +98,10 @@ fn read(alloc: Global, mode: Mode, text: &str) -> Result<Tokens, LexFault>
             at += 1;
         } else {
             match token(mode, bytes, &mut clear) {
-                None => return Err(LexFault::NoToken { offset: at as u64 }),
+                None => {
+                    let stop = Some(stop_at(mode, at, bytes));
+                    return Ok(Front { tokens, stop });
+                }
                 Some(found) => {
                     let width = rest.len() - found.rest.len();
                     let (front, left) = rest.split_at(width);
@@ -68,7 +113,18 @@ fn read(alloc: Global, mode: Mode, text: &str) -> Result<Tokens, LexFault>
             }
         }
     }
-    Ok(tokens)
+    Ok(Front { tokens, stop: None })
+}
+
+// The place that is told where no token stands at these bytes.
+fn stop_at(mode: Mode, at: usize, bytes: &[u8]) -> u64
+    requires { at + length bytes.now < 2 ^ 64 }
+    ensures { result ≡ stop_at mode at bytes.now }
+{
+    if is_begun(mode, bytes) {
+        return (at + bytes.len()) as u64;
+    }
+    at as u64
 }
 
 // Whether white space between tokens stands at the front.

@@ -1,6 +1,7 @@
 //! The tokens of a template.
 #![tactic(auto)]
 
+mod begun;
 mod class;
 mod fault;
 mod found;
@@ -14,4 +15,4 @@ mod sign;
 mod words;
 
 pub use fault::LexFault;
-pub use lexer::{expression_tokens, tokens};
+pub use lexer::{Front, expression_front, expression_tokens, template_front, tokens};

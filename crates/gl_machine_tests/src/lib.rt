@@ -1,5 +1,5 @@
-//! Tests of ids, of the tree of nodes, its lines, keyed lists, tags and scopes, and of the steps of what the machine
-//! keeps, as callers meet them.
+//! Tests of ids, of the tree of nodes, its lines, keyed lists, tags, references and scopes, and of the steps of what
+//! the machine keeps, as callers meet them.
 //!
 //! They stand above the crates that they test, so that a check of them proves the tests alone.
 #![tactic(auto)]
@@ -13,7 +13,11 @@ mod nodes;
 #[cfg(test)]
 mod print;
 #[cfg(test)]
+mod refs;
+#[cfg(test)]
 mod scope;
+#[cfg(test)]
+mod standing;
 #[cfg(test)]
 mod tags;
 #[cfg(test)]

@@ -3,7 +3,7 @@ ghost use Rattle.std.specs.Prelude.{◌≡◌, [], IfOk, OnOk, OnErr, IsSome, So
 ghost use Rattle.std.specs.Str.{chars};
 ghost use Rattle.gl_arena.specs.Arena.{named as named_in};
 ghost use Rattle.gl_mods.specs.Mods as m;
-ghost use Rattle.gl_mods.specs.Mods.{mods_on, listeners, Installs, IsSame, Refreshes, Drops, IsSound};
+ghost use Rattle.gl_mods.specs.Mods.{mods_on, ids_on, listeners, Installs, IsSame, Refreshes, Drops, IsSound};
 ghost use Rattle.gl_mods.specs.View.{seen_installed};
 
 use crate::listening::called_by;
@@ -135,6 +135,16 @@ impl Mods {
         match self.lists.get(&node) {
             Some(ids) => called_by(&self.table, self.alloc, ids.as_slice(), event),
             None => Ok(Acts::new(self.alloc)),
+        }
+    }
+
+    /// The ids of a node's modifiers, in the order of their installs.
+    pub fn on_node(&self, node: Id<NodeMark>) -> &[ModId]
+        ensures { result.now ≡ ids_on self.now node }
+    {
+        match self.lists.get(&node) {
+            Some(ids) => ids.as_slice(),
+            None => &[],
         }
     }
 

@@ -97,18 +97,18 @@ unfolding app hit
 all_refs = refl
 
 -- all references that are there are numbered
-all_numbered : (r : ℕ) → r < 10 → NumberedThing r (by_numbers.1.look (ref r))
+all_numbered : (r : ℕ) → r < 10 → NumberedThing 10 r (by_numbers.1.look (ref r))
 unfolding app hit
-all_numbered zero lt = (tt, tt, λ t u e. refl)
-all_numbered (suc zero) lt = (tt, refl, λ t u e. refl)
-all_numbered (suc (suc zero)) lt = ((omega arith, tt), tt, λ t u e. ap (λ b. b || false) (e 1 (omega arith)))
-all_numbered (suc (suc (suc zero))) lt = (tt, refl, λ t u e. refl)
-all_numbered (suc (suc (suc (suc zero)))) lt = (tt, refl, λ t u e. refl)
-all_numbered (suc (suc (suc (suc (suc zero))))) lt = ((omega arith, tt), tt, λ t u e. ap (λ b. b || false) (e 3 (omega arith)))
-all_numbered (suc (suc (suc (suc (suc (suc zero)))))) lt = (tt, refl, λ t u e. refl)
-all_numbered (suc (suc (suc (suc (suc (suc (suc zero))))))) lt = (tt, refl, λ t u e. refl)
-all_numbered (suc (suc (suc (suc (suc (suc (suc (suc zero)))))))) lt = ((omega arith, tt), tt, λ t u e. ap (λ b. b || false) (e 6 (omega arith)))
-all_numbered (suc (suc (suc (suc (suc (suc (suc (suc (suc zero))))))))) lt = ((omega arith, tt), tt, λ t u e. refl)
+all_numbered zero lt = (tt, λ t u e. refl)
+all_numbered (suc zero) lt = ((refl, omega arith), λ t u e. refl)
+all_numbered (suc (suc zero)) lt = (tt, λ t u e. ap (λ b. b || false) (e 1 (omega arith)))
+all_numbered (suc (suc (suc zero))) lt = ((refl, omega arith), λ t u e. refl)
+all_numbered (suc (suc (suc (suc zero)))) lt = ((refl, omega arith), λ t u e. refl)
+all_numbered (suc (suc (suc (suc (suc zero))))) lt = (tt, λ t u e. ap (λ b. b || false) (e 3 (omega arith)))
+all_numbered (suc (suc (suc (suc (suc (suc zero)))))) lt = ((refl, omega arith), λ t u e. refl)
+all_numbered (suc (suc (suc (suc (suc (suc (suc zero))))))) lt = ((refl, omega arith), λ t u e. refl)
+all_numbered (suc (suc (suc (suc (suc (suc (suc (suc zero)))))))) lt = (tt, λ t u e. ap (λ b. b || false) (e 6 (omega arith)))
+all_numbered (suc (suc (suc (suc (suc (suc (suc (suc (suc zero))))))))) lt = (tt, λ t u e. refl)
 all_numbered (suc (suc (suc (suc (suc (suc (suc (suc (suc (suc n)))))))))) lt = absurd (omega (arith, lt))
 
 -- The list becomes ["b", "c"].

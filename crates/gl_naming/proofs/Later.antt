@@ -1,5 +1,5 @@
 -- What appending by numbers leaves as it was: all that was there, which old sources are touched, and which old modifiers are listed.
-use Rattle.std.proofs.Common.{◌≡◌, ◌≢◌, ◌<◌, ◌≤◌, ℕ, zero, suc, List, [], ◌∷◌, ◌++◌, map, Bool, true, false, ◌||◌, ◌&&◌, Option, Some, None, cond, refl, ◌∙◌, ap, arith, inl, inr, ◌⊎◌}
+use Rattle.std.proofs.Common.{◌≡◌, ◌≢◌, ◌<◌, ◌≤◌, ℕ, zero, suc, List, [], ◌∷◌, ◌++◌, map, Bool, true, false, ◌||◌, ◌&&◌, Option, Some, None, cond, refl, sym, ◌∙◌, ap, subst, arith, inl, inr, ◌⊎◌}
 use Rattle.std.specs.Prelude.{if◌then◌else◌, nat_eq}
 use Rattle.std.proofs.lemmas.Bool.Decides.{eqb_tells}
 use Rattle.gl_base.specs.Texts.{Text}
@@ -9,12 +9,12 @@ use Rattle.gl_ast.specs.Template as t
 use Rattle.gl_ast.specs.Template.{Expr, Exprs, NamedExprs, AttrValue, Part, Plain, no_exprs, expr}
 use Rattle.gl_meaning.specs.App.{App}
 use Rattle.gl_meaning.specs.Path.{at, main, otherwise, items, item, into, slot, Path, V}
-use Rattle.gl_meaning.specs.Scope.{Source, Pair}
+use Rattle.gl_meaning.specs.Scope.{sources_of}
 use Rattle.gl_meaning.specs.Eval.{Store, class_at, cell_value, Member, field_member, getter_member, action_member, member_of, takes_first}
 use Rattle.gl_meaning.specs.Parts.{Written, attribute_value}
 use Rattle.gl_meaning.specs.Render.{Entry, entries, values_listed, Block, block_named}
-use Rattle.gl_plain.specs.Ids.{a_ref, a_node, a_block, an_instance, a_modifier, Kind, Id, ref, modifier_id, block_id}
-use Rattle.gl_plain.specs.State.{Form, constant_form, property_form, call_form, joined_form, source_form, MScope, mscope, MPassed, mnothing, mpassed, Inst, Names, inst_of, args_of, locals_in, own, any_of, row, content, instance_row, block_row, Content, text_content, comment_content, element_content, with_names, Thing, State, source_eq, make, note_evaluated, note_installed}
+use Rattle.gl_plain.specs.Ids.{a_ref, a_node, a_block, an_instance, a_modifier, Kind, kind_eq, Id, ref, modifier_id, block_id}
+use Rattle.gl_plain.specs.State.{Form, constant_form, property_form, call_form, joined_form, source_form, MScope, mscope, MPassed, mnothing, mpassed, Inst, Names, inst_of, args_of, locals_in, own, any_of, row, content, instance_row, block_row, Content, text_content, comment_content, element_content, with_names, Thing, State, source_eq, make, note_evaluated, note_installed, all_form}
 use Rattle.gl_plain.specs.Naming.{by_number, made_source}
 use Rattle.gl_plain.specs.Binding.{Bound, BoundAll, made_row, old_ref, after_made, bind_along, bind_found, bind_bare, bind_member_as, bind_in_as, bind_all_in_as, bind_named_in_as, bind_deep_as, getters_in, bind_expr_as, bind_exprs_as, bind_pairs_as, bind_value_as, bind_args_as, bind_params, Spot, place, first_value}
 use Rattle.gl_plain.specs.Parts.{mwritten_parts}
@@ -22,16 +22,18 @@ use Rattle.gl_plain.specs.Tags.{bind_part_as, bind_written_as, Given, fixed_give
 use Rattle.gl_plain.specs.Live.{item_names, Live, Lives, Items, have_node}
 use Rattle.gl_plain.specs.Grow.{made_node, Arm, or_comment, ItemGrown, item_spot_as, grow_item_as, grow_entries, branch_from, items_or_else, GrowComponents, GrowYields, grow_block, grow_stmt_as, grow_body_as, grow_yields_as, grow_cells_as, grow_components_as}
 use Rattle.gl_plain.proofs.Moves.{make_more, unhit, hit_num}
-use Rattle.gl_naming.specs.Numbered.{number, NoneCounted, Unlisted}
+use Rattle.gl_naming.specs.Numbered.{number, OwnSource, NumberedThing, NoneCounted, Unlisted}
+use Rattle.gl_naming.proofs.Low.{Whole, numbered_more, last_more, low_last, low_pairs}
 
 pub record Later (st st' : State) : Type 0 where
   pub more : (q : Id) → st.next q.kind ≤ st'.next q.kind
   pub rows : (q : Id) → q.num < st.next q.kind → st'.look q ≡ st.look q
   pub warm : (k : ℕ) → k < st.next a_ref → st'.touched (number k) ≡ st.touched (number k)
   pub lists : (c : Id → ℕ) → ((q : Id) → st.next q.kind ≤ q.num → c q ≡ 0) → Unlisted c st → Unlisted c st'
+  pub own : Whole st → Whole st'
 
 pub later_all : (st : State) → Later st st
-later_all st = record { more = λ q. omega arith; rows = λ q lt. refl; warm = λ k lt. refl; lists = λ c o u. u }
+later_all st = record { more = λ q. omega arith; rows = λ q lt. refl; warm = λ k lt. refl; lists = λ c o u. u; own = λ w. w }
 
 pub later_then : (st st1 st2 : State) → Later st st1 → Later st1 st2 → Later st st2
 later_then st st1 st2 h g = record {
@@ -39,23 +41,40 @@ later_then st st1 st2 h g = record {
   rows = λ q lt. g.rows q (let i = h.more q in omega (arith, i, lt)) ∙ h.rows q lt;
   warm = λ k lt. g.warm k (let i = h.more (ref 0) in omega (arith, i, lt)) ∙ h.warm k lt;
   lists = λ c o u. g.lists c (λ q le. o q (let i = h.more q in omega (arith, i, le))) (h.lists c o u);
+  own = λ w. g.own (h.own w);
 }
 
-pub later_make : (k : Kind) (x : Thing) (st : State) → Later st (make k x st)
-later_make k x st = record {
+-- a thing is made
+made_later : (k : Kind) (x : Thing) (st : State) → (Whole st → Whole (make k x st)) → Later st (make k x st)
+made_later k x st own = record {
   more = make_more k x st;
   rows = λ q lt.
       let new : Id = record { kind = k; num = st.next k } in
       ap (λ b. if b then Some x else st.look q) (unhit q new (hit_num q new (λ e f. let i : st.next q.kind ≡ st.next k = ap st.next e in omega (arith, lt, i, f))));
   warm = λ j lt. refl;
   lists = λ c o u. u;
+  own = own;
 }
 
-later_row : (x : Form) (st : State) → Later st (made_row x st)
-later_row x st = later_make a_ref (row (record { form = x; last = any_of [] })) st
+-- of another kind than references
+pub later_make : (k : Kind) (x : Thing) (st : State) → kind_eq a_ref k ≡ false → Later st (make k x st)
+later_make k x st other = made_later k x st (λ w r. subst (λ b. NumberedThing (if b then suc (st.next k) else st.next a_ref) r (if b && nat_eq r (st.next k) then Some x else st.look (ref r))) (sym other) (w r))
 
-more_row : (x : Form) (st st' : State) → Later st st' → Later st (made_row x st')
-more_row x st st' h = later_then st st' (made_row x st') h (later_row x st')
+-- a reference
+ref_later : (x : Thing) (st : State) → (Whole st → NumberedThing (suc (st.next a_ref)) (st.next a_ref) (Some x)) → Later st (make a_ref x st)
+ref_later x st fits = made_later a_ref x st (λ w r. by r (w r) (fits w) (eqb_tells r (st.next a_ref))) where
+  by : (r : ℕ) → NumberedThing (st.next a_ref) r (st.look (ref r)) → NumberedThing (suc (st.next a_ref)) (st.next a_ref) (Some x)
+      → ((nat_eq r (st.next a_ref) ≡ true) × (r ≡ st.next a_ref)) ⊎ ((nat_eq r (st.next a_ref) ≡ false) × (r ≢ st.next a_ref))
+      → NumberedThing (suc (st.next a_ref)) r (if nat_eq r (st.next a_ref) then Some x else st.look (ref r))
+  by r h k (inl e) = subst (λ b. NumberedThing (suc (st.next a_ref)) r (if b then Some x else st.look (ref r))) (sym e.0) (subst (λ i. NumberedThing (suc (st.next a_ref)) i (Some x)) (sym e.1) k)
+  by r h k (inr e) =
+      subst (λ b. NumberedThing (suc (st.next a_ref)) r (if b then Some x else st.look (ref r))) (sym e.0) (numbered_more (st.next a_ref) (suc (st.next a_ref)) r (omega arith) (st.look (ref r)) h)
+
+later_row : (x : Form) (st : State) → OwnSource (suc (st.next a_ref)) (st.next a_ref) x → Later st (made_row x st)
+later_row x st o = ref_later (row (record { form = x; last = any_of [] })) st (λ w. (o, λ t u e. refl))
+
+more_row : (x : Form) (st st' : State) → OwnSource (suc (st'.next a_ref)) (st'.next a_ref) x → Later st st' → Later st (made_row x st')
+more_row x st st' o h = later_then st st' (made_row x st') h (later_row x st' o)
 
 -- another source isn't that of the number
 pub other_number : (k r : ℕ) → k ≢ r → source_eq (number k) (number r) ≡ false
@@ -64,45 +83,46 @@ other_number k r ne = by (eqb_tells k r) where
   by (inl e) = absurd (ne e.1)
   by (inr e) = ap (λ b. b && true) e.0
 
-later_source : (v : V) (st : State) → Later st (made_source by_number (number (st.next a_ref)) v st)
-later_source v st = let h = later_row (source_form (number (st.next a_ref)) v) st in record {
+pub later_source : (v : V) (st : State) → Later st (made_source by_number (number (st.next a_ref)) v st)
+later_source v st = let h = later_row (source_form (number (st.next a_ref)) v) st (refl, omega arith) in record {
   more = h.more;
   rows = h.rows;
   warm = λ k lt. ap (λ b. b || st.touched (number k)) (other_number k (st.next a_ref) (λ e. omega (arith, lt, e)));
   lists = h.lists;
+  own = h.own;
 }
 
 -- Expressions
 
 along_later : (ks : List Text) (st : State) (b : Bound) → Later st b.state → Later st (bind_along ks b).state
 along_later [] st b h = h
-along_later (k ∷ ks) st b h = along_later ks st (after_made b.made (property_form b.id k) b.state) (more_row (property_form b.id k) st b.state h)
+along_later (k ∷ ks) st b h = along_later ks st (after_made b.made (property_form b.id k) b.state) (more_row (property_form b.id k) st b.state tt h)
 
 found_later : (o : Option ℕ) (st : State) → Later st (bind_found o st).state
 found_later (Some r) st = later_all st
-found_later None st = later_row (constant_form undefined) st
+found_later None st = later_row (constant_form undefined) st tt
 
 bare_later : (n : Text) (ks : List Text) (o : Option ℕ) (st : State) → Later st (bind_bare n ks o st).state
 bare_later n ks (Some r) st = along_later ks st (old_ref r st) (later_all st)
-bare_later n ks None st = later_row (call_form n [] []) st
+bare_later n ks None st = later_row (call_form n [] []) st tt
 
 module _ (app : App) (getter : Expr → State → Bound) (ms : MScope) (getter_later : (e : Expr) (st : State) → Later st (getter e st).state) where
   member_later : (x : Text) (m : Member) (st : State) → Later st (bind_member_as by_number app getter ms x m st).state
   member_later x field_member st = later_all st
   member_later x (getter_member g) st = getter_later g st
-  member_later x action_member st = later_row (constant_form (action (by_number.owner (inst_of ms)) x no_values)) st
+  member_later x action_member st = later_row (constant_form (action (by_number.owner (inst_of ms)) x no_values)) st tt
 
   mutual
     expr_later : (e : Expr) (st : State) → Later st (bind_in_as by_number app getter ms e st).state
-    expr_later (t.literal v) st = later_row (constant_form (plain v)) st
+    expr_later (t.literal v) st = later_row (constant_form (plain v)) st tt
     expr_later (t.this x ks) st = let m = member_of (class_at app (inst_of ms).path) x in along_later ks st (bind_member_as by_number app getter ms x m st) (member_later x m st)
     expr_later (t.argument n ks) st = along_later ks st (bind_found (last_named n (args_of ms)) st) (found_later (last_named n (args_of ms)) st)
     expr_later (t.bare n ks) st = bare_later n ks (last_named n (locals_in ms)) st
     expr_later (t.call n es ns) st =
         let b = bind_all_in_as by_number app getter ms es st in
         let c = bind_named_in_as by_number app getter ms ns b.state in
-        more_row (call_form n b.ids c.names) st c.state (later_then st b.state c.state (all_later es st) (named_later ns b.state))
-    expr_later (t.cat es) st = let b = bind_all_in_as by_number app getter ms es st in more_row (joined_form b.ids) st b.state (all_later es st)
+        more_row (call_form n b.ids c.names) st c.state tt (later_then st b.state c.state (all_later es st) (named_later ns b.state))
+    expr_later (t.cat es) st = let b = bind_all_in_as by_number app getter ms es st in more_row (joined_form b.ids) st b.state tt (all_later es st)
 
     all_later : (es : Exprs) (st : State) → Later st (bind_all_in_as by_number app getter ms es st).state
     all_later t.no_exprs st = later_all st
@@ -116,23 +136,23 @@ module _ (app : App) (getter : Expr → State → Bound) (ms : MScope) (getter_l
 
 module _ (app : App) where
   deep_later : (n : ℕ) (ms : MScope) (e : Expr) (st : State) → Later st (bind_deep_as by_number n app ms e st).state
-  deep_later zero ms e st = later_row (constant_form undefined) st
+  deep_later zero ms e st = later_row (constant_form undefined) st tt
   deep_later (suc n) ms e st = expr_later app (bind_deep_as by_number n app (own ms)) ms (λ g st'. deep_later n (own ms) g st') e st
 
   bound_later : (ms : MScope) (e : Expr) (st : State) → Later st (bind_expr_as by_number app ms e st).state
   bound_later ms e st = deep_later (suc (getters_in app ms)) ms e st
 
-  exprs_later : (ms : MScope) (es : Exprs) (st : State) → Later st (bind_exprs_as by_number app ms es st).state
+  pub exprs_later : (ms : MScope) (es : Exprs) (st : State) → Later st (bind_exprs_as by_number app ms es st).state
   exprs_later ms es st = all_later app (bind_deep_as by_number (getters_in app ms) app (own ms)) ms (λ g st'. deep_later (getters_in app ms) (own ms) g st') es st
 
   pairs_later : (ms : MScope) (ns : NamedExprs) (st : State) → Later st (bind_pairs_as by_number app ms ns st).state
   pairs_later ms ns st = named_later app (bind_deep_as by_number (getters_in app ms) app (own ms)) ms (λ g st'. deep_later (getters_in app ms) (own ms) g st') ns st
 
   value_later : (ms : MScope) (v : AttrValue) (st : State) → Later st (bind_value_as by_number app ms v st).state
-  value_later ms (t.fixed z) st = later_row (constant_form (text z)) st
+  value_later ms (t.fixed z) st = later_row (constant_form (text z)) st tt
   value_later ms (t.live e) st = bound_later ms e st
 
-  args_later : (ms : MScope) (gs : List (Text × AttrValue)) (st : State) → Later st (bind_args_as by_number app ms gs st).state
+  pub args_later : (ms : MScope) (gs : List (Text × AttrValue)) (st : State) → Later st (bind_args_as by_number app ms gs st).state
   args_later ms [] st = later_all st
   args_later ms (g ∷ gs) st =
       let b = bind_value_as by_number app ms g.1 st in let c = bind_args_as by_number app ms gs b.state in later_then st b.state c.state (value_later ms g.1 st) (args_later ms gs b.state)
@@ -146,35 +166,37 @@ module _ (app : App) where
       let b = bind_exprs_as by_number app ms es st in let c = bind_pairs_as by_number app ms ns b.state in later_then st b.state c.state (exprs_later ms es st) (pairs_later ms ns b.state)
   part_later ms t.spread st = later_all st
 
-  written_later : (ws : List (Written MScope)) (st : State) → Later st (bind_written_as by_number app ws st).state
+  pub written_later : (ws : List (Written MScope)) (st : State) → Later st (bind_written_as by_number app ws st).state
   written_later [] st = later_all st
   written_later (w ∷ ws) st =
       let b = bind_part_as by_number app w.by w.part st in let c = bind_written_as by_number app ws b.state in later_then st b.state c.state (part_later w.by w.part st) (written_later ws b.state)
 
   -- the cells of an instance
-  cells_later : (σ : Store) (q : Path) (fs : List (Text × Plain)) (st : State) → Later st (grow_cells_as by_number app σ q fs st).state
+  pub cells_later : (σ : Store) (q : Path) (fs : List (Text × Plain)) (st : State) → Later st (grow_cells_as by_number app σ q fs st).state
   cells_later σ q [] st = later_all st
   cells_later σ q (x ∷ fs) st =
       let v = cell_value app σ q x.0 in
       let st1 = made_source by_number (number (st.next a_ref)) v st in
       later_then st st1 (grow_cells_as by_number app σ q fs st1).state (later_source v st) (cells_later σ q fs st1)
 
-params_later : (ns : List Text) (rs : List ℕ) (st : State) → Later st (bind_params ns rs st).state
+pub params_later : (ns : List Text) (rs : List ℕ) (st : State) → Later st (bind_params ns rs st).state
 params_later [] rs st = later_all st
 params_later (n ∷ ns) [] st =
-    let st1 = made_row (constant_form undefined) st in later_then st st1 (bind_params ns [] st1).state (later_row (constant_form undefined) st) (params_later ns [] st1)
+    let st1 = made_row (constant_form undefined) st in later_then st st1 (bind_params ns [] st1).state (later_row (constant_form undefined) st tt) (params_later ns [] st1)
 params_later (n ∷ ns) (r ∷ rs) st = params_later ns rs st
 
 -- Positions
 
-place_later : (st : State) (b : BoundAll) → Later st b.state → Later st (place b).state
+pub place_later : (st : State) (b : BoundAll) → Later st b.state → Later st (place b).state
 place_later st b h =
-    let x : Thing = row (record { form = Rattle.gl_plain.specs.State.all_form b.ids; last = any_of (Rattle.gl_meaning.specs.Scope.sources_of (place b).pairs) }) in
-    let m = later_then st b.state (make a_ref x b.state) h (later_make a_ref x b.state) in
-    record { more = m.more; rows = m.rows; warm = m.warm; lists = m.lists }
+    let x : Thing = row (record { form = all_form b.ids; last = any_of (sources_of (place b).pairs) }) in
+    let fits : Whole b.state → NumberedThing (suc (b.state.next a_ref)) (b.state.next a_ref) (Some x) =
+    (λ w. (tt, last_more (b.state.next a_ref) (suc (b.state.next a_ref)) (omega arith) (any_of (sources_of (place b).pairs)) (low_last (b.state.next a_ref) (sources_of (place b).pairs) (low_pairs b.state.look (b.state.next a_ref) w b.ids)))) in
+    let m = later_then st b.state (make a_ref x b.state) h (ref_later x b.state fits) in
+    record { more = m.more; rows = m.rows; warm = m.warm; lists = m.lists; own = m.own }
 
 given_later : (g : Given) (st : State) → Later st (given_ref g st).state
-given_later (fixed_given z) st = later_row (constant_form (text z)) st
+given_later (fixed_given z) st = later_row (constant_form (text z)) st tt
 given_later (live_given r) st = later_all st
 
 givens_later : (gs : List (Text × Given)) (st : State) → Later st (given_refs gs st).state
@@ -196,7 +218,7 @@ attrs_later ws (n ∷ ns) st = by (some_waiting_live (taken_waiting n ws)) (attr
       later_then st x.state (give_attrs ws ns x.state).state (place_later st b (givens_later (taken_waiting n ws) st)) (rest x.state)
   by false rest = rest st
 
-flush_later : (ps : List Waiting) (st : State) → Later st (flush_parts ps st).state
+pub flush_later : (ps : List Waiting) (st : State) → Later st (flush_parts ps st).state
 flush_later ps st = attrs_later (attributes_waiting ps) (names_waiting (attributes_waiting ps)) st
 
 none_join : (c : Id → ℕ) (xs : List ℕ) (m : ℕ) → NoneCounted c xs → c (modifier_id m) ≡ 0 → NoneCounted c (xs ++ m ∷ [])
@@ -204,14 +226,15 @@ none_join c [] m h e = (e, tt)
 none_join c (x ∷ xs) m h e = (h.0, none_join c xs m h.1 e)
 
 later_installed : (x : Thing) (st : State) → Later st (note_installed (st.next a_modifier) (make a_modifier x st))
-later_installed x st = let h = later_make a_modifier x st in record {
+later_installed x st = let h = later_make a_modifier x st refl in record {
   more = h.more;
   rows = h.rows;
   warm = h.warm;
   lists = λ c o u. (none_join c st.installs (st.next a_modifier) u.0 (o (modifier_id (st.next a_modifier)) (omega arith)), u.1);
+  own = h.own;
 }
 
-mods_later : (n i : ℕ) (ws : List WaitingModifier) (st : State) → Later st (install_all n i ws st).state
+pub mods_later : (n i : ℕ) (ws : List WaitingModifier) (st : State) → Later st (install_all n i ws st).state
 mods_later n i [] st = later_all st
 mods_later n i (w ∷ ws) st =
     let b : BoundAll = record { ids = w.ids ++ map (λ y. y.1) w.names; made = []; state = st } in
@@ -221,8 +244,8 @@ mods_later n i (w ∷ ws) st =
 
 -- Arms and items
 
-node_later : (c : Content) (st : State) → Later st (made_node c st)
-node_later c st = later_make a_node (content c) st
+pub node_later : (c : Content) (st : State) → Later st (made_node c st)
+node_later c st = later_make a_node (content c) st refl
 
 pub arm_later : (st : State) (r : Lives × State) → Later st r.1 → Later st (or_comment r).state
 arm_later st r h = by (have_node r.0) where
@@ -235,7 +258,7 @@ entries_later one h p [] st = later_all st
 entries_later one h p (x ∷ xs) st =
     let q = item x.key x.occurrence ∷ p in let s = (one q x st).arm.state in later_then st s (grow_entries one p xs s).1 (h q x st) (entries_later one h p xs s)
 
-spot_later : (ns : List Text) (q : Path) (x : Entry) (st : State) → Later st (item_spot_as by_number ns q x st).1
+pub spot_later : (ns : List Text) (q : Path) (x : Entry) (st : State) → Later st (item_spot_as by_number ns q x st).1
 spot_later ns q x st =
     let st1 = made_source by_number (number (st.next a_ref)) x.value st in
     let st2 = made_source by_number (number (st1.next a_ref)) (count_value x.index) st1 in
@@ -293,7 +316,7 @@ module _ (app : App) (d : GrowComponents) (y : GrowYields) (hd : ComponentsLater
         let st1 = make a_block block_row z.state in
         let made = block_id k ∷ (a.made ++ z.made) in
         later_then st st1 (d (into c ∷ p) made a.names (Some k) (mpassed k ps bs ms) st1).1
-        (later_then st z.state st1 (later_then st a.state z.state (args_later app ms given st) (written_later app (mwritten_parts ms ps) a.state)) (later_make a_block block_row z.state))
+        (later_then st z.state st1 (later_then st a.state z.state (args_later app ms given st) (written_later app (mwritten_parts ms ps) a.state)) (later_make a_block block_row z.state refl))
         (hd (into c ∷ p) made a.names (Some k) (mpassed k ps bs ms) st1)
     stmt_later (t.if_stmt e unless b c) ms p st =
         let x = place (bind_exprs_as by_number app ms (expr e no_exprs) st) in
@@ -347,5 +370,5 @@ components_later (suc m) app σ q made args k w st =
     let st1 = make an_instance (instance_row i) c.state in
     let d = grow_components_as by_number m app σ in
     later_then st st1 (grow_body_as by_number app d (grow_yields_as by_number app d w) (mscope i args [] w) q 0 (class_at app q).template st1).1
-    (later_then st c.state st1 (cells_later app σ q fields st) (later_make an_instance (instance_row i) c.state))
+    (later_then st c.state st1 (cells_later app σ q fields st) (later_make an_instance (instance_row i) c.state refl))
     (body_later app d (grow_yields_as by_number app d w) (components_later m app σ) (yields_later app d (components_later m app σ) w) (class_at app q).template (mscope i args [] w) q 0 st1)

@@ -15,6 +15,7 @@ use Rattle.gl_labels.specs.Laws.{names_with}
 use Rattle.gl_labels.proofs.Owners.{helpers_keep_owners}
 use Rattle.gl_plain.specs.Ids.{Id, ref}
 use Rattle.gl_plain.specs.State.{Form, constant_form, source_form, property_form, call_form, joined_form, all_form, row, content, instance_row, block_row, modifier_row, Thing, names_by, form_pair, thing_pair, pairs_below, pair_of}
+use Rattle.gl_plain.specs.Renew.{form_ids, spot_ids}
 use Rattle.gl_plain.proofs.Syncs.{path-Decides}
 use Rattle.gl_naming.specs.Renamed.{pair_with, form_with, there_with}
 use Rattle.gl_naming.specs.Laws.{MeansRenamed}
@@ -73,14 +74,14 @@ module _ (f : Path → Path) (g : Source → Source) where
   sources_to [] = refl
   sources_to (p ∷ ps) = ap (λ xs. map g p.sources ++ xs) (sources_to ps) ∙ sym (map-append g p.sources (sources_of ps))
 
-  abbrev names_to : NamedPairs → NamedPairs
+  abbrev pub names_to : NamedPairs → NamedPairs
   names_to ns = map (λ n. (n.0, to n.1)) ns
 
-  named_values : (ns : NamedPairs) → map (λ n. (n.0, n.1.value)) (names_to ns) ≡ names_with f (map (λ n. (n.0, n.1.value)) ns)
+  pub named_values : (ns : NamedPairs) → map (λ n. (n.0, n.1.value)) (names_to ns) ≡ names_with f (map (λ n. (n.0, n.1.value)) ns)
   named_values [] = refl
   named_values (n ∷ ns) = ap (λ ys. (n.0, on n.1.value) ∷ ys) (named_values ns)
 
-  named_pairs : (ns : NamedPairs) → map (λ n. n.1) (names_to ns) ≡ map to (map (λ n. n.1) ns)
+  pub named_pairs : (ns : NamedPairs) → map (λ n. n.1) (names_to ns) ≡ map to (map (λ n. n.1) ns)
   named_pairs [] = refl
   named_pairs (n ∷ ns) = ap (λ ys. to n.1 ∷ ys) (named_pairs ns)
 
@@ -92,6 +93,29 @@ module _ (f : Path → Path) (g : Source → Source) where
     by : (b : Bool) → after_reading (to c) (if b then to p else to q) ≡ to (after_reading c (if b then p else q))
     by true = ap (λ xs. record { value = on p.value; sources = xs }) (sym (map-append g c.sources p.sources))
     by false = ap (λ xs. record { value = on q.value; sources = xs }) (sym (map-append g c.sources q.sources))
+
+  -- joined texts
+  pub cat_to : (ps : List Pair) → cat_pair (map to ps) ≡ to (cat_pair ps)
+  cat_to ps =
+      ap₂ (λ v xs. record { value = v; sources = xs })
+      (ap join_values (values_to ps) ∙ (ap join_kept (kept_on (values_in ps)) ∙ joined_on (filter (λ v. not (is_missing v)) (values_in ps))))
+      (sources_to ps)
+
+  -- the references that a position reads
+  pub ids_same : (t : Option Thing) → spot_ids (there_with f g t) ≡ spot_ids t
+  ids_same None = refl
+  ids_same (Some (row x)) = by x.form where
+    by : (y : Form) → form_ids (form_with f g y) ≡ form_ids y
+    by (constant_form v) = refl
+    by (source_form s v) = refl
+    by (property_form r k) = refl
+    by (call_form n rs ns) = refl
+    by (joined_form rs) = refl
+    by (all_form rs) = refl
+  ids_same (Some (content c)) = refl
+  ids_same (Some (instance_row i)) = refl
+  ids_same (Some block_row) = refl
+  ids_same (Some (modifier_row x)) = refl
 
   module _ (once : (o p : Path) → f o ≡ f p → o ≡ p) where
     all_to : (h : Helper) (ps : List Pair) (ns : NamedPairs) → all_pair h (map to ps) (names_to ns) ≡ to (all_pair h ps ns)
@@ -108,7 +132,7 @@ module _ (f : Path → Path) (g : Source → Source) where
         (λ i. branch_pair u (place_map to absent 0 ps i) (place_map to absent 1 ps i) (place_map to absent 2 ps i))
         ∙ branch_to u (at_place absent 0 ps) (at_place absent 1 ps) (at_place absent 2 ps)
 
-    helper_to : (h : Option Helper) (ps : List Pair) (ns : NamedPairs) → helper_pair h (map to ps) (names_to ns) ≡ to (helper_pair h ps ns)
+    pub helper_to : (h : Option Helper) (ps : List Pair) (ns : NamedPairs) → helper_pair h (map to ps) (names_to ns) ≡ to (helper_pair h ps ns)
     helper_to None ps ns = refl
     helper_to (Some h) ps ns = read_to (branch_of h) h ps ns
 
@@ -120,14 +144,10 @@ module _ (f : Path → Path) (g : Source → Source) where
     form_to F (call_form n rs ns) =
         ap₂ (λ ps ms. call_pair n ps ms) (sym (map_map F to rs)) (sym (map_map (λ m. (m.0, F m.1)) (λ m. (m.0, to m.1)) ns))
         ∙ helper_to (named n helper_table) (map F rs) (names_by F ns)
-    form_to F (joined_form rs) =
-        ap cat_pair (sym (map_map F to rs))
-        ∙ ap₂ (λ v xs. record { value = v; sources = xs })
-        (ap join_values (values_to (map F rs)) ∙ (ap join_kept (kept_on (values_in (map F rs))) ∙ joined_on (filter (λ v. not (is_missing v)) (values_in (map F rs)))))
-        (sources_to (map F rs))
+    form_to F (joined_form rs) = ap cat_pair (sym (map_map F to rs)) ∙ cat_to (map F rs)
     form_to F (all_form rs) = ap (λ xs. record { value = undefined; sources = xs }) (ap sources_of (sym (map_map F to rs)) ∙ sources_to (map F rs))
 
-    thing_to : (F : ℕ → Pair) (x : Option Thing) → thing_pair (λ r. to (F r)) (there_with f g x) ≡ to (thing_pair F x)
+    pub thing_to : (F : ℕ → Pair) (x : Option Thing) → thing_pair (λ r. to (F r)) (there_with f g x) ≡ to (thing_pair F x)
     thing_to F None = refl
     thing_to F (Some (row x)) = form_to F x.form
     thing_to F (Some (content c)) = refl

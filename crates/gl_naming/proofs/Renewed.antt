@@ -22,11 +22,14 @@ use Rattle.gl_plain.specs.Live
 use Rattle.gl_plain.specs.Live.{AttrSpot, ModSpot, item_names, item_made, Live, Lives, Items, times, times_in, times_items, times_comment, times_attrs, times_mods}
 use Rattle.gl_plain.specs.Grow.{Arm, or_comment, ItemGrown, grow_entries, branch_from, unlisted_from, listed_from, grow_components, grow_components_as, grow_yields, grow_yields_as}
 use Rattle.gl_plain.specs.Renew.{spot_pairs, reread, renew_attrs, renew_mods, give, Handle, times_handle, times_handles, is_of, with_front, taken, renew_item, renew_item_as, sync_one, sync_one_as, sync, sync_as, where_values, where_block, fresh_body, fresh_body_as, fresh_items, fresh_items_as, renew, renew_as, renew_body, renew_body_as, handles, handles_as, renew_root, renew_root_as, renew_app, renew_app_as}
-use Rattle.gl_plain.specs.Stands.{top, WhereValues, WhereBlock, AttrsStand, ModsStand, Stands, StandIn, ItemsStand, ListStands, ElseStands, BlockStands, attrs_by, mods_by}
-use Rattle.gl_plain.specs.Machine.{no_place, RootStands}
-use Rattle.gl_naming.specs.Laws.{UpdatedRenamed}
+use Rattle.gl_plain.specs.Stands.{top, WhereBlock, AttrsStand, ModsStand, Stands, StandIn, ItemsStand, ListStands, ElseStands, BlockStands, attrs_by, mods_by}
+use Rattle.gl_plain.specs.Machine.{no_place, RootStands, StandsFor}
+use Rattle.gl_plain.proofs.Moves.{hit_self}
+use Rattle.gl_naming.specs.Laws.{IsOneToOne, AreApart, TouchedAlike, UpdatedRenamed}
 use Rattle.gl_naming.specs.Renamed.{state_with, run_with, arm_with, grown_with, entry_with, StoresAgree, ScopeRight, SpotRight, Right, RightItems, RightIn}
-use Rattle.gl_naming.specs.Numbered.{number, Unlisted}
+use Rattle.gl_naming.specs.Numbered.{number, IsNumbered, Unlisted}
+use Rattle.gl_naming.proofs.Choices.{where_list, where_else}
+use Rattle.gl_naming.proofs.Low.{Whole}
 use Rattle.gl_naming.proofs.Pairs.{takes_to}
 use Rattle.gl_naming.proofs.Tagged.{first_on}
 use Rattle.gl_naming.proofs.Grown.{listed_on, entries_on, arm_same, item_same, entries_same, body_same, yields_same, components_same}
@@ -258,9 +261,9 @@ module _ (f : Path → Path) (g : Source → Source) (once : (o p : Path) → f 
             let cl : Id → ℕ = λ i. times_in i h.lives in
             let ch : Id → ℕ = λ i. times_handle i h in
             let names = with_names (item_names ns h.spot) ms in
-            let a = give_step f g once apart n0 c0 hot st h.spot.value (item_value q) x.value (right.0 ∙ ap item_value (sym e)) near in
+            let a = give_step f g once apart n0 c0 hot st h.spot.value (item_value q) x.value (low_ref ch st o h.spot.value (let i = hit_self (ref h.spot.value) in omega (arith, i))) (right.0 ∙ ap item_value (sym e)) near in
             let st1 = give h.spot.value (number h.spot.value) x.value st in
-            let b = give_step f g once apart n0 c0 a.hot st1 h.spot.index (item_index q) (count_value x.index) (right.1 ∙ ap item_index (sym e)) a.near in
+            let b = give_step f g once apart n0 c0 a.hot st1 h.spot.index (item_index q) (count_value x.index) (low_ref ch st o h.spot.index (let i = hit_self (ref h.spot.index) in omega (arith, i))) (right.1 ∙ ap item_index (sym e)) a.near in
             let st2 = give h.spot.index (number h.spot.index) (count_value x.index) st1 in
             let both = goes_then f g once apart n0 c0 c0 c0 st st1 st2 (λ i. omega arith) a.goes b.goes in
             let r = goes q b.hot st2 e b.near (own_next f g once apart n0 ch c0 cl st st2 (λ i. omega arith) o both) (subst (λ j. RightIn f g j 0 (h.go names q st2).0) (sym e) inside) in
@@ -363,15 +366,6 @@ module _ (f : Path → Path) (g : Source → Source) (once : (o p : Path) → f 
       mods_low c st o made n v ms ws i (d ∷ ds) (z ∷ zs) le h =
           (spot_low c st o z.spot (λ q. let i = le q in omega (arith, i)) h.3.own, mods_low c st o made n v ms _ (suc i) ds zs (λ q. let i = le q in omega (arith, i)) h.4)
       mods_low c st o made n v ms ws i _ _ le h = absurd h
-
-      -- the list stood for has items just where there are any
-      where_list : (Q : Type 0) (vs : Values Path) (P : Values Path → Type 0) → ((us : Values Path) → P us → Q) → WhereValues vs P ⊥ → Q
-      where_list Q no_values P k h = absurd h
-      where_list Q (value v vs) P k h = k (value v vs) h
-
-      where_else : (Q : Type 0) (vs : Values Path) (P : Type 0) → (P → Q) → WhereValues vs (λ us. ⊥) P → Q
-      where_else Q no_values P k h = k h
-      where_else Q (value v vs) P k h = absurd h
 
       -- a block that was passed goes on
       block_renewed : (o : Option Block) (p : Path) (a : Id → ℕ) (F G : Block → State → Lives × State) (P : Block → Type 0) (ls : Lives) (hot : Hot) (st : State) → NearTo hot st
@@ -580,11 +574,20 @@ module _ (f : Path → Path) (g : Source → Source) (once : (o p : Path) → f 
       root_renewed zero (Live.deep_live q) hot st h near o right = kept_all Live _ hot st (Live.deep_live q) near
       root_renewed _ _ hot st h near o right = absurd h
 
-pub updated_renamed : UpdatedRenamed
-updated_renamed f g touched once apart app σ τ agree ρ ω st l h rows warm free right =
+-- the same turn by both, and what it leaves is numbered
+pub updated_whole : (f : Path → Path) (g : Source → Source) (touched : Source → Bool) → IsOneToOne f → AreApart g → (app : App) (σ τ : Store) → StoresAgree f g app σ τ
+    → (ρ ω : Store) (st : State) (l : Live) → StandsFor app ρ ω (state_with f g touched st) l
+    → IsNumbered (st.next a_ref) st.look → TouchedAlike g (st.next a_ref) touched st.touched → Unlisted (λ q. times q l) st
+    → let r = renew_app_as by_number app σ l st in let z = renew_app app τ l (state_with f g touched st) in
+    Right f g [] r.0 → (z ≡ run_with f g z.1.touched r) × TouchedAlike g (st.next a_ref) z.1.touched r.1.touched × Whole r.1
+updated_whole f g touched once apart app σ τ agree ρ ω st l h rows warm free right =
     let n0 = st.next a_ref in
     let o : Own f g once apart n0 (λ q. times q l) st = record { single = h.owned.once; old = h.owned.old; low = λ r le. h.owned.old (ref r) le; lists = free } in
-    let y = root_renewed f g once apart n0 app σ τ agree (state_with f g touched st).look ρ ω app.limit l touched st h.stands (record { next = omega arith; rows = λ r lt. rows r; warm = warm }) o right in
+    let y = root_renewed f g once apart n0 app σ τ agree (state_with f g touched st).look ρ ω app.limit l touched st h.stands (record { next = omega arith; rows = λ r lt. (rows.0 r, rows.1 r); warm = warm; whole = rows.1 }) o right in
     let r = renew_app_as by_number app σ l st in
     let e : (renew_app app τ l (state_with f g touched st)).1.touched ≡ y.hot = ap (λ (x : Live × State). x.1.touched) y.is in
-    (y.is ∙ ap (λ t. run_with f g t r) (sym e), λ k lt. ap (λ (t : Hot). t (g (number k))) e ∙ y.near.warm k lt)
+    (y.is ∙ ap (λ t. run_with f g t r) (sym e), (λ k lt. ap (λ (t : Hot). t (g (number k))) e ∙ y.near.warm k lt), y.near.whole)
+
+pub updated_renamed : UpdatedRenamed
+updated_renamed f g touched once apart app σ τ agree ρ ω st l h rows warm free right =
+    let y = updated_whole f g touched once apart app σ τ agree ρ ω st l h rows warm free right in (y.0, y.1)

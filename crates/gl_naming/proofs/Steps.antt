@@ -1,124 +1,40 @@
 -- What an update does to a position, a node, an item's source and what goes, with other names.
-use Rattle.std.proofs.Common.{◌≡◌, ◌<◌, ◌≤◌, ◌+◌, ℕ, zero, suc, List, [], ◌∷◌, ◌++◌, map, Bool, true, false, true≢false, ◌||◌, Option, Some, None, cond, refl, sym, ap, ap₂, ◌∙◌, subst, arith, inl, inr}
+use Rattle.std.proofs.Common.{◌≡◌, ◌<◌, ◌≤◌, ◌+◌, ℕ, List, [], ◌∷◌, ◌++◌, map, Bool, true, false, true≢false, ◌||◌, Option, Some, None, cond, refl, sym, ap, ap₂, ◌∙◌, subst, arith, inl, inr}
 use Rattle.std.specs.Prelude.{if◌then◌else◌, nat_eq, filter}
 use Rattle.std.proofs.lemmas.Bool.Decides.{same_from_decides}
 use Rattle.gl_base.specs.Texts.{Text}
-use Rattle.gl_base.specs.Names.{at_place, named}
 use Rattle.gl_value.specs.Value.{same, text_of}
-use Rattle.gl_value.specs.Helpers.{Helper, helper_table}
 use Rattle.gl_value.specs.Owners.{with_owners}
 use Rattle.gl_value.proofs.Owners.{rules_leave_owners, same_leaves_owners}
 use Rattle.gl_meaning.specs.Path.{Path, V, path_eq}
-use Rattle.gl_meaning.specs.Scope.{Source, cell, item_value, item_index, Pair, absent, sources_of, NamedPairs}
-use Rattle.gl_meaning.specs.Eval.{takes_first, values_in, branch_of, pair_read, helper_pair, after_reading}
+use Rattle.gl_meaning.specs.Scope.{Source, cell, item_value, item_index, Pair, sources_of}
+use Rattle.gl_meaning.specs.Eval.{values_in}
 use Rattle.gl_meaning.specs.Parts.{attribute_value}
 use Rattle.gl_meaning.proofs.Equal.{both_left, both_right, both_true, path_means, path_itself, text_itself, text_means}
 use Rattle.gl_plain.specs.Ids.{a_ref, Id, id_eq, ref, node, modifier_id, hit, occurs}
-use Rattle.gl_plain.specs.State.{any_of, Form, constant_form, source_form, property_form, call_form, joined_form, all_form, refs_of, Names, names_by, row, content, instance_row, block_row, modifier_row, Content, element_content, text_content, comment_content, Thing, State, form_pair, thing_pair, pairs_below, pair_of, put_thing, touch, source_eq, held_value, form_value, note_evaluated, note_updated, dropped}
+use Rattle.gl_plain.specs.State.{any_of, Form, constant_form, source_form, property_form, call_form, joined_form, all_form, row, content, instance_row, block_row, modifier_row, Content, element_content, text_content, comment_content, Thing, State, pair_of, put_thing, touch, source_eq, held_value, form_value, note_evaluated, note_updated, dropped}
 use Rattle.gl_plain.specs.Naming.{by_number, dropped_as}
 use Rattle.gl_plain.specs.Binding.{first_value}
-use Rattle.gl_plain.specs.Reads.{reads, IdsBelow}
+use Rattle.gl_plain.specs.Reads.{reads, IdsBelow, ReadsLower}
 use Rattle.gl_plain.specs.Live.{AttrSpot, ModSpot, times_attrs, times_mods}
 use Rattle.gl_plain.specs.Renew.{form_ids, spot_ids, spot_pairs, last_of, is_stale, evaluate, reread, renew_text, changed_attr, renew_attrs, refreshed, renew_mods, give}
 use Rattle.gl_plain.specs.Tags.{values_from, named_with}
 use Rattle.gl_plain.proofs.Moves.{id_case, IdCase, hit_self}
 use Rattle.gl_plain.proofs.Syncs.{path-Decides}
 use Rattle.gl_naming.specs.Renamed.{pair_with, form_with, thing_with, there_with, installed_with, state_with}
-use Rattle.gl_naming.specs.Numbered.{number, OwnSource, LastBelow, NumberedThing, NoneCounted, Unlisted}
-use Rattle.gl_naming.proofs.Pairs.{sources_to, values_to}
+use Rattle.gl_naming.specs.Numbered.{number, NumberedThing, NoneCounted, Unlisted}
+use Rattle.gl_naming.proofs.Low.{Low, low_join, low_last, low_pair, low_pairs, Whole}
+use Rattle.gl_naming.proofs.Pairs.{ids_same, sources_to, values_to}
 use Rattle.gl_naming.proofs.Bound.{any_map, pairs_im}
 use Rattle.gl_naming.proofs.Tagged.{attribute_same, first_on, firsts_on, from_on, named_on}
 use Rattle.gl_naming.proofs.Later.{Later}
 
--- Sources
-
-abbrev LowSource : ℕ → Source → Type 0
-LowSource n x = (k : ℕ) × (k < n) × (x ≡ number k)
-
--- all sources have numbers below n
-abbrev pub Low : ℕ → List Source → Type 0
-Low n [] = Unit {0}
-Low n (x ∷ xs) = LowSource n x × Low n xs
-
-low_join : (n : ℕ) (xs ys : List Source) → Low n xs → Low n ys → Low n (xs ++ ys)
-low_join n [] ys h g = g
-low_join n (x ∷ xs) ys h g = (h.0, low_join n xs ys h.1 g)
-
-low_more : (n m : ℕ) → n ≤ m → (xs : List Source) → Low n xs → Low m xs
-low_more n m le [] h = tt
-low_more n m le (x ∷ xs) h = ((h.0.0, (let i = h.0.1 in omega (arith, i, le)), h.0.2), low_more n m le xs h.1)
-
--- a test of them doesn't depend on other sources
-pub low_last : (n : ℕ) (xs : List Source) → Low n xs → LastBelow n (any_of xs)
-low_last n [] h t u e = refl
-low_last n (x ∷ xs) h t u e = ap₂ (λ a b. a || b) (ap t h.0.2 ∙ (e h.0.0 h.0.1 ∙ ap u (sym h.0.2))) (low_last n xs h.1 t u e)
-
-abbrev LowAll : ℕ → List Pair → Type 0
-LowAll n [] = Unit {0}
-LowAll n (p ∷ ps) = Low n p.sources × LowAll n ps
-
-low_sources : (n : ℕ) (ps : List Pair) → LowAll n ps → Low n (sources_of ps)
-low_sources n [] h = tt
-low_sources n (p ∷ ps) h = low_join n p.sources (sources_of ps) h.0 (low_sources n ps h.1)
-
-low_place : (n i : ℕ) (ps : List Pair) → LowAll n ps → Low n (at_place absent i ps).sources
-low_place n i [] h = tt
-low_place n zero (p ∷ ps) h = h.0
-low_place n (suc i) (p ∷ ps) h = low_place n i ps h.1
-
-low_read : (n : ℕ) (b : Option Bool) (h : Helper) (ps : List Pair) (ns : NamedPairs) → LowAll n ps → LowAll n (map (λ m. m.1) ns) → Low n (pair_read b h ps ns).sources
-low_read n None h ps ns k l = low_join n (sources_of ps) (sources_of (map (λ m. m.1) ns)) (low_sources n ps k) (low_sources n (map (λ m. m.1) ns) l)
-low_read n (Some u) h ps ns k l = by (takes_first u (at_place absent 0 ps).value) where
-  by : (b : Bool) → let p : Pair = (if b then at_place absent 1 ps else at_place absent 2 ps) in Low n (after_reading (at_place absent 0 ps) p).sources
-  by true = low_join n (at_place absent 0 ps).sources (at_place absent 1 ps).sources (low_place n 0 ps k) (low_place n 1 ps k)
-  by false = low_join n (at_place absent 0 ps).sources (at_place absent 2 ps).sources (low_place n 0 ps k) (low_place n 2 ps k)
-
-low_helper : (n : ℕ) (h : Option Helper) (ps : List Pair) (ns : NamedPairs) → LowAll n ps → LowAll n (map (λ m. m.1) ns) → Low n (helper_pair h ps ns).sources
-low_helper n None ps ns k l = tt
-low_helper n (Some h) ps ns k l = low_read n (branch_of h) h ps ns k l
-
-module _ (n : ℕ) (F : ℕ → Pair) (low : (r : ℕ) → r < n → Low n (F r).sources) where
-  low_refs : (rs : List ℕ) → IdsBelow n rs → LowAll n (map F rs)
-  low_refs [] h = tt
-  low_refs (r ∷ rs) h = (low r h.0, low_refs rs h.1)
-
-  low_names : (ns : Names) → IdsBelow n (refs_of ns) → LowAll n (map (λ m. m.1) (names_by F ns))
-  low_names [] h = tt
-  low_names (m ∷ ns) h = (low m.1 h.0, low_names ns h.1)
-
-  ids_left : (rs qs : List ℕ) → IdsBelow n (rs ++ qs) → IdsBelow n rs
-  ids_left [] qs h = tt
-  ids_left (r ∷ rs) qs h = (h.0, ids_left rs qs h.1)
-
-  ids_right : (rs qs : List ℕ) → IdsBelow n (rs ++ qs) → IdsBelow n qs
-  ids_right [] qs h = h
-  ids_right (r ∷ rs) qs h = ids_right rs qs h.1
-
-  -- what a form reads, and itself where it is a source's
-  low_form : (x : Form) → IdsBelow n (reads x) → OwnSource n x → Low (suc n) (form_pair F x).sources
-  low_form (constant_form v) h o = tt
-  low_form (source_form x v) h o = ((n, omega arith, o), tt)
-  low_form (property_form r k) h o = low_more n (suc n) (omega arith) (F r).sources (low r h.0)
-  low_form (call_form c rs ns) h o =
-      low_more n (suc n) (omega arith) (helper_pair (named c helper_table) (map F rs) (names_by F ns)).sources
-      (low_helper n (named c helper_table) (map F rs) (names_by F ns) (low_refs rs (ids_left rs (refs_of ns) h)) (low_names ns (ids_right rs (refs_of ns) h)))
-  low_form (joined_form rs) h o = low_more n (suc n) (omega arith) (sources_of (map F rs)) (low_sources n (map F rs) (low_refs rs h))
-  low_form (all_form rs) h o = low_more n (suc n) (omega arith) (sources_of (map F rs)) (low_sources n (map F rs) (low_refs rs h))
-
-  low_thing : (x : Option Thing) → NumberedThing n x → Low (suc n) (thing_pair F x).sources
-  low_thing None h = tt
-  low_thing (Some (row x)) h = low_form x.form h.0 h.1
-  low_thing (Some (content c)) h = tt
-  low_thing (Some (instance_row i)) h = tt
-  low_thing (Some block_row) h = tt
-  low_thing (Some (modifier_row x)) h = tt
-
-low_table : (look : Id → Option Thing) (m : ℕ) → ((r : ℕ) → r < m → NumberedThing r (look (ref r))) → (q : ℕ) → Low m (pairs_below look m q).sources
-low_table look zero h q = tt
-low_table look (suc n) h q = by (nat_eq q n) (λ r. low_table look n (λ i lt. h i (omega (arith, lt))) r) where
-  by : (b : Bool) → ((r : ℕ) → Low n (pairs_below look n r).sources) → let p : Pair = (if b then thing_pair (pairs_below look n) (look (ref n)) else pairs_below look n q) in Low (suc n) p.sources
-  by true rest = low_thing n (pairs_below look n) (λ r lt. rest r) (look (ref n)) (h n (omega arith))
-  by false rest = low_more n (suc n) (omega arith) (pairs_below look n q).sources (rest q)
+-- another thing for a reference
+put_has : (P : ℕ → Option Thing → Type 0) (st : State) (r : ℕ) (x : Thing) → P r (Some x) → (q : ℕ) → P q (st.look (ref q)) → P q ((put_thing (ref r) x st).look (ref q))
+put_has P st r x k q h = by (id_case (ref q) (ref r)) where
+  by : IdCase (ref q) (ref r) → P q (if id_eq (ref q) (ref r) then Some x else st.look (ref q))
+  by (inl e) = subst (λ b. P q (if b then Some x else st.look (ref q))) (sym e.0) (subst (λ j. P j (Some x)) (sym (ap (λ i. i.num) e.1)) k)
+  by (inr e) = subst (λ b. P q (if b then Some x else st.look (ref q))) (sym e) h
 
 -- equal sources
 pub source_same : (y x : Source) → source_eq y x ≡ true → y ≡ x
@@ -158,17 +74,23 @@ module _ (f : Path → Path) (g : Source → Source) (once : (o p : Path) → f 
   abbrev pub im : Hot → State → State
   im hot st = state_with f g hot st
 
+  -- a reference that was there reads lower ones, and such sources as were there
+  abbrev OldThing : ℕ → Option Thing → Type 0
+  OldThing r t = ReadsLower r t × NumberedThing n0 r t
+
   -- Of the sources of references that were there, the same are touched by paths.
   pub record Near (hot : Hot) (st : State) : Type 0 where
     pub next : n0 ≤ st.next a_ref
-    pub rows : (r : ℕ) → r < n0 → NumberedThing r (st.look (ref r))
+    pub rows : (r : ℕ) → r < n0 → OldThing r (st.look (ref r))
     pub warm : (k : ℕ) → k < n0 → hot (g (number k)) ≡ st.touched (number k)
+    pub whole : Whole st
 
   pub near_later : (hot : Hot) (st st' : State) → Near hot st → Later st st' → Near hot st'
   near_later hot st st' h l = record {
     next = let i = h.next in let k = l.more (ref 0) in omega (arith, i, k);
-    rows = λ r lt. subst (NumberedThing r) (sym (l.rows (ref r) (let i = h.next in omega (arith, i, lt)))) (h.rows r lt);
+    rows = λ r lt. subst (OldThing r) (sym (l.rows (ref r) (let i = h.next in omega (arith, i, lt)))) (h.rows r lt);
     warm = λ k lt. h.warm k lt ∙ sym (l.warm k (let i = h.next in omega (arith, i, lt)));
+    whole = l.own h.whole;
   }
 
   -- a part of what was there: each id once, and no modifier of it is listed yet
@@ -237,27 +159,12 @@ module _ (f : Path → Path) (g : Source → Source) (once : (o p : Path) → f 
 
   -- Positions
 
-  ids_same : (t : Option Thing) → spot_ids (there_with f g t) ≡ spot_ids t
-  ids_same None = refl
-  ids_same (Some (row x)) = by x.form where
-    by : (y : Form) → form_ids (form_with f g y) ≡ form_ids y
-    by (constant_form v) = refl
-    by (source_form s v) = refl
-    by (property_form r k) = refl
-    by (call_form n rs ns) = refl
-    by (joined_form rs) = refl
-    by (all_form rs) = refl
-  ids_same (Some (content c)) = refl
-  ids_same (Some (instance_row i)) = refl
-  ids_same (Some block_row) = refl
-  ids_same (Some (modifier_row x)) = refl
-
   pub pairs_same : (hot : Hot) (st : State) (r : ℕ) → spot_pairs (im hot st) r ≡ map (pair_with f g) (spot_pairs st r)
-  pairs_same hot st r = ap (map (pair_of (im hot st).look)) (ids_same (st.look (ref r))) ∙ pairs_im f g hot once st (spot_ids (st.look (ref r)))
+  pairs_same hot st r = ap (map (pair_of (im hot st).look)) (ids_same f g (st.look (ref r))) ∙ pairs_im f g hot once st (spot_ids (st.look (ref r)))
 
-  stale_thing : (hot : Hot) (st : State) (r : ℕ) → r < n0 → Near hot st → (t : Option Thing) → NumberedThing r t → last_of (there_with f g t) hot ≡ last_of t st.touched
+  stale_thing : (hot : Hot) (st : State) (r : ℕ) → r < n0 → Near hot st → (t : Option Thing) → OldThing r t → last_of (there_with f g t) hot ≡ last_of t st.touched
   stale_thing hot st r lt h None k = refl
-  stale_thing hot st r lt h (Some (row x)) k = k.2 (λ y. hot (g y)) st.touched (λ i w. h.warm i (omega (arith, w, lt)))
+  stale_thing hot st r lt h (Some (row x)) k = k.1.1 (λ y. hot (g y)) st.touched h.warm
   stale_thing hot st r lt h (Some (content c)) k = refl
   stale_thing hot st r lt h (Some (instance_row i)) k = refl
   stale_thing hot st r lt h (Some block_row) k = refl
@@ -285,14 +192,14 @@ module _ (f : Path → Path) (g : Source → Source) (once : (o p : Path) → f 
       let ids = spot_ids (st.look (ref r)) in
       let ps = spot_pairs st r in
       let put : List ℕ → ((Source → Bool) → Bool) → State = λ rs u. note_evaluated r (put_thing (ref r) (row (record { form = all_form rs; last = u })) (im hot st)) in
-      ap₂ (λ rs qs. put rs (any_of (sources_of qs))) (ids_same (st.look (ref r))) (pairs_same hot st r)
+      ap₂ (λ rs qs. put rs (any_of (sources_of qs))) (ids_same f g (st.look (ref r))) (pairs_same hot st r)
       ∙ (ap (put ids) (λ i u. (ap (λ xs. any_of xs u) (sources_to f g ps) ∙ any_map g (sources_of ps) u) i)
       ∙ ap (note_evaluated r) (put_im hot (ref r) (row (record { form = all_form ids; last = any_of (sources_of ps) })) st))
 
   -- the references of a position have lower numbers
-  ids_below : (r : ℕ) (t : Option Thing) → NumberedThing r t → IdsBelow r (spot_ids t)
+  ids_below : (r : ℕ) (t : Option Thing) → ReadsLower r t → IdsBelow r (spot_ids t)
   ids_below r None h = tt
-  ids_below r (Some (row x)) h = by x.form h.0 where
+  ids_below r (Some (row x)) h = by x.form h where
     by : (y : Form) → IdsBelow r (reads y) → IdsBelow r (form_ids y)
     by (constant_form v) k = tt
     by (source_form s v) k = tt
@@ -305,29 +212,32 @@ module _ (f : Path → Path) (g : Source → Source) (once : (o p : Path) → f 
   ids_below r (Some block_row) h = tt
   ids_below r (Some (modifier_row x)) h = tt
 
-  low_pairs : (hot : Hot) (st : State) → Near hot st → (r : ℕ) → r < n0 → (ids : List ℕ) → IdsBelow r ids → Low r (sources_of (map (pair_of st.look) ids))
-  low_pairs hot st h r lt [] k = tt
-  low_pairs hot st h r lt (i ∷ ids) k =
-      low_join r (pair_of st.look i).sources (sources_of (map (pair_of st.look) ids))
-      (low_more (suc i) r (let w = k.0 in omega (arith, w)) (pair_of st.look i).sources (low_table st.look (suc i) (λ j le. h.rows j (let w = k.0 in omega (arith, w, le, lt))) i))
-      (low_pairs hot st h r lt ids k.1)
+  old_pairs : (hot : Hot) (st : State) → Near hot st → (r : ℕ) → r < n0 → (ids : List ℕ) → IdsBelow r ids → Low n0 (sources_of (map (pair_of st.look) ids))
+  old_pairs hot st h r lt [] k = tt
+  old_pairs hot st h r lt (i ∷ ids) k =
+      low_join n0 (pair_of st.look i).sources (sources_of (map (pair_of st.look) ids)) (low_pair st.look n0 i (λ j le. (h.rows j (let w = k.0 in omega (arith, w, le, lt))).1)) (old_pairs hot st h r lt ids k.1)
 
   abbrev fresh_row : State → ℕ → Thing
   fresh_row st r = row (record { form = all_form (spot_ids (st.look (ref r))); last = any_of (sources_of (spot_pairs st r)) })
 
-  numbered_row : (hot : Hot) (st : State) (r : ℕ) → r < n0 → Near hot st → NumberedThing r (Some (fresh_row st r))
-  numbered_row hot st r lt h =
-      let ids = ids_below r (st.look (ref r)) (h.rows r lt) in (ids, tt, low_last r (sources_of (spot_pairs st r)) (low_pairs hot st h r lt (spot_ids (st.look (ref r))) ids))
+  old_row : (hot : Hot) (st : State) (r : ℕ) → r < n0 → Near hot st → OldThing r (Some (fresh_row st r))
+  old_row hot st r lt h =
+      let ids = ids_below r (st.look (ref r)) (h.rows r lt).0 in (ids, (tt, low_last n0 (sources_of (spot_pairs st r)) (old_pairs hot st h r lt (spot_ids (st.look (ref r))) ids)))
 
   -- another row for a reference that was there
-  near_put : (hot : Hot) (st : State) (r : ℕ) (x : Thing) → NumberedThing r (Some x) → Near hot st → (q : ℕ) → q < n0 → NumberedThing q ((put_thing (ref r) x st).look (ref q))
-  near_put hot st r x k h q w = by (id_case (ref q) (ref r)) where
-    by : IdCase (ref q) (ref r) → NumberedThing q (if id_eq (ref q) (ref r) then Some x else st.look (ref q))
-    by (inl e) = subst (λ b. NumberedThing q (if b then Some x else st.look (ref q))) (sym e.0) (subst (λ j. NumberedThing j (Some x)) (sym (ap (λ i. i.num) e.1)) k)
-    by (inr e) = subst (λ b. NumberedThing q (if b then Some x else st.look (ref q))) (sym e) (h.rows q w)
+  near_put : (hot : Hot) (st : State) (r : ℕ) (x : Thing) → OldThing r (Some x) → Near hot st → (q : ℕ) → q < n0 → OldThing q ((put_thing (ref r) x st).look (ref q))
+  near_put hot st r x k h q w = put_has OldThing st r x k q (h.rows q w)
+
+  pub whole_put : (st : State) (r : ℕ) (x : Thing) → NumberedThing (st.next a_ref) r (Some x) → Whole st → Whole (put_thing (ref r) x st)
+  whole_put st r x k h q = put_has (NumberedThing (st.next a_ref)) st r x k q (h q)
 
   near_evaluate : (hot : Hot) (st : State) (r : ℕ) → r < n0 → Near hot st → Near hot (evaluate r st)
-  near_evaluate hot st r lt h = record { next = h.next; rows = near_put hot st r (fresh_row st r) (numbered_row hot st r lt h) h; warm = h.warm }
+  near_evaluate hot st r lt h = record {
+    next = h.next;
+    rows = near_put hot st r (fresh_row st r) (old_row hot st r lt h) h;
+    warm = h.warm;
+    whole = whole_put st r (fresh_row st r) (tt, low_last (st.next a_ref) (sources_of (spot_pairs st r)) (low_pairs st.look (st.next a_ref) h.whole (spot_ids (st.look (ref r))))) h.whole;
+  }
 
   pub evaluate_step : (a : Id → ℕ) (hot : Hot) (st : State) (r : ℕ) → r < n0 → Near hot st → Step a st (evaluate r st) (evaluate r (im hot st))
   evaluate_step a hot st r lt h = record { hot = hot; is = evaluate_im hot r st; near = near_evaluate hot st r lt h; goes = record { more = λ q. omega arith; lists = λ c w o u. u } }
@@ -349,7 +259,7 @@ module _ (f : Path → Path) (g : Source → Source) (once : (o p : Path) → f 
       (record {
         hot = hot;
         is = ap₂ (λ z s. put_thing (node n) (content (text_content z)) s) (ap (λ ps. text_of (first_value ps)) (pairs_same hot st r) ∙ text_same (spot_pairs st r)) (evaluate_im hot r st) ∙ put_im hot (node n) (content c) (evaluate r st);
-        near = record { next = e.next; rows = e.rows; warm = e.warm };
+        near = record { next = e.next; rows = e.rows; warm = e.warm; whole = e.whole };
         goes = record { more = λ q. omega arith; lists = λ d w o u. u };
       })
 
@@ -379,7 +289,7 @@ module _ (f : Path → Path) (g : Source → Source) (once : (o p : Path) → f 
             (ap (λ ps. changed_attr x.name (attribute_value ps) ((im hot st).look (node n))) (pairs_same hot st r)
             ∙ (ap (λ v. changed_attr x.name v ((im hot st).look (node n))) (attribute_same f g (spot_pairs st r)) ∙ changed_same x.name (attribute_value (spot_pairs st r)) (st.look (node n)))) (evaluate_im hot r st)
             ∙ put_im hot (node n) (content c) (evaluate r st);
-        near = record { next = e.next; rows = e.rows; warm = e.warm };
+        near = record { next = e.next; rows = e.rows; warm = e.warm; whole = e.whole };
         goes = record { more = λ q. omega arith; lists = λ d w o u. u };
       })
 
@@ -433,7 +343,7 @@ module _ (f : Path → Path) (g : Source → Source) (once : (o p : Path) → f 
             ap₂ (λ i s. note_updated z.id (put_thing m (modifier_row i) s))
             (ap (λ us. refreshed z us ((im hot st).look m)) (ap values_in (pairs_same hot st r) ∙ values_to f g (spot_pairs st r)) ∙ refreshed_same z vs (st.look m)) (evaluate_im hot r st)
             ∙ ap (note_updated z.id) (put_im hot m (modifier_row y) (evaluate r st));
-        near = record { next = e.next; rows = e.rows; warm = e.warm };
+        near = record { next = e.next; rows = e.rows; warm = e.warm; whole = e.whole };
         goes = record {
           more = λ q. omega arith;
           lists = λ d w o u. (u.0, none_join d st.updates z.id u.1 (let i = w m in let k = hit_self m in omega (arith, i, k)));
@@ -484,7 +394,7 @@ module _ (f : Path → Path) (g : Source → Source) (once : (o p : Path) → f 
       ((λ e. apart x y (source_same (g x) (g y) e)), (λ e. ap (λ z. source_eq (g x) z) (ap g (sym e)) ∙ source_itself (g x)))
       ((λ e. source_same x y e), (λ e. ap (λ z. source_eq x z) (sym e) ∙ source_itself x))
 
-  touch_im : (hot : Hot) (r : ℕ) (x y : Source) (v : V) (st : State) → g x ≡ y → touch r y (with_owners f v) (im hot st) ≡ im (λ z. source_eq z y || hot z) (touch r x v st)
+  pub touch_im : (hot : Hot) (r : ℕ) (x y : Source) (v : V) (st : State) → g x ≡ y → touch r y (with_owners f v) (im hot st) ≡ im (λ z. source_eq z y || hot z) (touch r x v st)
   touch_im hot r x y v st e = ap (λ z. touch r z (with_owners f v) (im hot st)) (sym e) ∙ ((λ j. record {
     look = λ q. by q (id_eq q (ref r)) j;
     next = st.next;
@@ -497,8 +407,8 @@ module _ (f : Path → Path) (g : Source → Source) (once : (o p : Path) → f 
     by q true = refl
     by q false = refl
 
-  pub give_step : (a : Id → ℕ) (hot : Hot) (st : State) (r : ℕ) (y : Source) (v : V) → g (number r) ≡ y → Near hot st → Step a st (give r (number r) v st) (give r y (with_owners f v) (im hot st))
-  give_step a hot st r y v e h = subst (λ b. Step a st (give r (number r) v st) (if b then im hot st else touch r y (with_owners f v) (im hot st))) (sym test) (by (same path_eq (held_value (st.look (ref r))) v)) where
+  pub give_step : (a : Id → ℕ) (hot : Hot) (st : State) (r : ℕ) (y : Source) (v : V) → r < n0 → g (number r) ≡ y → Near hot st → Step a st (give r (number r) v st) (give r y (with_owners f v) (im hot st))
+  give_step a hot st r y v old e h = subst (λ b. Step a st (give r (number r) v st) (if b then im hot st else touch r y (with_owners f v) (im hot st))) (sym test) (by (same path_eq (held_value (st.look (ref r))) v)) where
     test : same path_eq (held_value ((im hot st).look (ref r))) (with_owners f v) ≡ same path_eq (held_value (st.look (ref r))) v
     test = ap (λ u. same path_eq u (with_owners f v)) (held_same (st.look (ref r))) ∙ same_value (held_value (st.look (ref r))) v
 
@@ -509,8 +419,9 @@ module _ (f : Path → Path) (g : Source → Source) (once : (o p : Path) → f 
       is = touch_im hot r (number r) y v st e;
       near = record {
         next = h.next;
-        rows = near_put hot st r (row (record { form = source_form (number r) v; last = any_of [] })) (tt, refl, λ t u w. refl) h;
+        rows = near_put hot st r (row (record { form = source_form (number r) v; last = any_of [] })) (tt, ((refl, old), λ t u w. refl)) h;
         warm = λ k lt. ap₂ (λ p q. p || q) (ap (λ z. source_eq (g (number k)) z) (sym e) ∙ named_apart (number k) (number r)) (h.warm k lt);
+        whole = whole_put st r (row (record { form = source_form (number r) v; last = any_of [] })) ((refl, let i = h.next in omega (arith, old, i)), λ t u w. refl) h.whole;
       };
       goes = record { more = λ q. omega arith; lists = λ c w o u. u };
     }
@@ -531,13 +442,18 @@ module _ (f : Path → Path) (g : Source → Source) (once : (o p : Path) → f 
       installs = sym (none_filter c st.installs u.0) j;
       updates = sym (none_filter c st.updates u.1) j;
     };
-    near = record { next = h.next; rows = λ r lt. left r (nat_eq (c (ref r)) 0) (h.rows r lt); warm = h.warm };
+    near = record {
+      next = h.next;
+      rows = λ r lt. left OldThing r (nat_eq (c (ref r)) 0) (tt, tt) (h.rows r lt);
+      warm = h.warm;
+      whole = λ r. left (NumberedThing (st.next a_ref)) r (nat_eq (c (ref r)) 0) tt (h.whole r);
+    };
     goes = record { more = λ q. omega arith; lists = λ d w o v. (none_gone c d st.installs u.0 v.0, none_gone c d st.updates u.1 v.1) };
   } where
     by : (q : Id) (b : Bool) → (if b then there_with f g (st.look q) else None) ≡ there_with f g (if b then st.look q else None)
     by q true = refl
     by q false = refl
 
-    left : (r : ℕ) (b : Bool) → NumberedThing r (st.look (ref r)) → NumberedThing r (if b then st.look (ref r) else None)
-    left r true k = k
-    left r false k = tt
+    left : (P : ℕ → Option Thing → Type 0) (r : ℕ) (b : Bool) → P r None → P r (st.look (ref r)) → P r (if b then st.look (ref r) else None)
+    left P r true n k = k
+    left P r false n k = n

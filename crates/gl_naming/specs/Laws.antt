@@ -71,6 +71,6 @@ abbrev pub UpdatedRenamed : Type 0
 UpdatedRenamed =
     (f : Path → Path) (g : Source → Source) (touched : Source → Bool) → IsOneToOne f → AreApart g → (app : App) (σ τ : Store) → StoresAgree f g app σ τ
     → (ρ ω : Store) (st : State) (l : Live) → StandsFor app ρ ω (state_with f g touched st) l
-    → IsNumbered st.look → TouchedAlike g (st.next a_ref) touched st.touched → Unlisted (λ q. times q l) st
+    → IsNumbered (st.next a_ref) st.look → TouchedAlike g (st.next a_ref) touched st.touched → Unlisted (λ q. times q l) st
     → let r = renew_app_as by_number app σ l st in let z = renew_app app τ l (state_with f g touched st) in
     Right f g [] r.0 → (z ≡ run_with f g z.1.touched r) × TouchedAlike g (st.next a_ref) z.1.touched r.1.touched

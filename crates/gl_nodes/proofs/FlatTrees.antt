@@ -1,5 +1,5 @@
 -- A tree by flat look-ups, after each call.
-use Rattle.std.proofs.Common.{◌≡◌, ◌≢◌, ℕ, ◌<◌, ◌≤◌, ◌++◌, Option, Some, None, IsSome, is_some, true, false, refl, sym, ap, ◌∙◌, inl, inr, arith, Result, Ok, Err, IfOk}
+use Rattle.std.proofs.Common.{◌≡◌, ◌≢◌, ℕ, ◌<◌, ◌≤◌, ◌++◌, Option, Some, None, IsSome, is_some, true, false, refl, sym, ap, ◌∙◌, inl, inr, arith}
 use Rattle.std.specs.Prelude.{unwrap_or}
 use Rattle.std.proofs.lemmas.Bool.{cases_lt}
 use Rattle.gl_arena.specs.Id.{Id}

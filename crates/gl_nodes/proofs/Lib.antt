@@ -1,5 +1,6 @@
 pub mod Counts
 pub mod Linking
+pub mod Above
 pub mod Joining
 pub mod Placing
 pub mod Attaching
@@ -20,3 +21,5 @@ pub mod FlatPlaces
 pub mod FlatLists
 pub mod Siblings
 pub mod Looks
+pub mod Asked
+pub mod Childless

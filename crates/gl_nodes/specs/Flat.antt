@@ -4,8 +4,8 @@ use Rattle.std.specs.Prelude.{◌≡◌, ◌≢◌, ℕ, zero, suc, ◌+◌, ◌
 use Rattle.gl_arena.specs.Id.{Id}
 use Rattle.gl_arena.specs.Arena.{by_stamp, IsStamped, IsOwn}
 use Rattle.gl_nodes.specs.Node.{Node}
-use Rattle.gl_nodes.specs.Forest.{Forest, end, tree, below, run, without, IsAmong, IsRun}
-use Rattle.gl_nodes.specs.Tree.{Tree, IsSound, Range}
+use Rattle.gl_nodes.specs.Forest.{Forest, end, tree, leaf, below, run, without, IsAmong, IsRun}
+use Rattle.gl_nodes.specs.Tree.{Tree, IsSound, IsPlace, ParentIsElement, Range}
 
 -- 1 where the stamps are the same, and else 0
 unfoldable pub same_stamp : ℕ → ℕ → ℕ
@@ -108,6 +108,12 @@ pub record PutsFlat (old new : Tree) (p next : Option ℕ) (s : ℕ) : Type 0 wh
   pub others : (q : Option ℕ) → q ≢ p → children new q ≡ children old q
   pub counts : (q : ℕ) → stands q new.forest ≡ stands q old.forest + same_stamp q s
   pub nodes : new.nodes ≡ old.nodes
+
+-- A node that was not in the forest stands at the end of the children of a parent that was there.
+pub record PutsLast (old new : Tree) (p : Option ℕ) (s : ℕ) : Type 0 where
+  pub puts : PutsFlat old new p None s
+  pub out : stands s old.forest ≡ 0
+  pub parent : (q : ℕ) → p ≡ Some q → 0 < stands q old.forest
 
 -- The run from x to y is gone from a parent's children, what stood in it has no children and no node, and all else is
 -- as before.
@@ -214,7 +220,27 @@ abbrev pub bare : Forest → Forest
 bare end = end
 bare (tree i k r) = tree (0, i.1) (bare k) (bare r)
 
+-- A node without children stands in the forest: it is a run by itself.
+pub record IsLeaf (t : Tree) (i : Id) : Type 0 where
+  pub parent : Option Id
+  pub kids : Forest
+  pub is_below : below parent t.forest ≡ Some kids
+  pub is_run : IsRun i i kids
+  pub alone : run i i kids ≡ leaf i
+
+-- A node without children is gone from the forest, with its id, and no other.
+pub record RemovesLeaf (old new : Tree) (i : Id) : Type 0 where
+  pub parent : Option ℕ
+  pub removes : RemovesFlat old new parent i.1 i.1 (leaf i)
+  pub count : new.nodes.made ≡ old.nodes.made
+
 -- What a caller carries to meet the conditions of the calls.
+
+-- nodes may be put below an element of the forest, or at the top
+pub record TakesNodes (t : Tree) (p : Option Id) : Type 0 where
+  pub element : ParentIsElement t p
+  pub place : IsPlace t p None
+  pub stood : (q : ℕ) → stamp_of p ≡ Some q → 0 < stands q t.forest
 
 -- an own id that stands in the forest, or the top
 abbrev pub Stands : Tree → Option Id → Type 0

@@ -9,8 +9,8 @@ use Rattle.gl_ast.specs.declared.token.TokenKind.TheVariants as k
 use Rattle.gl_parse.specs.ReadStmt.{Reader, ends_body, is_end, stands_silent, stands_opened, read_stmts, read_body, read_nested, read_flat, read_block_with, read_stmt, read_chained}
 use Rattle.gl_exprs.specs.Fault.{Fails}
 use Rattle.gl_exprs.specs.Take.{Taken, stands, stands_word}
-use Rattle.gl_exprs.specs.declared.fault.ParseFault.{ParseFault}
-use Rattle.gl_exprs.specs.declared.fault.ParseFault.TheVariants as v
+use Rattle.gl_exprs.specs.declared.fault.Misread.{Misread}
+use Rattle.gl_exprs.specs.declared.fault.Misread.TheVariants as v
 use Rattle.gl_exprs.proofs.FirstTokens.{stands_is, and_true}
 
 -- what was read before, and what is read then
@@ -95,6 +95,6 @@ chained_at_none zero ts h = refl
 chained_at_none (suc depth) ts h = absurd (omega (arith, h))
 
 -- nothing that goes on after a reading can be read, where that can't
-pub fails_on : {A B : Type 0} (e : ParseFault) (o : Option A) (p : Option B) → (o ≡ None → p ≡ None) → Fails e o → Fails e p
-fails_on (v.NotInGrammar offset) o p h f = h f
+pub fails_on : {A B : Type 0} (e : Misread) (o : Option A) (p : Option B) → (o ≡ None → p ≡ None) → Fails e o → Fails e p
+fails_on v.NotSpelled o p h f = h f
 fails_on v.Memory o p h f = f

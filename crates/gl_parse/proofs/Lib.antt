@@ -1,11 +1,15 @@
+pub mod Accepts
 pub mod BlockLaws
 pub mod Bodies
 pub mod Falls
 pub mod FlatLaws
+pub mod Fronts
 pub mod ItemLaws
 pub mod Items
 pub mod Lower
+pub mod Places
 pub mod ShorterValues
+pub mod Meeting
 pub mod SpellsRead
 pub mod StmtLaws
 pub mod TagLaws

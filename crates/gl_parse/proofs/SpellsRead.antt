@@ -20,7 +20,7 @@ none_left : (ts : List Token) → nothing_left ts ≡ true → ts ≡ []
 none_left [] e = refl
 none_left (t ∷ ts) e = let r : ⊥ = cc in absurd r
 
-whole_is : {A : Type 0} (o : Option (A × List Token)) (x : A) → whole o ≡ Some x → o ≡ Some (x, [])
+pub whole_is : {A : Type 0} (o : Option (A × List Token)) (x : A) → whole o ≡ Some x → o ≡ Some (x, [])
 unfolding whole
 whole_is o x e =
     let p = first_gave o _ x e in
@@ -29,7 +29,7 @@ whole_is o x e =
     let b = none_left p.0.1 s.0 in
     p.1 ∙ ap (λ y. Some (y, p.0.1)) a ∙ ap (λ l. Some (x, l)) b
 
-is_whole : {A : Type 0} (o : Option (A × List Token)) (x : A) → o ≡ Some (x, []) → whole o ≡ Some x
+pub is_whole : {A : Type 0} (o : Option (A × List Token)) (x : A) → o ≡ Some (x, []) → whole o ≡ Some x
 unfolding whole
 is_whole o x e = rw e refl
 

@@ -8,12 +8,12 @@ ghost use Rattle.gl_parse.specs.ReadStmt.{read_key, read_two, read_if, read_each
 ghost use Rattle.gl_parse.specs.View.{front_view};
 
 use crate::item::parameters;
-use crate::statement::{ascii, take_end};
+use crate::statement::ascii;
 use gl_ast::{Expr, Exprs, Names, Stmt, Str, TokenKind};
 use gl_exprs::expr::{DEEPEST_CALLS, expr, exprs};
 use gl_exprs::name::is_text;
 use gl_exprs::words::string_of;
-use gl_exprs::{Cursor, ParseFault};
+use gl_exprs::{Cursor, Misread};
 use std::alloc::Global;
 
 /// What stands in a block from its word up to its `}}`.
@@ -26,7 +26,7 @@ pub enum Front {
 
 // The key of an each, which is `@identity` where it is not written.
 #[tactic(auto, unfolding(crate::specs::ReadStmt::read_key))]
-fn key(alloc: Global, tokens: &mut Cursor) -> Result<Str, ParseFault>
+fn key(alloc: Global, tokens: &mut Cursor) -> Result<Str, Misread>
     ensures { Gives Fails (λ k. (k, tokens.new)) result (read_key tokens.old) }
 {
     if tokens.stands_word("key") {
@@ -41,21 +41,20 @@ fn key(alloc: Global, tokens: &mut Cursor) -> Result<Str, ParseFault>
 
 // At most two parameters.
 #[tactic(auto, unfolding(crate::specs::ReadStmt::read_two))]
-fn two(alloc: Global, tokens: &mut Cursor) -> Result<Names, ParseFault>
+fn two(alloc: Global, tokens: &mut Cursor) -> Result<Names, Misread>
     ensures { Gives Fails (λ ns. (ns, tokens.new)) result (read_two tokens.old) }
 {
-    let place = tokens.place();
     let names = parameters(alloc, tokens)?;
     if names.len() <= 2 {
         Ok(names)
     } else {
-        Err(ParseFault::NotInGrammar { offset: place })
+        Err(Misread::NotSpelled)
     }
 }
 
 // After the word of an if or unless.
 #[tactic(auto, unfolding(crate::specs::ReadStmt::read_if))]
-fn if_front(alloc: Global, tokens: &mut Cursor, unless: bool) -> Result<Front, ParseFault>
+fn if_front(alloc: Global, tokens: &mut Cursor, unless: bool) -> Result<Front, Misread>
     ensures { Gives Fails (λ f. (front_view f, tokens.new)) result (read_if unless tokens.old) }
 {
     let test = expr(alloc, tokens, DEEPEST_CALLS)?;
@@ -63,7 +62,7 @@ fn if_front(alloc: Global, tokens: &mut Cursor, unless: bool) -> Result<Front, P
 }
 
 #[tactic(auto, unfolding(crate::specs::ReadStmt::read_each))]
-fn each_front(alloc: Global, tokens: &mut Cursor) -> Result<Front, ParseFault>
+fn each_front(alloc: Global, tokens: &mut Cursor) -> Result<Front, Misread>
     ensures { Gives Fails (λ f. (front_view f, tokens.new)) result (read_each tokens.old) }
 {
     let list = expr(alloc, tokens, DEEPEST_CALLS)?;
@@ -74,14 +73,12 @@ fn each_front(alloc: Global, tokens: &mut Cursor) -> Result<Front, ParseFault>
 
 // A let has at least one value.
 #[tactic(auto, unfolding(crate::specs::ReadStmt::read_let))]
-fn let_front(alloc: Global, tokens: &mut Cursor) -> Result<Front, ParseFault>
+fn let_front(alloc: Global, tokens: &mut Cursor) -> Result<Front, Misread>
     ensures { Gives Fails (λ f. (front_view f, tokens.new)) result (read_let tokens.old) }
 {
     let values = exprs(alloc, tokens, DEEPEST_CALLS)?;
     if values.is_empty() {
-        return Err(ParseFault::NotInGrammar {
-            offset: tokens.place(),
-        });
+        return Err(Misread::NotSpelled);
     }
     let params = parameters(alloc, tokens)?;
     Ok(Front::Let { values, params })
@@ -89,10 +86,9 @@ fn let_front(alloc: Global, tokens: &mut Cursor) -> Result<Front, ParseFault>
 
 /// A block from its word up to its `}}`.
 #[tactic(auto, unfolding(crate::specs::ReadStmt::read_front))]
-pub fn open_block(alloc: Global, tokens: &mut Cursor) -> Result<Front, ParseFault>
+pub fn open_block(alloc: Global, tokens: &mut Cursor) -> Result<Front, Misread>
     ensures { Gives Fails (λ f. (front_view f, tokens.new)) result (read_front tokens.old) }
 {
-    let place = tokens.place();
     let word = tokens.take(TokenKind::Path)?;
     if is_text(word, "if") {
         return if_front(alloc, tokens, false);
@@ -106,7 +102,7 @@ pub fn open_block(alloc: Global, tokens: &mut Cursor) -> Result<Front, ParseFaul
     if is_text(word, "let") {
         return let_front(alloc, tokens);
     }
-    Err(ParseFault::NotInGrammar { offset: place })
+    Err(Misread::NotSpelled)
 }
 
 // The word that closes the block.
@@ -124,10 +120,10 @@ fn word_of(block: &Stmt) -> &'static str
 
 /// The end of this block.
 #[tactic(auto, unfolding(crate::specs::ReadStmt::take_closing))]
-pub fn take_closing(tokens: &mut Cursor, block: &Stmt) -> Result<(), ParseFault>
+pub fn take_closing(tokens: &mut Cursor, block: &Stmt) -> Result<(), Misread>
     ensures { Gives Fails (λ _. tokens.new) result (take_closing (word_of (stmt_view block.now)) tokens.old) }
 {
-    take_end(tokens, TokenKind::OpenClosing)?;
+    tokens.take(TokenKind::OpenClosing)?;
     tokens.take_word(word_of(block))?;
     tokens.take(TokenKind::CloseMustache)?;
     Ok(())

@@ -11,7 +11,7 @@ use crate::block::{Front, open_block, take_closing};
 use crate::statement::{flat, stands_opened};
 use crate::tag::{open_tag, take_end_tag};
 use gl_ast::{Body, Stmt, Token, TokenKind};
-use gl_exprs::{Cursor, ParseFault};
+use gl_exprs::{Cursor, Misread};
 use std::alloc::Global;
 
 /// How deep elements and blocks may nest.
@@ -51,7 +51,7 @@ fn is_end(tokens: &Cursor) -> bool
 
 /// Statements up to where a body ends, where elements and blocks may nest so deep.
 #[cycle(nesting)]
-pub fn body(alloc: Global, tokens: &mut Cursor, depth: u32) -> Result<Body, ParseFault>
+pub fn body(alloc: Global, tokens: &mut Cursor, depth: u32) -> Result<Body, Misread>
     ensures { Gives Fails (λ b. (body_of b, tokens.new)) result (read_body (read_stmt depth) tokens.old) }
 {
     let mut list = Body::new(alloc);
@@ -66,7 +66,7 @@ pub fn body(alloc: Global, tokens: &mut Cursor, depth: u32) -> Result<Body, Pars
 }
 
 #[cycle(nesting)]
-fn statement(alloc: Global, tokens: &mut Cursor, depth: u32) -> Result<Stmt, ParseFault>
+fn statement(alloc: Global, tokens: &mut Cursor, depth: u32) -> Result<Stmt, Misread>
     ensures { Gives Fails (λ s. (stmt_view s, tokens.new)) result (read_stmt depth tokens.old) }
 {
     if depth > 0 {
@@ -78,7 +78,7 @@ fn statement(alloc: Global, tokens: &mut Cursor, depth: u32) -> Result<Stmt, Par
 // A statement, where elements and blocks may nest so deep in it.
 #[cycle(nesting)]
 #[tactic(auto, unfolding(crate::specs::ReadStmt::read_nested))]
-fn nested(alloc: Global, tokens: &mut Cursor, depth: u32) -> Result<Stmt, ParseFault>
+fn nested(alloc: Global, tokens: &mut Cursor, depth: u32) -> Result<Stmt, Misread>
     ensures { Gives Fails (λ s. (stmt_view s, tokens.new)) result (read_nested (read_body (read_stmt depth)) (read_block_with (read_stmt depth) (read_chained depth)) tokens.old) }
 {
     if tokens.stands(TokenKind::OpenBlock) {
@@ -93,7 +93,7 @@ fn nested(alloc: Global, tokens: &mut Cursor, depth: u32) -> Result<Stmt, ParseF
 // An element or a component.
 #[cycle(nesting)]
 #[tactic(auto, unfolding(crate::specs::ReadStmt::read_tag, crate::specs::ReadStmt::read_after_opening, crate::specs::ReadStmt::read_tagged))]
-fn tag(alloc: Global, tokens: &mut Cursor, depth: u32) -> Result<Stmt, ParseFault>
+fn tag(alloc: Global, tokens: &mut Cursor, depth: u32) -> Result<Stmt, Misread>
     ensures { Gives Fails (λ s. (stmt_view s, tokens.new)) result (read_tag (read_body (read_stmt depth)) tokens.old) }
 {
     let opening = open_tag(alloc, tokens)?;
@@ -112,7 +112,7 @@ fn tag(alloc: Global, tokens: &mut Cursor, depth: u32) -> Result<Stmt, ParseFaul
 
 #[cycle(nesting)]
 #[tactic(auto, unfolding(crate::specs::ReadStmt::read_block))]
-fn block(alloc: Global, tokens: &mut Cursor, depth: u32) -> Result<Stmt, ParseFault>
+fn block(alloc: Global, tokens: &mut Cursor, depth: u32) -> Result<Stmt, Misread>
     ensures { Gives Fails (λ s. (stmt_view s, tokens.new)) result (read_block (read_block_with (read_stmt depth) (read_chained depth)) tokens.old) }
 {
     tokens.take(TokenKind::OpenBlock)?;
@@ -124,7 +124,7 @@ fn block(alloc: Global, tokens: &mut Cursor, depth: u32) -> Result<Stmt, ParseFa
 // A block from its word on, up to what closes it.
 #[cycle(nesting)]
 #[tactic(auto, unfolding(crate::specs::ReadStmt::read_block_with, crate::specs::ReadStmt::read_head, crate::specs::ReadStmt::read_opened, crate::specs::ReadStmt::read_after_body))]
-fn head(alloc: Global, tokens: &mut Cursor, depth: u32) -> Result<Stmt, ParseFault>
+fn head(alloc: Global, tokens: &mut Cursor, depth: u32) -> Result<Stmt, Misread>
     ensures { Gives Fails (λ s. (stmt_view s, tokens.new)) result (read_block_with (read_stmt depth) (read_chained depth) tokens.old) }
 {
     let front = open_block(alloc, tokens)?;
@@ -161,7 +161,7 @@ fn head(alloc: Global, tokens: &mut Cursor, depth: u32) -> Result<Stmt, ParseFau
 // An else, if there is one.
 #[cycle(nesting)]
 #[tactic(auto, unfolding(crate::specs::ReadStmt::read_else, crate::specs::ReadStmt::read_after_else, crate::specs::ReadStmt::read_opened))]
-fn otherwise(alloc: Global, tokens: &mut Cursor, depth: u32) -> Result<Body, ParseFault>
+fn otherwise(alloc: Global, tokens: &mut Cursor, depth: u32) -> Result<Body, Misread>
     ensures { Gives Fails (λ b. (body_of b, tokens.new)) result (read_else (read_body (read_stmt depth)) (read_chained depth) tokens.old) }
 {
     let mut list = Body::new(alloc);
@@ -180,13 +180,11 @@ fn otherwise(alloc: Global, tokens: &mut Cursor, depth: u32) -> Result<Body, Par
 
 // The block that is the head of an else.
 #[cycle(nesting)]
-fn chained(alloc: Global, tokens: &mut Cursor, depth: u32) -> Result<Stmt, ParseFault>
+fn chained(alloc: Global, tokens: &mut Cursor, depth: u32) -> Result<Stmt, Misread>
     ensures { Gives Fails (λ s. (stmt_view s, tokens.new)) result (read_chained depth tokens.old) }
 {
     if depth > 0 {
         return head(alloc, tokens, depth - 1);
     }
-    Err(ParseFault::NotInGrammar {
-        offset: tokens.place(),
-    })
+    Err(Misread::NotSpelled)
 }

@@ -12,7 +12,7 @@ use gl_ast::{Args, Argument, Names, Part, Parts, Str, TokenKind};
 use gl_exprs::expr::{DEEPEST_CALLS, arguments};
 use gl_exprs::name::{is_argument, name};
 use gl_exprs::words::{parameters_of, without_first};
-use gl_exprs::{Cursor, ParseFault};
+use gl_exprs::{Cursor, Misread};
 use std::alloc::{AllocError, Global};
 
 /// The parts and the arguments of a tag.
@@ -30,7 +30,7 @@ pub enum Item {
 }
 
 #[tactic(auto, unfolding(crate::specs::ReadItem::read_attribute))]
-fn attribute(alloc: Global, tokens: &mut Cursor) -> Result<Item, ParseFault>
+fn attribute(alloc: Global, tokens: &mut Cursor) -> Result<Item, Misread>
     ensures { Gives Fails (λ i. (item_view i, tokens.new)) result (read.read_attribute tokens.old) }
 {
     let name = tokens.take(TokenKind::Attribute)?.copy()?;
@@ -40,19 +40,18 @@ fn attribute(alloc: Global, tokens: &mut Cursor) -> Result<Item, ParseFault>
 
 // An argument's name, which stands after `@`.
 #[tactic(auto, unfolding(crate::specs::ReadItem::read_at))]
-fn at_name(alloc: Global, tokens: &mut Cursor) -> Result<Str, ParseFault>
+fn at_name(alloc: Global, tokens: &mut Cursor) -> Result<Str, Misread>
     ensures { Gives Fails (λ n. (n, tokens.new)) result (read.read_at tokens.old) }
 {
-    let offset = tokens.place();
     let raw = tokens.take(TokenKind::Argument)?;
     if !is_argument(raw) {
-        return Err(ParseFault::NotInGrammar { offset });
+        return Err(Misread::NotSpelled);
     }
     Ok(without_first(alloc, raw)?)
 }
 
 #[tactic(auto, unfolding(crate::specs::ReadItem::read_argument))]
-fn argument(alloc: Global, tokens: &mut Cursor) -> Result<Item, ParseFault>
+fn argument(alloc: Global, tokens: &mut Cursor) -> Result<Item, Misread>
     ensures { Gives Fails (λ i. (item_view i, tokens.new)) result (read.read_argument tokens.old) }
 {
     let name = at_name(alloc, tokens)?;
@@ -61,7 +60,7 @@ fn argument(alloc: Global, tokens: &mut Cursor) -> Result<Item, ParseFault>
 }
 
 #[tactic(auto, unfolding(crate::specs::ReadItem::read_modifier))]
-fn modifier(alloc: Global, tokens: &mut Cursor) -> Result<Item, ParseFault>
+fn modifier(alloc: Global, tokens: &mut Cursor) -> Result<Item, Misread>
     ensures { Gives Fails (λ i. (item_view i, tokens.new)) result (read.read_modifier tokens.old) }
 {
     let _ = tokens.take(TokenKind::OpenMustache)?;
@@ -77,7 +76,7 @@ fn modifier(alloc: Global, tokens: &mut Cursor) -> Result<Item, ParseFault>
 
 // `...attributes`
 #[tactic(auto, unfolding(crate::specs::ReadItem::read_spread))]
-fn spread(tokens: &mut Cursor) -> Result<Item, ParseFault>
+fn spread(tokens: &mut Cursor) -> Result<Item, Misread>
     ensures { Gives Fails (λ i. (item_view i, tokens.new)) result (read.read_spread tokens.old) }
 {
     let _ = tokens.take(TokenKind::Spread)?;
@@ -96,7 +95,7 @@ fn starts_item(tokens: &Cursor, component: bool) -> bool
 }
 
 #[tactic(auto, unfolding(crate::specs::ReadItem::read_item))]
-fn next_item(alloc: Global, tokens: &mut Cursor) -> Result<Item, ParseFault>
+fn next_item(alloc: Global, tokens: &mut Cursor) -> Result<Item, Misread>
     ensures { Gives Fails (λ i. (item_view i, tokens.new)) result (read.read_item tokens.old) }
 {
     if tokens.stands(TokenKind::Attribute) {
@@ -142,7 +141,7 @@ fn add_item(found: &mut TagItems, item: Item) -> Result<(), AllocError>
 
 /// All items of a tag, and the mustache comments among them. Arguments are items of components alone.
 #[tactic(auto, unfolding(crate::specs::ReadItem::read_tag_items, crate::specs::ReadItem::read_items))]
-pub fn items(alloc: Global, tokens: &mut Cursor, component: bool) -> Result<TagItems, ParseFault>
+pub fn items(alloc: Global, tokens: &mut Cursor, component: bool) -> Result<TagItems, Misread>
     ensures { Gives Fails (λ i. ((i.parts, i.args), tokens.new)) result (read.read_tag_items component tokens.old) }
 {
     let mut found = TagItems {
@@ -160,7 +159,7 @@ pub fn items(alloc: Global, tokens: &mut Cursor, component: bool) -> Result<TagI
 
 /// The names of `as |..|`, or none.
 #[tactic(auto, unfolding(crate::specs::ReadStmt::read_parameters))]
-pub fn parameters(alloc: Global, tokens: &mut Cursor) -> Result<Names, ParseFault>
+pub fn parameters(alloc: Global, tokens: &mut Cursor) -> Result<Names, Misread>
     ensures { Gives Fails (λ ns. (ns, tokens.new)) result (read_parameters tokens.old) }
 {
     if tokens.stands(TokenKind::Parameters) {

@@ -3,6 +3,8 @@ ghost use Rattle.std.specs.Prelude.{ℕ, List, Some, true, ◌≡◌};
 ghost use Rattle.std.specs.Str.{is_utf8};
 ghost use Rattle.gl_ast.specs.Grammar.{Spells, SpellsExpr};
 ghost use Rattle.gl_ast.specs.Template.{Body, Expr};
+ghost use Rattle.gl_parse.specs.FaultPlace.{expression_place};
+ghost use Rattle.gl_parse.specs.Place.{IsExpressionPlace};
 ghost use Rattle.gl_parse.specs.ReadStmt.{template_of, expression_of};
 
 /// No bytes spell two templates.
@@ -22,4 +24,10 @@ pub fn read_as_spelled()
     ensures spelled { (bytes : List ℕ) (tree : Body) → Spells bytes tree → template_of bytes ≡ Some tree }
     ensures read_expression { (text : List ℕ) (expr : Expr) → is_utf8 text ≡ true → expression_of text ≡ Some expr → SpellsExpr text expr }
     ensures spelled_expression { (text : List ℕ) (expr : Expr) → SpellsExpr text expr → expression_of text ≡ Some expr }
+{}
+
+/// The place that a refused expression is told with is that of the first token which no expression has after those before
+/// it, or else that at which its tokens end.
+pub fn place_of_expression()
+    ensures { (text : List ℕ) → IsExpressionPlace text (expression_place text) }
 {}

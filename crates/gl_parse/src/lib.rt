@@ -3,9 +3,15 @@
 
 mod block;
 mod body;
+mod due;
 mod item;
 pub mod laws;
+mod place;
 mod spelled;
+mod stack;
+mod starts;
+mod starts_content;
+mod starts_tag;
 mod statement;
 mod tag;
 mod value;

@@ -4,13 +4,12 @@ ghost use Rattle.gl_base.specs.Answers.{Gives};
 ghost use Rattle.gl_base.specs.Texts.{is_ascii_text};
 ghost use Rattle.gl_ast.specs.View.{stmt_view};
 ghost use Rattle.gl_exprs.specs.Fault.{Fails};
-ghost use Rattle.gl_exprs.specs.Take.{take_kind};
 ghost use Rattle.gl_parse.specs.ReadStmt.{stands_opened, read_yield, read_flat};
 
 use gl_ast::{Stmt, Str, TokenKind};
 use gl_exprs::expr::{DEEPEST_CALLS, exprs, mustache};
 use gl_exprs::words::comment_of;
-use gl_exprs::{Cursor, ParseFault, decoded};
+use gl_exprs::{Cursor, Misread, decoded};
 use std::alloc::{AllocError, Global};
 
 /// Whether `{{` and this word of ASCII come next.
@@ -20,26 +19,6 @@ pub fn stands_opened(tokens: &Cursor, word: &str) -> bool
     ensures { result ≡ stands_opened word.now tokens.now }
 {
     tokens.stands(TokenKind::OpenMustache) && tokens.ahead().stands_word(word)
-}
-
-/// Where reading can't go on: at the word else where `{{` and else come next, or else at the next token.
-pub fn stuck(tokens: &Cursor) -> u64 {
-    if stands_opened(tokens, "else") {
-        tokens.ahead().place()
-    } else {
-        tokens.place()
-    }
-}
-
-/// Takes a token of this kind after a body.
-pub fn take_end<'a>(tokens: &mut Cursor<'a>, kind: TokenKind) -> Result<&'a Str, ParseFault>
-    ensures { Gives Fails (λ t. (t.now, tokens.new)) result (take_kind kind tokens.old) }
-{
-    let place = stuck(tokens);
-    match tokens.take(kind) {
-        Err(ParseFault::NotInGrammar { .. }) => Err(ParseFault::NotInGrammar { offset: place }),
-        taken => taken,
-    }
 }
 
 /// A text of ASCII.
@@ -53,7 +32,7 @@ pub fn ascii(alloc: Global, word: &str) -> Result<Str, AllocError>
 
 // `{{`, the word yield, values, `}}`.
 #[tactic(auto, unfolding(crate::specs::ReadStmt::read_yield))]
-fn yielding(alloc: Global, tokens: &mut Cursor) -> Result<Stmt, ParseFault>
+fn yielding(alloc: Global, tokens: &mut Cursor) -> Result<Stmt, Misread>
     ensures { Gives Fails (λ s. (stmt_view s, tokens.new)) result (read_yield tokens.old) }
 {
     tokens.take(TokenKind::OpenMustache)?;
@@ -66,7 +45,7 @@ fn yielding(alloc: Global, tokens: &mut Cursor) -> Result<Stmt, ParseFault>
 
 /// A statement without another in it: a text, a comment, a yield or a mustache.
 #[tactic(auto, unfolding(crate::specs::ReadStmt::read_flat))]
-pub fn flat(alloc: Global, tokens: &mut Cursor) -> Result<Stmt, ParseFault>
+pub fn flat(alloc: Global, tokens: &mut Cursor) -> Result<Stmt, Misread>
     ensures { Gives Fails (λ s. (stmt_view s, tokens.new)) result (read_flat tokens.old) }
 {
     if tokens.stands(TokenKind::Text) {

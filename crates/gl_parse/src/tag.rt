@@ -11,10 +11,10 @@ ghost use Rattle.gl_parse.specs.ReadStmt.{name_of, opens_void, empty_tag, full_t
 ghost use Rattle.gl_parse.specs.View.{opening_view};
 
 use crate::item::{TagItems, items, parameters};
-use crate::statement::{ascii, take_end};
+use crate::statement::ascii;
 use gl_ast::{Args, Block, Body, Names, Parts, Slot, Slots, Stmt, Str, TokenKind};
 use gl_exprs::words::is_end_of;
-use gl_exprs::{Cursor, ParseFault, Scan};
+use gl_exprs::{Cursor, Misread, Scan};
 use std::alloc::{AllocError, Global};
 
 /// What stands in an opening tag in front of its end: of an element its name and parts, of a component its arguments
@@ -134,21 +134,21 @@ fn is_element(name: &Str) -> bool
     matches!(Scan::new(name).next(), Some('a'..='z'))
 }
 
-// The name after `<`, where the tag begins at this place.
+// The name after `<`.
 #[tactic(auto, unfolding(crate::specs::ReadStmt::opened_name))]
-fn opened_name(alloc: Global, place: u64, raw: &Str) -> Result<Str, ParseFault>
+fn opened_name(alloc: Global, raw: &Str) -> Result<Str, Misread>
     ensures { Gives Fails (λ n. n) result (opened_name raw.now) }
 {
     let mut scan = Scan::new(raw);
     match scan.next() {
         Some('<') => Ok(Str::from_str(alloc, scan.as_str())?),
-        _ => Err(ParseFault::NotInGrammar { offset: place }),
+        _ => Err(Misread::NotSpelled),
     }
 }
 
 // An element's parts.
 #[tactic(auto, unfolding(crate::specs::ReadStmt::read_element))]
-fn element(alloc: Global, tokens: &mut Cursor, tag: Str) -> Result<Opening, ParseFault>
+fn element(alloc: Global, tokens: &mut Cursor, tag: Str) -> Result<Opening, Misread>
     ensures { Gives Fails (λ o. (opening_view o, tokens.new)) result (read_element tag tokens.old) }
 {
     let TagItems { parts, args: _ } = items(alloc, tokens, false)?;
@@ -157,7 +157,7 @@ fn element(alloc: Global, tokens: &mut Cursor, tag: Str) -> Result<Opening, Pars
 
 // A component's parts, arguments and parameters.
 #[tactic(auto, unfolding(crate::specs::ReadStmt::read_component))]
-fn component(alloc: Global, tokens: &mut Cursor, class: Str) -> Result<Opening, ParseFault>
+fn component(alloc: Global, tokens: &mut Cursor, class: Str) -> Result<Opening, Misread>
     ensures { Gives Fails (λ o. (opening_view o, tokens.new)) result (read_component class tokens.old) }
 {
     let TagItems { parts, args } = items(alloc, tokens, true)?;
@@ -172,7 +172,7 @@ fn component(alloc: Global, tokens: &mut Cursor, class: Str) -> Result<Opening, 
 
 // A component or an element, by the first letter of its name.
 #[tactic(auto, unfolding(crate::specs::ReadStmt::read_named_tag))]
-fn named_tag(alloc: Global, tokens: &mut Cursor, name: Str) -> Result<Opening, ParseFault>
+fn named_tag(alloc: Global, tokens: &mut Cursor, name: Str) -> Result<Opening, Misread>
     ensures { Gives Fails (λ o. (opening_view o, tokens.new)) result (read_named_tag name tokens.old) }
 {
     if is_class(&name) {
@@ -181,32 +181,28 @@ fn named_tag(alloc: Global, tokens: &mut Cursor, name: Str) -> Result<Opening, P
     if is_element(&name) {
         return element(alloc, tokens, name);
     }
-    Err(ParseFault::NotInGrammar {
-        offset: tokens.place(),
-    })
+    Err(Misread::NotSpelled)
 }
 
 /// An opening tag up to its end.
 #[tactic(auto, unfolding(crate::specs::ReadStmt::read_opening))]
-pub fn open_tag(alloc: Global, tokens: &mut Cursor) -> Result<Opening, ParseFault>
+pub fn open_tag(alloc: Global, tokens: &mut Cursor) -> Result<Opening, Misread>
     ensures { Gives Fails (λ o. (opening_view o, tokens.new)) result (read_opening tokens.old) }
 {
-    let place = tokens.place();
     let raw = tokens.take(TokenKind::TagOpening)?;
-    let name = opened_name(alloc, place, raw)?;
+    let name = opened_name(alloc, raw)?;
     named_tag(alloc, tokens, name)
 }
 
 /// The end tag of this name.
 #[tactic(auto, unfolding(crate::specs::ReadStmt::take_end_tag))]
-pub fn take_end_tag(tokens: &mut Cursor, name: &Str) -> Result<(), ParseFault>
+pub fn take_end_tag(tokens: &mut Cursor, name: &Str) -> Result<(), Misread>
     ensures { Gives Fails (λ _. tokens.new) result (take_end_tag name.now tokens.old) }
 {
-    let place = tokens.place();
-    let raw = take_end(tokens, TokenKind::EndTag)?;
-    if is_end_of(raw, name) {
+    let raw = tokens.take(TokenKind::EndTag)?;
+    if is_end_of(raw, &Scan::new(name)) {
         Ok(())
     } else {
-        Err(ParseFault::NotInGrammar { offset: place })
+        Err(Misread::NotSpelled)
     }
 }

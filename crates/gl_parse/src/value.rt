@@ -9,7 +9,7 @@ ghost use Rattle.gl_exprs.specs.Take.{stands, read_many, with_front};
 
 use gl_ast::{AttrValue, Expr, Exprs, Lit, Str, TokenKind};
 use gl_exprs::expr::mustache;
-use gl_exprs::{Cursor, ParseFault, decoded};
+use gl_exprs::{Cursor, Misread, decoded};
 use std::alloc::Global;
 
 // A text, and after it the quote that closes the value.
@@ -22,7 +22,7 @@ fn stands_plain(tokens: &Cursor) -> bool
 
 // A value that is a text.
 #[tactic(auto, unfolding(crate::specs::ReadValue::read_fixed))]
-fn fixed(alloc: Global, tokens: &mut Cursor, kind: TokenKind) -> Result<AttrValue, ParseFault>
+fn fixed(alloc: Global, tokens: &mut Cursor, kind: TokenKind) -> Result<AttrValue, Misread>
     ensures { Gives Fails (λ a. (attr_view a, tokens.new)) result (read.read_fixed kind tokens.old) }
 {
     let raw = tokens.take(kind)?;
@@ -31,7 +31,7 @@ fn fixed(alloc: Global, tokens: &mut Cursor, kind: TokenKind) -> Result<AttrValu
 
 // A text of a quoted value.
 #[tactic(auto, unfolding(crate::specs::ReadValue::read_quoted_text))]
-fn quoted_text(alloc: Global, tokens: &mut Cursor) -> Result<Expr, ParseFault>
+fn quoted_text(alloc: Global, tokens: &mut Cursor) -> Result<Expr, Misread>
     ensures { Gives Fails (λ e. (expr_view e, tokens.new)) result (read.read_quoted_text tokens.old) }
 {
     let raw = tokens.take(TokenKind::Text)?;
@@ -48,7 +48,7 @@ fn starts_quoted(tokens: &Cursor) -> bool
 
 // A text or a mustache of a quoted value.
 #[tactic(auto, unfolding(crate::specs::ReadValue::read_quoted))]
-fn quoted(alloc: Global, tokens: &mut Cursor) -> Result<Expr, ParseFault>
+fn quoted(alloc: Global, tokens: &mut Cursor) -> Result<Expr, Misread>
     ensures { Gives Fails (λ e. (expr_view e, tokens.new)) result (read.read_quoted tokens.old) }
 {
     if tokens.stands(TokenKind::Text) {
@@ -59,7 +59,7 @@ fn quoted(alloc: Global, tokens: &mut Cursor) -> Result<Expr, ParseFault>
 }
 
 // The texts that come next.
-fn quoted_texts(alloc: Global, tokens: &mut Cursor) -> Result<Exprs, ParseFault>
+fn quoted_texts(alloc: Global, tokens: &mut Cursor) -> Result<Exprs, Misread>
     ensures { Gives Fails (λ es. (es, tokens.new)) result (read_many (stands k.Text) read.read_quoted_text (length tokens.old) tokens.old) }
 {
     let mut list = Exprs::new(alloc);
@@ -71,7 +71,7 @@ fn quoted_texts(alloc: Global, tokens: &mut Cursor) -> Result<Exprs, ParseFault>
 }
 
 // Adds the texts and mustaches that come next.
-fn add_quoted(alloc: Global, tokens: &mut Cursor, list: &mut Exprs) -> Result<(), ParseFault>
+fn add_quoted(alloc: Global, tokens: &mut Cursor, list: &mut Exprs) -> Result<(), Misread>
     ensures { Gives Fails (λ _. (list.new, tokens.new)) result (with_front list.old (read_many read.starts_quoted read.read_quoted (length tokens.old) tokens.old)) }
 {
     while starts_quoted(tokens) {
@@ -83,7 +83,7 @@ fn add_quoted(alloc: Global, tokens: &mut Cursor, list: &mut Exprs) -> Result<()
 
 // A value of texts and mustaches.
 #[tactic(auto, unfolding(crate::specs::ReadValue::read_cat))]
-fn cat(alloc: Global, tokens: &mut Cursor) -> Result<AttrValue, ParseFault>
+fn cat(alloc: Global, tokens: &mut Cursor) -> Result<AttrValue, Misread>
     ensures { Gives Fails (λ a. (attr_view a, tokens.new)) result (read.read_cat tokens.old) }
 {
     let mut list = quoted_texts(alloc, tokens)?;
@@ -95,7 +95,7 @@ fn cat(alloc: Global, tokens: &mut Cursor) -> Result<AttrValue, ParseFault>
 
 // What stands between quotes.
 #[tactic(auto, unfolding(crate::specs::ReadValue::read_between))]
-fn between(alloc: Global, tokens: &mut Cursor) -> Result<AttrValue, ParseFault>
+fn between(alloc: Global, tokens: &mut Cursor) -> Result<AttrValue, Misread>
     ensures { Gives Fails (λ a. (attr_view a, tokens.new)) result (read.read_between tokens.old) }
 {
     if tokens.stands(TokenKind::CloseQuote) {
@@ -109,7 +109,7 @@ fn between(alloc: Global, tokens: &mut Cursor) -> Result<AttrValue, ParseFault>
 
 // A value in quotes.
 #[tactic(auto, unfolding(crate::specs::ReadValue::read_quote))]
-fn quote(alloc: Global, tokens: &mut Cursor) -> Result<AttrValue, ParseFault>
+fn quote(alloc: Global, tokens: &mut Cursor) -> Result<AttrValue, Misread>
     ensures { Gives Fails (λ a. (attr_view a, tokens.new)) result (read.read_quote tokens.old) }
 {
     let _ = tokens.take(TokenKind::OpenQuote)?;
@@ -120,7 +120,7 @@ fn quote(alloc: Global, tokens: &mut Cursor) -> Result<AttrValue, ParseFault>
 
 // A value.
 #[tactic(auto, unfolding(crate::specs::ReadValue::read_value))]
-fn any_value(alloc: Global, tokens: &mut Cursor) -> Result<AttrValue, ParseFault>
+fn any_value(alloc: Global, tokens: &mut Cursor) -> Result<AttrValue, Misread>
     ensures { Gives Fails (λ a. (attr_view a, tokens.new)) result (read.read_value tokens.old) }
 {
     if tokens.stands(TokenKind::Unquoted) {
@@ -134,7 +134,7 @@ fn any_value(alloc: Global, tokens: &mut Cursor) -> Result<AttrValue, ParseFault
 
 /// `=` and a value; without them the empty text.
 #[tactic(auto, unfolding(crate::specs::ReadValue::read_given))]
-pub fn given(alloc: Global, tokens: &mut Cursor) -> Result<AttrValue, ParseFault>
+pub fn given(alloc: Global, tokens: &mut Cursor) -> Result<AttrValue, Misread>
     ensures { Gives Fails (λ a. (attr_view a, tokens.new)) result (read.read_given tokens.old) }
 {
     if tokens.stands(TokenKind::Equals) {

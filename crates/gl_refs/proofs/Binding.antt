@@ -1,15 +1,18 @@
 -- A new reference leaves the others as they are.
 use Rattle.std.proofs.Common.{◌≡◌, ◌≢◌, ◌<◌, true, false, List, Option, Some, None, option_map, IsSome, refl, sym, subst, ◌∙◌, ap, ◌⊎◌, inl, inr}
-use Rattle.gl_arena.specs.Id.{Id}
+use Rattle.std.specs.List.{list_any}
+use Rattle.gl_arena.specs.Id.{Id, same_id}
 use Rattle.gl_arena.proofs.Ids.{id_cases}
 use Rattle.gl_tags.specs.Tags as t
 use Rattle.gl_refs.specs.Forms.{Form, constant_form, source_form, prop_form, call_form, cat_form, all_form, form_or, form_at, meaning, Like, AreLower, is_known, AreKnown, Each, parts}
-use Rattle.gl_refs.specs.State.{Row, Rows, forms, kept_row, kept, kept_pair, IsRight, own_tag, own_by, RowFits, is_bound, IsSound, Binds}
+use Rattle.gl_refs.specs.State.{Row, Rows, forms, kept_row, kept, kept_pair, IsRight, own_tag, own_by, RowFits, is_bound, last_tag, Reaches, LeadsWithin, CombinedOwned, IsSound, Binds}
 use Rattle.gl_refs.proofs.Meanings.{within, each_map}
-use Rattle.gl_refs.proofs.Rows.{fits_bound, row_right}
+use Rattle.gl_refs.proofs.Rows.{fits_bound, row_right, combined_is, some_is}
+use Rattle.gl_refs.proofs.Reaching.{reach_more}
+use Rattle.gl_refs.proofs.Leading.{no_last, last_combined}
 
 module _ (tags : t.Tags) (rows rows' : Rows) (n : Id) (form : Form) (sound : IsSound tags rows) (b : Binds rows rows' n form) (fits : RowFits tags form None)
-    (fresh : (i u : Id) → own_by form None ≡ Some u → own_tag (rows i) ≢ Some u) where
+    (fresh : (i u : Id) → own_by form None ≡ Some u → own_tag (rows i) ≢ Some u) (unled : (u : Id) → own_by form None ≡ Some u → t.IsUnled tags u) where
   not_new : (q : Id) → IsSome (forms rows q) → q ≢ n
   not_new q h e = let z : false ≡ true = subst (λ o. IsSome (option_map (λ (r : Row). r.form) o)) (ap rows e ∙ b.vacant) h in cc
 
@@ -89,6 +92,37 @@ module _ (tags : t.Tags) (rows rows' : Rows) (n : Id) (form : Form) (sound : IsS
         let was : kept tags rows i ≡ Some k = ap (kept_row tags) (sym (b.others i ne)) ∙ h in
         subst (Like (kept_pair tags k)) (sym (means i (live (rows i) was))) (sound.right i k was)
 
+  -- the other rows are as before, and name what they named
+  was_there : (i u : Id) (r : Row) → rows' i ≡ Some r → last_tag r ≡ Some u → rows i ≡ Some r
+  was_there i u r e l = by (id_cases i n) where
+    by : (i ≡ n) ⊎ (i ≢ n) → rows i ≡ Some r
+    by (inl q) = absurd (let z : None ≡ Some u = sym (no_last form) ∙ (ap last_tag (some_is (record { form = form; last = None }) r (sym (ap rows' q ∙ b.given) ∙ e)) ∙ l) in cc)
+    by (inr ne) = sym (b.others i ne) ∙ e
+
+  reach_stays : (i c : Id) → Reaches (forms rows) i c → Reaches (forms rows') i c
+  reach_stays i c r = reach_more (forms rows) (forms rows') i (λ k q g h e m. form_stays k (not_new k (subst IsSome (sym e) refl)) ∙ e) c r
+
+  -- no tag leads to the new one's yet
+  unled_now : (i u s : Id) (r : Row) → rows i ≡ Some r → last_tag r ≡ Some u → own_by form None ≡ Some s → list_any (same_id s) (t.leads_of tags.tags u) ≡ false
+  unled_now i u s r e l o = by (combined_is (t.tag_at tags u) (last_combined tags r.form r.last u (sound.fits i r e) l)) where
+    by : (leads : List Id) × (t.tag_at tags u ≡ Some (t.combined leads)) → list_any (same_id s) (t.leads_of tags.tags u) ≡ false
+    by (leads, d) = ap (λ x. list_any (same_id s) (t.leads_by u x)) d ∙ unled s o u leads d
+
+  leads_now : LeadsWithin tags rows'
+  leads_now i u c s r e l a h = by (id_cases c n) where
+    was : rows i ≡ Some r
+    was = was_there i u r e l
+
+    by : (c ≡ n) ⊎ (c ≢ n) → list_any (same_id s) (t.leads_of tags.tags u) ≡ false
+    by (inl q) = unled_now i u s r was l (ap own_tag (sym b.given ∙ (ap rows' (sym q) ∙ a.is)))
+    by (inr ne) = sound.leads i u c s r was l (record { kind = a.kind; was = a.was; last = a.last; is = sym (b.others c ne) ∙ a.is }) (λ x. h (reach_stays i c x))
+
+  combined_now : CombinedOwned tags rows'
+  combined_now u h = sound.combined u (λ i o. by i o (id_cases i n)) where
+    by : (i : Id) → own_tag (rows i) ≡ Some u → (i ≡ n) ⊎ (i ≢ n) → ⊥
+    by i o (inl q) = let z : None ≡ Some u = sym (ap own_tag (ap rows q ∙ b.vacant)) ∙ o in cc
+    by i o (inr ne) = h i (ap own_tag (b.others i ne) ∙ o)
+
   pub made_sound : IsSound tags rows'
   made_sound = record {
     tags_sound = sound.tags_sound;
@@ -97,6 +131,8 @@ module _ (tags : t.Tags) (rows rows' : Rows) (n : Id) (form : Form) (sound : IsS
     fits = fits_now;
     owned = owned_now;
     right = right_now;
+    leads = leads_now;
+    combined = combined_now;
   }
 
 own_none : (g : Form) → is_bound g ≡ true → own_by g None ≡ None
@@ -109,4 +145,4 @@ own_none (all_form ids) e = refl
 
 -- one that is bound has no tag yet
 pub bind_sound : (tags : t.Tags) (rows rows' : Rows) (n : Id) (form : Form) → IsSound tags rows → Binds rows rows' n form → is_bound form ≡ true → IsSound tags rows'
-bind_sound tags rows rows' n form sound b bound = made_sound tags rows rows' n form sound b (fits_bound tags form None bound tt) (λ i u e. absurd (let z : None ≡ Some u = sym (own_none form bound) ∙ e in cc))
+bind_sound tags rows rows' n form sound b bound = made_sound tags rows rows' n form sound b (fits_bound tags form None bound tt) (λ i u e. absurd (let z : None ≡ Some u = sym (own_none form bound) ∙ e in cc)) (λ u e. absurd (let z : None ≡ Some u = sym (own_none form bound) ∙ e in cc))

@@ -10,6 +10,7 @@ use Rattle.gl_refs.specs.Forms.{V, Form, constant_form, source_form, prop_form, 
 use Rattle.gl_refs.specs.State.{Last, Row, Rows, forms, Kept, kept_by, kept_row, kept, own_tag, own_by, is_combined, LastFits, RowFits, is_bound, IsSound, Evaluates, Swaps, StaysOr, Settles, Gathers, Puts, IsKept, held_value, held_tag, reads_of, held}
 use Rattle.gl_refs.proofs.Meanings.{meaning_is, below_is, by_like, each_read}
 use Rattle.gl_refs.proofs.Rows.{combined_is, bound_kept, fresh_last, last_fresh, kept_held}
+use Rattle.gl_refs.proofs.Leading.{not_both, own_there}
 use Rattle.gl_refs.proofs.Evaluating.{forms_stay, evaluated, order_stays, others_own}
 
 some_of : {A : Type 0} (o : Option A) → IsSome o → (x : A) × (o ≡ Some x)
@@ -34,23 +35,6 @@ no_sources (all_form ids) e = refl
 flat_map-map : (f : Id → List Id) (g : Id → Id) (xs : List Id) → flat_map f (map g xs) ≡ flat_map (λ x. f (g x)) xs
 flat_map-map f g [] = refl
 flat_map-map f g (x ∷ xs) = ap (λ ys. f (g x) ++ ys) (flat_map-map f g xs)
-
-own_live : (tags : t.Tags) (g : Form) (o : Option Last) (u : Id) → RowFits tags g o → own_by g o ≡ Some u → t.tag_at tags u ≡ None → ⊥
-own_live tags g o u f e v = by g o f e where
-  id_is : (x : Id) → Some x ≡ Some u → x ≡ u
-  id_is x e = cc
-
-  last : (o : Option Last) → LastFits tags o → option_map (λ (x : Last). x.tag) o ≡ Some u → ⊥
-  last None f e = let n : None ≡ Some u = e in cc
-  last (Some l) f e = let n : false ≡ true = sym (ap is_combined (ap (named tags.tags) (id_is l.tag e) ∙ v)) ∙ f.0 in cc
-
-  by : (g : Form) (o : Option Last) → RowFits tags g o → own_by g o ≡ Some u → ⊥
-  by (constant_form x) o f e = let n : None ≡ Some u = e in cc
-  by (source_form k s x) o f e = let n : false ≡ true = sym (ap t.is_dirtyable (ap (named tags.tags) (id_is s e) ∙ v)) ∙ f in cc
-  by (prop_form r n) o f e = last o f e
-  by (call_form n ids ns) o f e = last o f e
-  by (cat_form ids) o f e = last o f e
-  by (all_form ids) o f e = last o f e
 
 module _ (tags tags' : t.Tags) (rows rows' : Rows) (i : Id) (sound : IsSound tags rows) (row : Row) (old : rows i ≡ Some row) (bound : is_bound row.form ≡ true) (ready : Each (IsKept tags rows) (reads_of rows i)) where
   form_is : form_at (forms rows) i ≡ row.form
@@ -91,10 +75,7 @@ module _ (tags tags' : t.Tags) (rows rows' : Rows) (i : Id) (sound : IsSound tag
       (is : last ≡ record { value = value; order = tags'.count; tag = u }) (value_is : value ≡ value_by (held_value rows) row.form)
       (given : rows' i ≡ Some (record { form = row.form; last = Some last })) (others : (k : Id) → k ≢ i → rows' k ≡ rows k) where
     not_owned : (k : Id) → own_tag (rows k) ≢ Some u
-    not_owned k e = by (rows k) refl e where
-      by : (x : Option Row) → rows k ≡ x → own_tag x ≡ Some u → ⊥
-      by None f g = let n : None ≡ Some u = g in cc
-      by (Some r) f g = own_live tags r.form r.last u (sound.fits k r f) g swaps.vacant
+    not_owned k e = own_there tags rows sound k u e swaps.vacant
 
     old_combined : (k : Id) → o ≡ Some k → is_combined (t.tag_at tags k) ≡ true
     old_combined k e = by row.form row.last bound (sound.fits i row old) (sym (owns ∙ ap own_tag old) ∙ e) where
@@ -112,12 +93,6 @@ module _ (tags tags' : t.Tags) (rows rows' : Rows) (i : Id) (sound : IsSound tag
       by (call_form n ids ns) l b f e = in_last l f e
       by (cat_form ids) l b f e = in_last l f e
       by (all_form ids) l b f e = in_last l f e
-
-    either : (x : Option t.Tag) → t.is_dirtyable x ≡ true → is_combined x ≡ true → ⊥
-    either None d e = let n : false ≡ true = d in cc
-    either (Some t.constant) d e = let n : false ≡ true = d in cc
-    either (Some (t.dirtyable a b)) d e = let n : false ≡ true = e in cc
-    either (Some (t.combined ls)) d e = let n : false ≡ true = d in cc
 
     tag_is : last.tag ≡ u
     tag_is = ap (λ (l : Last). l.tag) is
@@ -140,8 +115,11 @@ module _ (tags tags' : t.Tags) (rows rows' : Rows) (i : Id) (sound : IsSound tag
       tags_sound = swaps.sound;
       still = swaps.rest.still;
       count = swaps.rest.count;
-      dirtyable = λ k d. swaps.others k (λ e. absurd (let n : false ≡ true = sym (ap t.is_dirtyable (ap (named tags.tags) e ∙ swaps.vacant)) ∙ d in cc)) (λ e. either (t.tag_at tags k) d (old_combined k e));
+      dirtyable = λ k d. swaps.others k (λ e. absurd (let n : false ≡ true = sym (ap t.is_dirtyable (ap (named tags.tags) e ∙ swaps.vacant)) ∙ d in cc)) (λ e. not_both (t.tag_at tags k) d (old_combined k e));
       tags_others = λ k v ne e. swaps.others v (λ q. not_owned k (e ∙ ap (λ x. Some x) q)) (λ q. ne (sound.owned k i v e (sym owns ∙ q)));
+      swapped = λ k ne e.
+          let gone : (o ≡ Some k) → ⊥ = λ q. let n : false ≡ true = sym (ap is_combined (swaps.ended k q)) ∙ e in cc in
+          (sym (ap is_combined (swaps.others k (λ q. ne (q ∙ sym tag_is)) gone)) ∙ e, λ q. gone (owns ∙ q));
     }
 
 orders_le : (tags : t.Tags) → t.IsSound tags → (leads : List Id) (m : ℕ) → m ≤ tags.count → t.greatest_from m (map (λ k. t.order (named tags.tags k)) leads) ≤ tags.count
@@ -205,7 +183,12 @@ module _ (tags tags' : t.Tags) (rows rows' : Rows) (i : Id) (sound : IsSound tag
     count = s.count;
     dirtyable = s.dirtyable;
     stays = λ k. stays k (id_cases k i);
+    either = λ k. either k (id_cases k i);
   } where
+    either : (k : Id) → (k ≡ i) ⊎ (k ≢ i) → StaysOr (λ q. Own q × IsKept tags' rows' q) tags tags' rows rows' k
+    either k (inl e) = inr (subst Own (sym e) own, subst (IsKept tags' rows') (sym e) kept_now)
+    either k (inr n) = inl (s.others k n, λ u e. s.tags_others k u n e)
+
     stays : (k : Id) → (k ≡ i) ⊎ (k ≢ i) → StaysOr Own tags tags' rows rows' k
     stays k (inl e) = inr (subst Own (sym e) own)
     stays k (inr n) = inl (s.others k n, λ u e. s.tags_others k u n e)
@@ -220,7 +203,7 @@ module _ (tags tags' : t.Tags) (rows rows' : Rows) (i : Id) (sound : IsSound tag
 
 -- nothing changes
 pub settles_none : (Own : Id → Type 0) (tags : t.Tags) (rows : Rows) → IsSound tags rows → Settles Own tags tags rows rows
-settles_none Own tags rows s = record { sound = s; forms = refl; rest = λ k. inl refl; keeps = λ k h. h; clock = refl; count = refl; dirtyable = λ u e. refl; stays = λ k. inl (refl, λ u e. refl) }
+settles_none Own tags rows s = record { sound = s; forms = refl; rest = λ k. inl refl; keeps = λ k h. h; clock = refl; count = refl; dirtyable = λ u e. refl; stays = λ k. inl (refl, λ u e. refl); either = λ k. inl (refl, λ u e. refl) }
 
 pub settles_same : (Own : Id → Type 0) (tags tags' : t.Tags) (rows rows' : Rows) → IsSound tags rows → tags' ≡ tags → rows' ≡ rows → Settles Own tags tags' rows rows'
 settles_same Own tags tags' rows rows' s e f = subst (λ x. Settles Own tags x rows rows') (sym e) (subst (λ x. Settles Own tags tags rows x) (sym f) (settles_none Own tags rows s))
@@ -236,7 +219,13 @@ settles_then Own ta tb tc ra rb rc a b = record {
   count = b.count ∙ a.count;
   dirtyable = λ u d. b.dirtyable u (ap t.is_dirtyable (a.dirtyable u d) ∙ d) ∙ a.dirtyable u d;
   stays = λ k. stays k (a.stays k) (b.stays k);
+  either = λ k. either k (a.either k) (b.either k);
 } where
+  either : (k : Id) → StaysOr (λ q. Own q × IsKept tb rb q) ta tb ra rb k → StaysOr (λ q. Own q × IsKept tc rc q) tb tc rb rc k → StaysOr (λ q. Own q × IsKept tc rc q) ta tc ra rc k
+  either k (inl e) (inl f) = inl (f.0 ∙ e.0, λ u o. f.1 u (ap own_tag e.0 ∙ o) ∙ e.1 u o)
+  either k (inr h) f = inr (h.0, b.keeps k h.1)
+  either k (inl e) (inr h) = inr h
+
   stays : (k : Id) → StaysOr Own ta tb ra rb k → StaysOr Own tb tc rb rc k → StaysOr Own ta tc ra rc k
   stays k (inl e) (inl f) = inl (f.0 ∙ e.0, λ u o. f.1 u (ap own_tag e.0 ∙ o) ∙ e.1 u o)
   stays k (inr h) f = inr h
@@ -258,7 +247,12 @@ settles_more Own More ta tb ra rb h s = record {
   count = s.count;
   dirtyable = s.dirtyable;
   stays = λ k. stays k (s.stays k);
+  either = λ k. either k (s.either k);
 } where
+  either : (k : Id) → StaysOr (λ q. Own q × IsKept tb rb q) ta tb ra rb k → StaysOr (λ q. More q × IsKept tb rb q) ta tb ra rb k
+  either k (inl e) = inl e
+  either k (inr o) = inr (h k o.0, o.1)
+
   stays : (k : Id) → StaysOr Own ta tb ra rb k → StaysOr More ta tb ra rb k
   stays k (inl e) = inl e
   stays k (inr o) = inr (h k o)

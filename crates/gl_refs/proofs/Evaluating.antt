@@ -2,13 +2,14 @@
 use Rattle.std.proofs.Common.{◌≡◌, ◌≢◌, ℕ, ◌≤◌, Bool, true, false, not, List, [], ◌∷◌, map, Option, Some, None, option_map, refl, sym, subst, ◌∙◌, ap, arith, ◌⊎◌, inl, inr}
 use Rattle.std.specs.List.{list_any}
 use Rattle.std.proofs.lemmas.Bool.{or_parts}
-use Rattle.gl_arena.specs.Id.{Id}
+use Rattle.gl_arena.specs.Id.{Id, same_id}
 use Rattle.gl_arena.specs.Arena.{named}
 use Rattle.gl_arena.proofs.Ids.{id_cases}
 use Rattle.gl_tags.specs.Tags as t
 use Rattle.gl_refs.specs.Forms.{Form, constant_form, source_form, prop_form, call_form, cat_form, all_form, meaning, Like, AreLower, AreKnown}
-use Rattle.gl_refs.specs.State.{Last, Row, Rows, forms, kept_row, kept_pair, IsRight, own_tag, is_combined, LastFits, RowFits, is_bound, IsSound, Evaluates}
-use Rattle.gl_refs.proofs.Rows.{fits_bound, bound_own, row_right, was_right}
+use Rattle.gl_refs.specs.State.{Last, Row, Rows, forms, kept_row, kept_pair, IsRight, own_tag, is_combined, LastFits, RowFits, is_bound, IsSource, Reaches, LeadsWithin, CombinedOwned, IsSound, Evaluates}
+use Rattle.gl_refs.proofs.Rows.{fits_bound, bound_own, row_right, was_right, some_is}
+use Rattle.gl_refs.proofs.Leading.{last_owned, sources_named}
 
 -- (the forms stay)
 pub forms_stay : (tags tags' : t.Tags) (rows rows' : Rows) (i : Id) → Evaluates tags tags' rows rows' i → forms rows' ≡ forms rows
@@ -20,6 +21,10 @@ forms_stay tags tags' rows rows' i s = λ t k. at k (id_cases k i) t where
 abbrev last_in : Option Row → Option Last
 last_in None = None
 last_in (Some x) = x.last
+
+abbrev bound_in : Option Row → Bool
+bound_in None = false
+bound_in (Some x) = is_bound x.form
 
 module _ (tags tags' : t.Tags) (rows rows' : Rows) (i : Id) (sound : IsSound tags rows) (s : Evaluates tags tags' rows rows' i) where
   means : (k : Id) → meaning (forms rows') k ≡ meaning (forms rows) k
@@ -116,6 +121,41 @@ module _ (tags tags' : t.Tags) (rows rows' : Rows) (i : Id) (sound : IsSound tag
             sources = λ p. ap (λ x. list_any p (t.leads_by l.tag x)) tag ∙ (w.sources p ∙ ap (λ x. list_any p x.sources) (sym (means k)));
           }
 
+  source_was : (c w : Id) → IsSource rows' c w → IsSource rows c w
+  source_was c w a = by (id_cases c i) where
+    by : (c ≡ i) ⊎ (c ≢ i) → IsSource rows c w
+    by (inl q) = absurd (let n : true ≡ false = sym s.bound ∙ ap bound_in (sym s.given ∙ (ap rows' (sym q) ∙ a.is)) in cc)
+    by (inr n) = record { kind = a.kind; was = a.was; last = a.last; is = sym (s.others c n) ∙ a.is }
+
+  leads_now : LeadsWithin tags' rows'
+  leads_now k u c w r e l a h = by (id_cases k i) where
+    apart : Reaches (forms rows) k c → ⊥
+    apart q = h (subst (λ x. Reaches x k c) (sym (forms_stay tags tags' rows rows' i s)) q)
+
+    own : own_tag (rows' k) ≡ Some u
+    own = ap own_tag e ∙ last_owned r.form r.last u l
+
+    by : (k ≡ i) ⊎ (k ≢ i) → list_any (same_id w) (t.leads_of tags'.tags u) ≡ false
+    by (inl q) =
+        ap (λ x. list_any (same_id w) (t.leads_of tags'.tags x)) (some_is u s.last.tag (sym own ∙ (ap (λ x. own_tag (rows' x)) q ∙ own_i)))
+        ∙ (s.like.sources (same_id w) ∙ sources_named rows i c w sound.owned (source_was c w a) (λ y. apart (subst (λ x. Reaches (forms rows) x c) (sym q) y)))
+    by (inr n) =
+        let was = sym (s.others k n) ∙ e in
+        ap (λ x. list_any (same_id w) (t.leads_by u x)) (s.tags_others k u n (ap own_tag (sym (s.others k n)) ∙ own)) ∙ sound.leads k u c w r was l (source_was c w a) apart
+
+  combined_now : CombinedOwned tags' rows'
+  combined_now u h = by (is_combined (t.tag_at tags' u)) refl where
+    other : (u ≡ s.last.tag) ⊎ (u ≢ s.last.tag) → is_combined (t.tag_at tags' u) ≡ true → ⊥
+    other (inl q) e = h i (own_i ∙ ap (λ x. Some x) (sym q))
+    other (inr n) e = let w = s.swapped u n e in let m : true ≡ false = sym w.0 ∙ sound.combined u (λ k o. at w.1 k o (id_cases k i)) in cc where
+      at : own_tag (rows i) ≢ Some u → (k : Id) → own_tag (rows k) ≡ Some u → (k ≡ i) ⊎ (k ≢ i) → ⊥
+      at w k o (inl q) = w (ap (λ x. own_tag (rows x)) (sym q) ∙ o)
+      at w k o (inr n) = h k (ap own_tag (s.others k n) ∙ o)
+
+    by : (b : Bool) → is_combined (t.tag_at tags' u) ≡ b → b ≡ false
+    by false e = refl
+    by true e = absurd (other (id_cases u s.last.tag) e)
+
   pub evaluated : IsSound tags' rows'
   evaluated = record {
     tags_sound = s.tags_sound;
@@ -124,4 +164,6 @@ module _ (tags tags' : t.Tags) (rows rows' : Rows) (i : Id) (sound : IsSound tag
     fits = fits_now;
     owned = owned_now;
     right = right_now;
+    leads = leads_now;
+    combined = combined_now;
   }

@@ -4,8 +4,12 @@ pub mod Setting
 pub mod Evaluating
 pub mod Computing
 pub mod Binding
+pub mod Reaching
+pub mod Leading
 pub mod Freeing
 pub mod Waits
+pub mod Totals
+pub mod Counting
 mod Joined
 mod Seen
 mod Stacks

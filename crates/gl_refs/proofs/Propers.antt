@@ -1,16 +1,16 @@
 -- References over proper values mean proper values.
-use Rattle.std.proofs.Common.{◌≡◌, ℕ, zero, suc, ◌<◌, ◌≤◌, List, [], ◌∷◌, map, filter, Bool, true, false, cond, ltb, ltb-false, Option, Some, None, refl, sym, ap, ◌∙◌, ◌⊎◌, inl, inr, arith}
-use Rattle.std.specs.Prelude.{IsTrue, nat_eq, nat_lt, not, eqb, ◌&&◌, option_map, unwrap_or, slice_get}
+use Rattle.std.proofs.Common.{◌≡◌, ℕ, zero, suc, List, [], ◌∷◌, map, filter, Bool, true, false, cond, ltb, ltb-false, Option, Some, None, refl, inl, inr, arith}
+use Rattle.std.specs.Prelude.{nat_eq, nat_lt, not, eqb, ◌&&◌, option_map, unwrap_or, slice_get}
 use Rattle.std.specs.declared.cmp.Ordering.{Ordering}
 use Rattle.std.specs.declared.cmp.Ordering.TheVariants.{Less, Equal, Greater}
 use Rattle.gl_base.specs.Texts.{Text, bytes_of}
 use Rattle.gl_arena.specs.Id.{Id}
-use Rattle.gl_value.specs.Value.{Value, undefined, is_missing, depth, pairs, Members, no_members, pairs_of, pair_list, values_of, text_of, join_kept, join_values}
+use Rattle.gl_value.specs.Value.{undefined, is_missing, depth, pairs, Members, no_members, pairs_of, pair_list, values_of, text_of, join_kept}
 use Rattle.gl_value.specs.Helpers as helper
 use Rattle.gl_value.specs.Helpers.{Helper, helper_numbered, helper_value, raw_value, not_deep, put_member, members_of, members_in, items_in, is_record, has_property, updated, argument}
 use Rattle.gl_value.specs.Proper.{IsProper, Keeps, KeepAll, KeepMembers}
 use Rattle.gl_value.proofs.Propers.{property_proper}
-use Rattle.gl_value.proofs.Values.{values_of-list_of, pairs_of-pair_list}
+use Rattle.gl_value.proofs.Values.{pairs_of-pair_list}
 use Rattle.gl_helpers.specs.Proper.{AllProper, NamedProper}
 use Rattle.gl_helpers.specs.Records.{text_order, put_pair}
 use Rattle.gl_helpers.specs.declared.helper.Choice.TheVariants as choice

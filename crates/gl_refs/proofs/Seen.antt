@@ -1,7 +1,6 @@
 -- The rows as the code has them, and as contracts see them.
-use Rattle.std.proofs.Common.{◌≡◌, ◌≢◌, ℕ, zero, suc, ◌+◌, ◌≤◌, append_assoc, add-one, Bool, true, false, List, [], ◌∷◌, ◌++◌, map, drop, Option, Some, None, Result, Ok, Err, option_map, unwrap_or, length, IsSome, IsTrue, IsOk, IsErr, nat_eq, arith, OnOk, refl, sym, ap, subst, ◌∙◌, ◌⊎◌, inl, inr}
-use Rattle.std.specs.Prelude.{slice_get, slice_index_or}
-use Rattle.std.specs.List.{list_any}
+use Rattle.std.proofs.Common.{◌≡◌, ℕ, zero, suc, ◌+◌, ◌≤◌, append_assoc, add-one, Bool, true, false, List, [], ◌∷◌, ◌++◌, map, drop, Option, Some, None, Result, Ok, Err, option_map, unwrap_or, length, IsSome, IsTrue, IsOk, IsErr, nat_eq, arith, OnOk, refl, sym, ap, subst, ◌∙◌}
+use Rattle.std.specs.Prelude.{slice_get}
 use Rattle.std.specs.Bool.{Decides}
 use Rattle.std.proofs.lemmas.Bool.Decides.{Decides-eqb}
 use Rattle.gl_base.specs.Texts.{Text}
@@ -11,13 +10,12 @@ use Rattle.gl_value.specs.Helpers.{helper_table, helper_value, helper_numbered}
 use Rattle.gl_value.specs.View.{view}
 use Rattle.gl_value.specs.declared.value.Value.{Value}
 use Rattle.gl_value.proofs.Sameness.{same-Decides}
-use Rattle.gl_arena.specs.Id.{Id, same_id}
-use Rattle.gl_arena.proofs.Ids.{id_cases}
-use Rattle.gl_arena.specs.Arena.{Arena, named, stamped, with_value, Gives, Ends}
+use Rattle.gl_arena.specs.Id.{Id}
+use Rattle.gl_arena.specs.Arena.{Arena, named, with_value, Ends}
 use Rattle.gl_arena.proofs.Values.{with_value-writes}
 use Rattle.gl_arena.proofs.Mapped.{named-mapped, with_value-mapped}
 use Rattle.gl_tags.specs.Tags as t
-use Rattle.gl_refs.specs.Forms.{V, Form, constant_form, source_form, prop_form, call_form, cat_form, all_form, called, parts, IsReadFor, IsUnread}
+use Rattle.gl_refs.specs.Forms.{V, Form, constant_form, source_form, prop_form, call_form, cat_form, all_form, called, IsReadFor, IsUnread}
 use Rattle.gl_refs.specs.State as s
 use Rattle.gl_refs.specs.State.{forms, held, is_source, is_cell, is_item, IsKept, IsSound, Settles, Puts}
 use Rattle.gl_refs.specs.Refs as r
@@ -43,6 +41,10 @@ to_seen P a h = subst P (sym (rows-seen a)) h
 
 pub of_seen : (P : s.Rows → Type 0) (a : Arena Row) → P (λ i. named (rows_in a) i) → P (rows_of a)
 of_seen P a h = subst P (rows-seen a) h
+
+-- and where both see the same
+pub rows_same : (P : s.Rows → Type 0) (a b : Arena Row) → rows_in b ≡ rows_in a → P (rows_of a) → P (rows_of b)
+rows_same P a b e h = of_seen P b (subst (λ x. P (λ i. named x i)) (sym e) (to_seen P a h))
 
 -- a last evaluation is put in a row
 pub puts_last : (a : Arena Row) (id : Id) (row new : Row) (last : Last) → named a id ≡ Some row → new ≡ record row { last = Some last } → Puts (rows_of a) (rows_of (with_value a id new)) id (seen_last last)
@@ -175,6 +177,8 @@ module _ (tags : t.Tags) (n : ℕ) where
     fits = λ i q e. fits_advanced q.form q.last (h.fits i q e);
     owned = h.owned;
     right = λ i k e. h.right i k (sym (row_advanced (rows i)) ∙ e);
+    leads = h.leads;
+    combined = h.combined;
   }
 
 -- where a list is read by places
@@ -267,57 +271,17 @@ sets_value a b ta tb evals asks done id kind value h tags rows = record {
   counts = record { evals = refl; asks = refl; evaluated = refl };
 }
 
--- the tag of a last evaluation is combined
-pub last_combined : (tags : t.Tags) (g : Form) (o : Option s.Last) (u : Id) → s.RowFits tags g o → s.last_by g o ≡ Some u → s.is_combined (t.tag_at tags u) ≡ true
-last_combined tags g o u f e = by g f e where
-  id_is : (x : Id) → Some x ≡ Some u → x ≡ u
-  id_is x e = cc
-
-  last : (o : Option s.Last) → s.LastFits tags o → option_map (λ (x : s.Last). x.tag) o ≡ Some u → s.is_combined (t.tag_at tags u) ≡ true
-  last None f e = absurd (let n : None ≡ Some u = e in cc)
-  last (Some l) f e = ap (λ x. s.is_combined (named tags.tags x)) (sym (id_is l.tag e)) ∙ f.0
-
-  by : (g : Form) → s.RowFits tags g o → s.last_by g o ≡ Some u → s.is_combined (t.tag_at tags u) ≡ true
-  by (constant_form v) f e = absurd (let n : None ≡ Some u = e in cc)
-  by (source_form k w v) f e = absurd (let n : None ≡ Some u = e in cc)
-  by (prop_form x m) f e = last o f e
-  by (call_form h ids ns) f e = last o f e
-  by (cat_form ids) f e = last o f e
-  by (all_form ids) f e = last o f e
-
-pub last_owned : (g : Form) (o : Option s.Last) (u : Id) → s.last_by g o ≡ Some u → s.own_by g o ≡ Some u
-last_owned (constant_form v) o u e = absurd (let n : None ≡ Some u = e in cc)
-last_owned (source_form k w v) o u e = absurd (let n : None ≡ Some u = e in cc)
-last_owned (prop_form x m) o u e = e
-last_owned (call_form h ids ns) o u e = e
-last_owned (cat_form ids) o u e = e
-last_owned (all_form ids) o u e = e
-
-not_both : (x : Option t.Tag) → t.is_dirtyable x ≡ true → s.is_combined x ≡ true → ⊥
-not_both None d e = let n : false ≡ true = d in cc
-not_both (Some t.constant) d e = let n : false ≡ true = d in cc
-not_both (Some (t.dirtyable a b)) d e = let n : false ≡ true = e in cc
-not_both (Some (t.combined ls)) d e = let n : false ≡ true = d in cc
-
--- a reference that nothing reads is ended, with the tag of its last evaluation
-pub end_sound : (a b : Arena Row) (ta tb : t.Tags) (id : Id) (row : Row) → IsSound ta (rows_of a) → IsUnread (forms (rows_of a)) id → named a id ≡ Some row → Ends a b id → r.EndsTag ta tb (s.last_tag (seen_row row)) → t.IsSound tb
-    → IsSound tb (rows_of b)
-end_sound a b ta tb id row sound unread is ends tags tags_sound =
+-- a reference that nothing reads is ended, with its tag
+pub end_sound : (a b : Arena Row) (ta tb : t.Tags) (id : Id) → IsSound ta (rows_of a) → IsUnread (forms (rows_of a)) id → Ends (rows_in a) (rows_in b) id → s.EndsTag ta tb (s.own_tag (rows_of a id)) → t.IsSound tb → IsSound tb (rows_of b)
+end_sound a b ta tb id sound unread ends tag tags_sound =
     free_sound ta tb (rows_of a) (rows_of b) id sound
     (record {
       unread = unread;
-      ended = ap (option_map seen_row) ends.ended;
-      others = λ k ne. ap (option_map seen_row) (ends.others k ne);
+      ended = sym (named-mapped seen_row b id) ∙ ends.ended;
+      others = λ k ne. sym (named-mapped seen_row b k) ∙ (ends.others k ne ∙ named-mapped seen_row a k);
       tags_sound = tags_sound;
-      count = tags.rest.count;
-      dirtyable = λ k d. tags.others k (λ e. not_both (t.tag_at ta k) d (combined k e));
-      tags_others = λ k u ne e. tags.others u (λ q. ne (sound.owned k id u e (ap s.own_tag at ∙ last_owned (seen_row row).form (seen_row row).last u q)));
-    }) where
-      at : rows_of a id ≡ Some (seen_row row)
-      at = ap (option_map seen_row) is
-
-      combined : (k : Id) → s.last_tag (seen_row row) ≡ Some k → s.is_combined (t.tag_at ta k) ≡ true
-      combined k e = last_combined ta (seen_row row).form (seen_row row).last k (sound.fits id (seen_row row) at) e
+      tag = tag;
+    })
 
 pub on_ok : {A E P Q : Type 0} (q : Result A E) → (P → Q) → OnOk q P → OnOk q Q
 on_ok (Ok x) h p = h p
@@ -353,24 +317,3 @@ module _ (a b : Arena Row) (ta tb : t.Tags) (evals asks : ℕ) (done : List Id) 
 
   pub held_seen : r.Holds (before a b ta tb evals asks done id) id true value → held (rows_of a id) ≡ Some value
   held_seen h = ap held (sym (named-mapped seen_row a id) ∙ h.is)
-
--- an item stays one, whatever it is given
-pub given_item : (old new : Refs) (id : Id) (v : V) → is_item (r.forms_of old id) ≡ true → (r.Holds old id true v × (new ≡ old)) ⊎ ((r.Holds old id true v → ⊥) × r.SetsValue old new id true v) → is_item (r.forms_of new id) ≡ true
-given_item old new id v h (inl k) = ap (λ q. is_item (r.forms_of q id)) k.1 ∙ h
-given_item old new id v h (inr k) =
-    let x = k.1 in
-    let w = with_value-writes old.rows id (record { form = source_form true x.tag v; last = x.last }) (subst IsSome (sym x.held) refl) in
-    ap (λ (a : Arena s.Row). is_item (forms (λ i. named a i) id)) x.rows ∙ ap (λ o. is_item (option_map (λ (q : s.Row). q.form) o)) w.given
-
--- a constant that was made alone is read by nothing
-pub alone_unread : (old new : Refs) (k : Id) (v : V) → old.rows.slots ≡ [] → Gives old.rows new.rows k (record { form = constant_form v; last = None }) → IsUnread (r.forms_of new) k
-alone_unread old new k v e g i q h = by (id_cases i k) where
-  form_is : (x y : Form) → Some x ≡ Some y → x ≡ y
-  form_is x y e = cc
-
-  empty : named old.rows i ≡ None
-  empty = ap (λ s. stamped i.1 (slice_index_or s i.0 None)) e
-
-  by : (i ≡ k) ⊎ (i ≢ k) → list_any (same_id k) (parts q) ≡ false
-  by (inl p) = subst (λ x. list_any (same_id k) (parts x) ≡ false) (form_is (constant_form v) q (sym (ap (option_map (λ (x : s.Row). x.form)) (ap (named new.rows) p ∙ g.given)) ∙ h)) refl
-  by (inr ne) = absurd (let n : None ≡ Some q = sym (ap (option_map (λ (x : s.Row). x.form)) (g.others i ne ∙ empty)) ∙ h in cc)

@@ -11,9 +11,11 @@ use Rattle.gl_tags.specs.Tags as t
 use Rattle.gl_tags.proofs.Greatest.{lead_below}
 use Rattle.gl_value.specs.Value.{undefined}
 use Rattle.gl_refs.specs.Forms.{V, Form, constant_form, source_form, prop_form, call_form, cat_form, all_form, own_sources, form_or, form_at, meaning, Like, AreLower, is_known, AreKnown, parts, Each}
-use Rattle.gl_refs.specs.State.{Last, Row, Rows, forms, kept_row, kept_pair, IsRight, own_tag, is_combined, LastFits, RowFits, is_bound, IsSound, Sets}
+use Rattle.gl_refs.specs.State.{Last, Row, Rows, forms, kept_row, kept_pair, IsRight, own_tag, is_combined, LastFits, RowFits, is_bound, last_tag, IsSource, Reaches, CombinedOwned, IsSound, Sets}
 use Rattle.gl_refs.proofs.Meanings.{cold, each_map}
-use Rattle.gl_refs.proofs.Rows.{combined_is, bound_fits, row_right, was_right}
+use Rattle.gl_refs.proofs.Rows.{combined_is, bound_fits, row_right, was_right, some_is}
+use Rattle.gl_refs.proofs.Reaching.{reach_more}
+use Rattle.gl_refs.proofs.Leading.{not_both, last_combined, leads_kept}
 
 reads_stay : (f : Id → ℕ) (g : Id → ℕ) (s : Id) → ((k : Id) → k ≢ s → g k ≡ f k) → (leads : List Id) → list_any (same_id s) leads ≡ false → map g leads ≡ map f leads
 reads_stay f g s h [] e = refl
@@ -143,13 +145,11 @@ module _ (tags tags' : t.Tags) (rows rows' : Rows) (c : Id) (value : V) (sound :
     by (inl e) = ap (λ x. t.is_dirtyable (named tags'.tags x)) e ∙ ap t.is_dirtyable (tag_given tags tags' rows rows' c value sound s)
     by (inr n) = ap t.is_dirtyable (tag_others tags tags' rows rows' c value sound s k n) ∙ h
 
+  dirty_other : (u : Id) → is_combined (named tags.tags u) ≡ true → named tags'.tags u ≡ named tags.tags u
+  dirty_other u h = tag_others tags tags' rows rows' c value sound s u (λ e. not_both (named tags.tags u) (ap (λ x. t.is_dirtyable (named tags.tags x)) e ∙ live tags tags' rows rows' c value sound s) h)
+
   combined_stays : (k : Id) → is_combined (named tags.tags k) ≡ true → is_combined (named tags'.tags k) ≡ true
-  combined_stays k h = ap is_combined (tag_others tags tags' rows rows' c value sound s k (λ e. clash (named tags.tags k) (ap (λ x. t.is_dirtyable (named tags.tags x)) e ∙ live tags tags' rows rows' c value sound s) h)) ∙ h where
-    clash : (o : Option t.Tag) → t.is_dirtyable o ≡ true → is_combined o ≡ true → ⊥
-    clash None d e = let n : false ≡ true = d in cc
-    clash (Some t.constant) d e = let n : false ≡ true = d in cc
-    clash (Some (t.dirtyable a b)) d e = let n : false ≡ true = e in cc
-    clash (Some (t.combined ls)) d e = let n : false ≡ true = d in cc
+  combined_stays k h = ap is_combined (dirty_other k h) ∙ h
 
   more : tags'.count ≡ tags.count + 1
   more = ap (λ (x : t.Tags). x.count) s.dirtied
@@ -183,6 +183,40 @@ module _ (tags tags' : t.Tags) (rows rows' : Rows) (c : Id) (value : V) (sound :
     by (inl q) = ap own_tag (ap rows' q ∙ s.given) ∙ sym (ap own_tag (ap rows q ∙ s.old))
     by (inr n) = ap own_tag (s.others i n)
 
+  -- every row but that of the source was there before, and names what it named
+  last_was : (i u : Id) (r : Row) → rows' i ≡ Some r → last_tag r ≡ Some u → (was : Row) × ((rows i ≡ Some was) × ((last_tag was ≡ Some u) × (t.tag_at tags' u ≡ t.tag_at tags u)))
+  last_was i u r e l = by (id_cases i c) where
+    by : (i ≡ c) ⊎ (i ≢ c) → (was : Row) × ((rows i ≡ Some was) × ((last_tag was ≡ Some u) × (t.tag_at tags' u ≡ t.tag_at tags u)))
+    by (inl q) = absurd (let n : None ≡ Some u = ap last_tag (some_is (record { form = source_form s.kind s.tag value; last = s.last }) r (sym (ap rows' q ∙ s.given) ∙ e)) ∙ l in cc)
+    by (inr n) =
+        let was = sym (s.others i n) ∙ e in
+        (r, (was, (l, dirty_other u (last_combined tags r.form r.last u (sound.fits i r was) l))))
+
+  source_was : (k u : Id) → IsSource rows' k u → IsSource rows k u
+  source_was k u a = by (id_cases k c) where
+    by : (k ≡ c) ⊎ (k ≢ c) → IsSource rows k u
+    by (inl q) =
+        let e : u ≡ s.tag = some_is u s.tag (sym (ap own_tag a.is) ∙ ap own_tag (ap rows' q ∙ s.given)) in
+        record { kind = s.kind; was = s.was; last = s.last; is = ap rows q ∙ (s.old ∙ ap (λ x. let y : Row = record { form = source_form s.kind x s.was; last = s.last } in Some y) (sym e)) }
+    by (inr n) = record { kind = a.kind; was = a.was; last = a.last; is = sym (s.others k n) ∙ a.is }
+
+  reach_stays : (i k : Id) → Reaches (forms rows) i k → Reaches (forms rows') i k
+  reach_stays i k r = reach_more (forms rows) (forms rows') i (λ j q g h e m. form_same j q g e m) k r where
+    form_same : (j q : Id) (g : Form) → forms rows j ≡ Some g → list_any (same_id q) (parts g) ≡ true → forms rows' j ≡ Some g
+    form_same j q g e m = by (id_cases j c) where
+      by : (j ≡ c) ⊎ (j ≢ c) → forms rows' j ≡ Some g
+      by (inl x) = absurd (let n : false ≡ true = ap (λ y. list_any (same_id q) (parts y)) (some_is (source_form s.kind s.tag s.was) g (sym (ap (option_map (λ (r : Row). r.form)) (ap rows x ∙ s.old)) ∙ e)) ∙ m in cc)
+      by (inr n) = ap (option_map (λ (r : Row). r.form)) (s.others j n) ∙ e
+
+  combined_now : CombinedOwned tags' rows'
+  combined_now u h = by (is_combined (named tags'.tags u)) refl where
+    was : is_combined (named tags'.tags u) ≡ true → is_combined (named tags.tags u) ≡ true
+    was e = sym (ap is_combined (tag_others tags tags' rows rows' c value sound s u (λ q. not_both (named tags'.tags u) (ap (λ x. t.is_dirtyable (named tags'.tags x)) q ∙ ap t.is_dirtyable (tag_given tags tags' rows rows' c value sound s)) e))) ∙ e
+
+    by : (b : Bool) → is_combined (named tags'.tags u) ≡ b → b ≡ false
+    by false e = refl
+    by true e = absurd (let n : true ≡ false = sym (was e) ∙ sound.combined u (λ i o. h i (own_stays i ∙ o)) in cc)
+
   pub set_sound : IsSound tags' rows'
   set_sound = record {
     tags_sound = tags_sound;
@@ -191,4 +225,6 @@ module _ (tags tags' : t.Tags) (rows rows' : Rows) (c : Id) (value : V) (sound :
     fits = fits_now;
     owned = λ i k u e f. sound.owned i k u (sym (own_stays i) ∙ e) (sym (own_stays k) ∙ f);
     right = set_right tags tags' rows rows' c value sound s fits_now;
+    leads = leads_kept tags tags' rows rows' sound.leads last_was source_was (λ i k r e q. reach_stays i k q);
+    combined = combined_now;
   }

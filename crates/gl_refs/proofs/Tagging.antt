@@ -1,24 +1,28 @@
 -- A new reference, with a tag of its own where it is a source, leaves the others as they are.
 use Rattle.std.proofs.Common.{◌≡◌, ◌≢◌, ◌<◌, ◌≤◌, Bool, true, false, not, List, [], ◌∷◌, map, Option, Some, None, Result, Ok, Err, IfOk, OnErr, option_map, IsSome, refl, sym, subst, ◌∙◌, ap, arith, ◌⊎◌, inl, inr}
-use Rattle.std.specs.Prelude.{ℕ, ◌||◌}
+use Rattle.std.specs.Prelude.{ℕ}
 use Rattle.std.specs.List.{list_any}
 use Rattle.std.proofs.lemmas.Bool.{or_parts}
 use Rattle.gl_arena.specs.Id.{Id, same_id}
 use Rattle.gl_arena.specs.Arena.{Arena, named, Gives, Ends, IsStamped}
-use Rattle.gl_arena.proofs.Ids.{id_cases, same_id-true}
+use Rattle.gl_arena.proofs.Ids.{id_cases}
+use Rattle.gl_arena.proofs.Mapped.{named-mapped}
 use Rattle.gl_tags.specs.Tags as t
 use Rattle.gl_refs.specs.Forms.{Form, constant_form, source_form, prop_form, call_form, cat_form, all_form, meaning, Like, Each, parts, is_known}
-use Rattle.gl_refs.specs.State.{Last, Row, Rows, forms, kept_row, kept_pair, IsRight, own_tag, own_by, is_combined, LastFits, RowFits, is_bound, IsSound, Binds}
-use Rattle.gl_refs.specs.View.{rows_of, seen_row, seen_kind}
+use Rattle.gl_refs.specs.State.{Last, Row, Rows, forms, kept_row, kept_pair, IsRight, own_tag, own_by, is_combined, LastFits, RowFits, is_bound, LeadsWithin, CombinedOwned, IsSound, Binds}
+use Rattle.gl_refs.specs.View.{rows_of, rows_in, seen_row, seen_kind}
 use Rattle.gl_refs.specs.declared.row.Row as code
 use Rattle.gl_refs.specs.declared.row.Kind as code_kind
 use Rattle.gl_refs.proofs.Meanings.{each_map}
 use Rattle.gl_refs.proofs.Rows.{row_right, bound_own, was_right}
+use Rattle.gl_refs.proofs.Leading.{last_owned, own_there, leads_apart}
 use Rattle.gl_refs.proofs.Binding.{made_sound}
+use Rattle.gl_refs.proofs.Seen.{rows_same}
 
 -- where each tag that a reference has stays, and the dirtyable ones do, references stay sound
 module _ (tags tags' : t.Tags) (rows : Rows) (sound : IsSound tags rows) (ts : t.IsSound tags') (count : tags'.count ≡ tags.count)
-    (dirtyable : (k : Id) → t.is_dirtyable (t.tag_at tags k) ≡ true → t.tag_at tags' k ≡ t.tag_at tags k) (owned : (k u : Id) → own_tag (rows k) ≡ Some u → t.tag_at tags' u ≡ t.tag_at tags u) where
+    (dirtyable : (k : Id) → t.is_dirtyable (t.tag_at tags k) ≡ true → t.tag_at tags' k ≡ t.tag_at tags k) (owned : (k u : Id) → own_tag (rows k) ≡ Some u → t.tag_at tags' u ≡ t.tag_at tags u)
+    (combined : (k : Id) → is_combined (t.tag_at tags' k) ≡ true → is_combined (t.tag_at tags k) ≡ true) where
   all_same : (f : Option t.Tag → ℕ) (leads : List Id) → list_any (λ k. not (t.is_dirtyable (named tags.tags k))) leads ≡ false → map (λ k. f (named tags'.tags k)) leads ≡ map (λ k. f (named tags.tags k)) leads
   all_same f [] h = refl
   all_same f (x ∷ xs) h =
@@ -67,59 +71,44 @@ module _ (tags tags' : t.Tags) (rows : Rows) (sound : IsSound tags rows) (ts : t
           let x = was_right tags rows k r.form l sound.right old b (omega (arith, o, d)) in
           record { value = x.value; sources = λ p. ap (λ y. list_any p (t.leads_by l.tag y)) tag ∙ x.sources p }
 
+  leads_now : LeadsWithin tags' rows
+  leads_now i u c s r e l b h = ap (λ x. list_any (same_id s) (t.leads_by u x)) (owned i u (ap own_tag e ∙ last_owned r.form r.last u l)) ∙ sound.leads i u c s r e l b h
+
+  combined_now : CombinedOwned tags' rows
+  combined_now u h = by (is_combined (t.tag_at tags' u)) refl where
+    by : (b : Bool) → is_combined (t.tag_at tags' u) ≡ b → b ≡ false
+    by false e = refl
+    by true e = absurd (let n : true ≡ false = sym (combined u e) ∙ sound.combined u h in cc)
+
   pub tags_changed : IsSound tags' rows
-  tags_changed = record { tags_sound = ts; lower = sound.lower; known = sound.known; fits = fits_now; owned = sound.owned; right = right_now }
-
--- a reference has a live tag
-pub own_there : (tags : t.Tags) (rows : Rows) → IsSound tags rows → (k u : Id) → own_tag (rows k) ≡ Some u → t.tag_at tags u ≡ None → ⊥
-own_there tags rows sound k u e v = by (rows k) refl e where
-  id_is : (x : Id) → Some x ≡ Some u → x ≡ u
-  id_is x e = cc
-
-  last : (o : Option Last) → LastFits tags o → option_map (λ (x : Last). x.tag) o ≡ Some u → ⊥
-  last None f e = let n : None ≡ Some u = e in cc
-  last (Some l) f e = let n : false ≡ true = sym (ap is_combined (ap (named tags.tags) (id_is l.tag e) ∙ v)) ∙ f.0 in cc
-
-  form : (g : Form) (o : Option Last) → RowFits tags g o → own_by g o ≡ Some u → ⊥
-  form (constant_form x) o f e = let n : None ≡ Some u = e in cc
-  form (source_form w s x) o f e = let n : false ≡ true = sym (ap t.is_dirtyable (ap (named tags.tags) (id_is s e) ∙ v)) ∙ f in cc
-  form (prop_form x n) o f e = last o f e
-  form (call_form h ids ns) o f e = last o f e
-  form (cat_form ids) o f e = last o f e
-  form (all_form ids) o f e = last o f e
-
-  by : (o : Option Row) → rows k ≡ o → own_tag o ≡ Some u → ⊥
-  by None f e = let n : None ≡ Some u = e in cc
-  by (Some r) f e = form r.form r.last (sound.fits k r f) e
+  tags_changed = record { tags_sound = ts; lower = sound.lower; known = sound.known; fits = fits_now; owned = sound.owned; right = right_now; leads = leads_now; combined = combined_now }
 
 -- a dirtyable tag is made
 module _ (tags tags' : t.Tags) (rows : Rows) (sound : IsSound tags rows) (ts : t.IsSound tags') (u : Id) (clock order : ℕ) (g : Gives tags.tags tags'.tags u (t.dirtyable clock order)) (rest : t.Rest tags tags') where
   stays : (k : Id) (x : Option t.Tag) → t.tag_at tags k ≡ x → (x ≡ None → ⊥) → t.tag_at tags' k ≡ t.tag_at tags k
   stays k x e h = g.others k (λ q. h (sym e ∙ (ap (named tags.tags) q ∙ g.vacant)))
 
+  combined_was : (k : Id) → is_combined (t.tag_at tags' k) ≡ true → is_combined (t.tag_at tags k) ≡ true
+  combined_was k e = by (id_cases k u) where
+    by : (k ≡ u) ⊎ (k ≢ u) → is_combined (t.tag_at tags k) ≡ true
+    by (inl q) = absurd (let n : false ≡ true = sym (ap is_combined (ap (named tags'.tags) q ∙ g.given)) ∙ e in cc)
+    by (inr ne) = sym (ap is_combined (g.others k ne)) ∙ e
+
   pub tag_made : IsSound tags' rows
   tag_made = tags_changed tags tags' rows sound ts rest.count
       (λ k d. stays k (t.tag_at tags k) refl (λ e. let n : false ≡ true = sym (ap t.is_dirtyable e) ∙ d in cc))
       (λ k v e. stays v (t.tag_at tags v) refl (λ f. own_there tags rows sound k v e f))
+      combined_was
 
   pub tag_unowned : (k : Id) → own_tag (rows k) ≢ Some u
   tag_unowned k e = own_there tags rows sound k u e g.vacant
-
-  leads_apart : (leads : List Id) → list_any (λ k. not (t.is_dirtyable (named tags.tags k))) leads ≡ false → list_any (same_id u) leads ≡ false
-  leads_apart [] h = refl
-  leads_apart (x ∷ xs) h =
-      let e = or_parts (not (t.is_dirtyable (named tags.tags x))) (list_any (λ k. not (t.is_dirtyable (named tags.tags k))) xs) h in
-      by (same_id u x) refl e.0 (leads_apart xs e.1) where
-        by : (b : Bool) → same_id u x ≡ b → not (t.is_dirtyable (named tags.tags x)) ≡ false → list_any (same_id u) xs ≡ false → (same_id u x || list_any (same_id u) xs) ≡ false
-        by false e d r = ap (λ b. b || list_any (same_id u) xs) e ∙ r
-        by true e d r = absurd (let n : true ≡ false = sym (ap (λ o. not (t.is_dirtyable o)) (ap (named tags.tags) (sym (same_id-true u x e)) ∙ g.vacant)) ∙ d in cc)
 
   -- no combined tag leads to it yet
   pub tag_unled : t.IsUnled tags' u
   tag_unled k leads e = by (id_cases k u) where
     by : (k ≡ u) ⊎ (k ≢ u) → list_any (same_id u) leads ≡ false
     by (inl q) = absurd (let n : Some (t.dirtyable clock order) ≡ Some (t.combined leads) = sym g.given ∙ (ap (named tags'.tags) (sym q) ∙ e) in cc)
-    by (inr ne) = leads_apart leads (subst (t.IsRight tags.tags tags.clock tags.count) (sym (g.others k ne) ∙ e) (sound.tags_sound.right k))
+    by (inr ne) = leads_apart tags u (ap t.is_dirtyable g.vacant) leads (subst (t.IsRight tags.tags tags.clock tags.count) (sym (g.others k ne) ∙ e) (sound.tags_sound.right k))
 
   -- and where it is ended again, all tags are as before
   pub tag_again : (tags'' : t.Tags) → Ends tags'.tags tags''.tags u → (k : Id) → t.tag_at tags'' k ≡ t.tag_at tags k
@@ -130,25 +119,25 @@ module _ (tags tags' : t.Tags) (rows : Rows) (sound : IsSound tags rows) (ts : t
 
 -- a row is put in
 module _ (tags : t.Tags) (a b : Arena code.Row) (n : Id) (kind : code_kind.Kind) (sound : IsSound tags (rows_of a)) (stamped : IsStamped a) (live : Each (λ q. IsSome (forms (rows_of a) q)) (parts (seen_kind kind))) (known : is_known (seen_kind kind) ≡ true)
-    (fits : RowFits tags (seen_kind kind) None) (fresh : (i u : Id) → own_by (seen_kind kind) None ≡ Some u → own_tag (rows_of a i) ≢ Some u) (g : Gives a b n (record { kind = kind; last = None })) where
+    (fits : RowFits tags (seen_kind kind) None) (fresh : (i u : Id) → own_by (seen_kind kind) None ≡ Some u → own_tag (rows_of a i) ≢ Some u) (unled : (u : Id) → own_by (seen_kind kind) None ≡ Some u → t.IsUnled tags u) (g : Gives (rows_in a) (rows_in b) n (record { form = seen_kind kind; last = None })) where
   is_there : (o : Option code.Row) → IsSome (option_map (λ (r : Row). r.form) (option_map seen_row o)) → IsSome o
   is_there None h = h
   is_there (Some x) h = refl
 
   binds : Binds (rows_of a) (rows_of b) n (seen_kind kind)
   binds = record {
-    vacant = ap (option_map seen_row) g.vacant;
-    given = ap (option_map seen_row) g.given;
-    others = λ k ne. ap (option_map seen_row) (g.others k ne);
+    vacant = sym (named-mapped seen_row a n) ∙ g.vacant;
+    given = sym (named-mapped seen_row b n) ∙ g.given;
+    others = λ k ne. sym (named-mapped seen_row b k) ∙ (g.others k ne ∙ named-mapped seen_row a k);
     parts = each_map (λ q. IsSome (forms (rows_of a) q)) (λ q. (q.1 < n.1) × IsSome (forms (rows_of a) q)) (parts (seen_kind kind))
         (λ q h. let lt = stamped.below q (is_there (named a q) h) in let e = g.stamp in (omega (arith, lt, e), h)) live;
     known = known;
   }
 
   pub made_row : IsSound tags (rows_of b)
-  made_row = made_sound tags (rows_of a) (rows_of b) n (seen_kind kind) sound binds fits fresh
+  made_row = made_sound tags (rows_of a) (rows_of b) n (seen_kind kind) sound binds fits fresh unled
 
 pub made_or_not : {E : Type 0} (q : Result Id E) (tags : t.Tags) (a b : Arena code.Row) (kind : code_kind.Kind) → IsSound tags (rows_of a) → IsStamped a → Each (λ i. IsSome (forms (rows_of a) i)) (parts (seen_kind kind)) → is_known (seen_kind kind) ≡ true
-    → RowFits tags (seen_kind kind) None → ((i u : Id) → own_by (seen_kind kind) None ≡ Some u → own_tag (rows_of a i) ≢ Some u) → IfOk q (λ n. Gives a b n (record { kind = kind; last = None })) → OnErr q (b ≡ a) → IsSound tags (rows_of b)
-made_or_not (Ok n) tags a b kind sound stamped live known fits fresh g e = made_row tags a b n kind sound stamped live known fits fresh g
-made_or_not (Err x) tags a b kind sound stamped live known fits fresh g e = subst (λ y. IsSound tags (rows_of y)) (sym e) sound
+    → RowFits tags (seen_kind kind) None → ((i u : Id) → own_by (seen_kind kind) None ≡ Some u → own_tag (rows_of a i) ≢ Some u) → ((u : Id) → own_by (seen_kind kind) None ≡ Some u → t.IsUnled tags u) → IfOk q (λ n. Gives (rows_in a) (rows_in b) n (record { form = seen_kind kind; last = None })) → OnErr q (rows_in b ≡ rows_in a) → IsSound tags (rows_of b)
+made_or_not (Ok n) tags a b kind sound stamped live known fits fresh unled g e = made_row tags a b n kind sound stamped live known fits fresh unled g
+made_or_not (Err x) tags a b kind sound stamped live known fits fresh unled g e = rows_same (IsSound tags) a b e sound

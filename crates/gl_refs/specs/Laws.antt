@@ -43,7 +43,7 @@ BindKeeps = (tags : t.Tags) (rows rows' : Rows) (n : Id) (form : Form) → IsSou
 abbrev pub EvaluationKeeps : Type 0
 EvaluationKeeps = (tags tags' : t.Tags) (rows rows' : Rows) (i : Id) → IsSound tags rows → Evaluates tags tags' rows rows' i → IsSound tags' rows'
 
--- A reference that is no source, and that no live one reads, is ended, and all others stay as they are.
+-- A reference that no live one reads is ended, with its tag, and all others stay as they are.
 abbrev pub FreeKeeps : Type 0
 FreeKeeps = (tags tags' : t.Tags) (rows rows' : Rows) (i : Id) → IsSound tags rows → Frees tags tags' rows rows' i → IsSound tags' rows'
 

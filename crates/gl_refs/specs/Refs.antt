@@ -1,5 +1,5 @@
 -- References as contracts see them, and what each call does.
-use Rattle.std.specs.Prelude.{◌≡◌, ◌≢◌, ℕ, ◌+◌, ◌<◌, ◌^◌, Bool, List, [], ◌∷◌, ◌++◌, Option, Some, None, Result, OnOk, OnErr, refl}
+use Rattle.std.specs.Prelude.{◌≡◌, ℕ, ◌+◌, ◌<◌, ◌^◌, Bool, List, [], ◌∷◌, ◌++◌, Option, Some, None, Result, OnOk, OnErr, refl}
 use Rattle.std.specs.Coded.{Coded, code_by, coded×, coded_ℕ, coded_list}
 use Rattle.gl_arena.specs.Id.{Id}
 use Rattle.gl_arena.specs.Arena.{Arena, arena_code, named, with_value, Gives}
@@ -109,8 +109,3 @@ pub record HasEvaluated {A E : Type 0} (old new : Refs) (id : Id) (result : Resu
   pub evaluated : OnOk result (new.evaluated ≡ old.evaluated ++ id ∷ [])
   pub evals_stay : OnErr result (new.evals ≡ old.evals)
   pub evaluated_stays : OnErr result (new.evaluated ≡ old.evaluated)
-
--- no tag changes but that which an ended reference had
-pub record EndsTag (old new : t.Tags) (own : Option Id) : Type 0 where
-  pub rest : t.Rest old new
-  pub others : (u : Id) → own ≢ Some u → t.tag_at new u ≡ t.tag_at old u

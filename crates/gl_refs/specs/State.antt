@@ -1,7 +1,8 @@
 -- The references with what each keeps, their tags, and the counts.
 use Rattle.std.specs.Prelude.{◌≡◌, ◌≢◌, ℕ, ◌+◌, ◌<◌, ◌≤◌, Bool, true, false, cond, ltb, List, [], ◌∷◌, map, flat_map, take, unwrap_or, Option, Some, None, IsSome, is_some, option_map, ◌⊎◌}
 use Rattle.gl_value.specs.Value.{undefined}
-use Rattle.gl_arena.specs.Id.{Id}
+use Rattle.std.specs.List.{list_any}
+use Rattle.gl_arena.specs.Id.{Id, same_id}
 use Rattle.gl_arena.specs.Arena.{with_value}
 use Rattle.gl_tags.specs.Tags as t
 use Rattle.gl_refs.specs.Forms.{V, Form, constant_form, source_form, all_form, Look, form_at, Pair, meaning, Like, AreLower, is_known, AreKnown, IsUnread, parts, reads, value_by, Each, IsReadFor}
@@ -85,6 +86,36 @@ is_bound (constant_form v) = false
 is_bound (source_form k s v) = false
 is_bound g = true
 
+-- the reference is a cell or an item with that tag
+pub record IsSource (rows : Rows) (i tag : Id) : Type 0 where
+  pub kind : Bool
+  pub was : V
+  pub last : Option Last
+  pub is : rows i ≡ Some (record { form = source_form kind tag was; last = last })
+
+-- the tag of the last evaluation of a bound reference
+abbrev pub last_by : Form → Option Last → Option Id
+last_by (constant_form v) l = None
+last_by (source_form k s v) l = None
+last_by g l = option_map (λ x. x.tag) l
+
+abbrev pub last_tag : Row → Option Id
+last_tag r = last_by r.form r.last
+
+-- q is named for i, directly or through others, be it read or not
+pub data Reaches (l : Look) (i : Id) : Id → Type 0 where
+  itself : Reaches l i i
+  through : (k q : Id) (g : Form) → Reaches l i k → l k ≡ Some g → list_any (same_id q) (parts g) ≡ true → Reaches l i q
+
+-- the tag of a last evaluation leads to no cell or item but those that are named for its reference
+abbrev pub LeadsWithin : t.Tags → Rows → Type 0
+LeadsWithin tags rows =
+    (i u c s : Id) (r : Row) → rows i ≡ Some r → last_tag r ≡ Some u → IsSource rows c s → (Reaches (forms rows) i c → ⊥) → list_any (same_id s) (t.leads_of tags.tags u) ≡ false
+
+-- each combined tag is that of a last evaluation
+abbrev pub CombinedOwned : t.Tags → Rows → Type 0
+CombinedOwned tags rows = (u : Id) → ((i : Id) → own_tag (rows i) ≢ Some u) → is_combined (t.tag_at tags u) ≡ false
+
 -- what references always keep
 pub record IsSound (tags : t.Tags) (rows : Rows) : Type 0 where
   pub tags_sound : t.IsSound tags
@@ -93,6 +124,8 @@ pub record IsSound (tags : t.Tags) (rows : Rows) : Type 0 where
   pub fits : (i : Id) (r : Row) → rows i ≡ Some r → RowFits tags r.form r.last
   pub owned : (i k s : Id) → own_tag (rows i) ≡ Some s → own_tag (rows k) ≡ Some s → i ≡ k
   pub right : IsRight tags rows
+  pub leads : LeadsWithin tags rows
+  pub combined : CombinedOwned tags rows
 
 -- the source c gets a value, and is touched
 pub record Sets (tags tags' : t.Tags) (rows rows' : Rows) (c : Id) (value : V) : Type 0 where
@@ -122,6 +155,7 @@ pub record Evaluates (tags tags' : t.Tags) (rows rows' : Rows) (i : Id) : Type 0
   pub count : tags'.count ≡ tags.count
   pub dirtyable : (k : Id) → t.is_dirtyable (t.tag_at tags k) ≡ true → t.tag_at tags' k ≡ t.tag_at tags k
   pub tags_others : (k u : Id) → k ≢ i → own_tag (rows k) ≡ Some u → t.tag_at tags' u ≡ t.tag_at tags u
+  pub swapped : (u : Id) → u ≢ last.tag → is_combined (t.tag_at tags' u) ≡ true → (is_combined (t.tag_at tags u) ≡ true) × (own_tag (rows i) ≢ Some u)
 
 -- what a row holds, be it of now or not: its own value, or that of its last evaluation
 abbrev pub held_last : Option Last → Option V
@@ -158,6 +192,7 @@ pub record Swaps (tags tags' : t.Tags) (old : Option Id) (u : Id) (parts : List 
   pub like : t.SameLeads leads (flat_map (t.leads_of tags.tags) parts)
   pub vacant : t.tag_at tags u ≡ None
   pub others : (k : Id) → k ≢ u → old ≢ Some k → t.tag_at tags' k ≡ t.tag_at tags k
+  pub ended : (k : Id) → old ≡ Some k → t.tag_at tags' k ≡ None
   pub rest : t.Rest tags tags'
   pub sound : t.IsSound tags'
 
@@ -166,7 +201,7 @@ abbrev pub StaysOr : (Id → Type 0) → t.Tags → t.Tags → Rows → Rows →
 StaysOr Own tags tags' rows rows' k = ((rows' k ≡ rows k) × ((u : Id) → own_tag (rows k) ≡ Some u → t.tag_at tags' u ≡ t.tag_at tags u)) ⊎ Own k
 
 -- Each reference stays, or is one of these and has an evaluation of now that may be used. What may be used stays so, and so do the tags of
--- sources and of those that stay.
+-- sources and of those that stay. Also where memory is wanting in the middle each stays with its tag, or has such an evaluation.
 pub record Settles (Own : Id → Type 0) (tags tags' : t.Tags) (rows rows' : Rows) : Type 0 where
   pub sound : IsSound tags' rows'
   pub forms : forms rows' ≡ forms rows
@@ -176,6 +211,7 @@ pub record Settles (Own : Id → Type 0) (tags tags' : t.Tags) (rows rows' : Row
   pub count : tags'.count ≡ tags.count
   pub dirtyable : (u : Id) → t.is_dirtyable (t.tag_at tags u) ≡ true → t.tag_at tags' u ≡ t.tag_at tags u
   pub stays : (k : Id) → StaysOr Own tags tags' rows rows' k
+  pub either : (k : Id) → StaysOr (λ q. Own q × IsKept tags' rows' q) tags tags' rows rows' k
 
 -- a reference of which the first parts that it reads may be used
 pub record Waiting : Type 0 where
@@ -203,13 +239,6 @@ pub record Puts (rows rows' : Rows) (i : Id) (last : Last) : Type 0 where
   pub given : (r : Row) → rows i ≡ Some r → rows' i ≡ Some (record { form = r.form; last = Some last })
   pub others : (k : Id) → k ≢ i → rows' k ≡ rows k
 
--- the reference is a cell or an item with that tag
-pub record IsSource (rows : Rows) (i tag : Id) : Type 0 where
-  pub kind : Bool
-  pub was : V
-  pub last : Option Last
-  pub is : rows i ≡ Some (record { form = source_form kind tag was; last = last })
-
 abbrev pub by_form : Form → Bool
 by_form (source_form k s v) = true
 by_form g = false
@@ -217,15 +246,6 @@ by_form g = false
 abbrev pub is_source : Option Row → Bool
 is_source None = false
 is_source (Some r) = by_form r.form
-
--- the tag of the last evaluation of a bound reference
-abbrev pub last_by : Form → Option Last → Option Id
-last_by (constant_form v) l = None
-last_by (source_form k s v) l = None
-last_by g l = option_map (λ x. x.tag) l
-
-abbrev pub last_tag : Row → Option Id
-last_tag r = last_by r.form r.last
 
 abbrev pub cell_form : Form → Bool
 cell_form (source_form false s v) = true
@@ -262,6 +282,15 @@ abbrev pub has_tag : Option Row → Bool
 has_tag None = false
 has_tag (Some r) = form_tagged r.form r.last
 
+-- a position that was evaluated
+abbrev pub form_placed : Form → Option Last → Bool
+form_placed (all_form ids) l = is_some l
+form_placed g l = false
+
+abbrev pub is_position : Option Row → Bool
+is_position None = false
+is_position (Some r) = form_placed r.form r.last
+
 -- a source gets another value
 pub record Values (rows rows' : Rows) (i : Id) (value : V) : Type 0 where
   pub given : (kind : Bool) (tag : Id) (was : V) (last : Option Last) → rows i ≡ Some (record { form = source_form kind tag was; last = last }) → rows' i ≡ Some (record { form = source_form kind tag value; last = last })
@@ -289,12 +318,16 @@ abbrev pub IsValid : t.Tags → ℕ → Option Row → Type 0
 IsValid tags since None = ⊥
 IsValid tags since (Some r) = IsValidForm tags since r.form r.last
 
--- a reference that is no source, and that no live one reads, is ended, with the tag of its last evaluation
+-- the tag that an ended reference had is ended, and no other
+pub record EndsTag (old new : t.Tags) (own : Option Id) : Type 0 where
+  pub rest : t.Rest old new
+  pub ended : (u : Id) → own ≡ Some u → t.tag_at new u ≡ None
+  pub others : (u : Id) → own ≢ Some u → t.tag_at new u ≡ t.tag_at old u
+
+-- a reference that no live one reads is ended, with its tag
 pub record Frees (tags tags' : t.Tags) (rows rows' : Rows) (i : Id) : Type 0 where
   pub unread : IsUnread (forms rows) i
   pub ended : rows' i ≡ None
   pub others : (k : Id) → k ≢ i → rows' k ≡ rows k
   pub tags_sound : t.IsSound tags'
-  pub count : tags'.count ≡ tags.count
-  pub dirtyable : (k : Id) → t.is_dirtyable (t.tag_at tags k) ≡ true → t.tag_at tags' k ≡ t.tag_at tags k
-  pub tags_others : (k u : Id) → k ≢ i → own_tag (rows k) ≡ Some u → t.tag_at tags' u ≡ t.tag_at tags u
+  pub tag : EndsTag tags tags' (own_tag (rows i))

@@ -1,10 +1,11 @@
 // The evaluation of one reference, from what is kept of those that it reads.
-ghost use Rattle.std.specs.Prelude.{◌≡◌, ◌++◌, Some, IfOk, OnErr, IfSome, map, is_some, IsSome, IsTrue, ◌↔◌, true, not, ltb, option_map};
+ghost use Rattle.std.specs.Prelude.{◌≡◌, ◌++◌, [], Some, IfOk, OnErr, IfSome, map, is_some, IsSome, IsTrue, ◌↔◌, true, not, ltb, option_map};
 ghost use Rattle.gl_value.specs.View.{view};
 ghost use Rattle.gl_tags.specs.Tags as t;
 ghost use Rattle.gl_refs.specs.Forms.{Each};
 ghost use Rattle.gl_refs.specs.State.{kept, held_tag, reads_of, IsKept, IsSound, Gathers, Swaps, Settles, IsValid, is_combined};
 ghost use Rattle.gl_refs.specs.View.{rows_of};
+ghost use Rattle.gl_refs.specs.Counting.{Counts};
 
 use crate::RefId;
 use crate::row::{Kind, Last, Rows, held_tag, own_tag, part_at, put_last};
@@ -129,6 +130,7 @@ pub(crate) fn compute(
     requires ready { Each (IsKept tags.old (rows_of rows.old)) (reads_of (rows_of rows.old) id) }
     ensures settles { Settles (λ k. k ≡ id) tags.old tags.new (rows_of rows.old) (rows_of rows.new) }
     ensures made { rows.new.made ≡ rows.old.made }
+    ensures counts { Counts rows.old [] [] → Counts rows.new [] [] }
 {
     match gather(alloc, tags, rows, id)? {
         None => Ok(()),

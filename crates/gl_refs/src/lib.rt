@@ -11,8 +11,7 @@ mod refs;
 mod row;
 mod settling;
 mod table;
-#[cfg(test)]
-mod tests;
+mod tally;
 mod values;
 mod writing;
 

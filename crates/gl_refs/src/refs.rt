@@ -1,20 +1,21 @@
 // All references.
-ghost use Rattle.std.specs.Prelude.{◌≡◌, ◌≢◌, ℕ, ◌+◌, ◌<◌, ◌^◌, ◌++◌, [], ◌∷◌, IfOk, OnOk, OnErr, IsOk, IsTrue, IsSome, ◌↔◌, ◌⊎◌, None, true, false};
+ghost use Rattle.std.specs.Prelude.{◌≡◌, ◌≢◌, ℕ, ◌+◌, ◌<◌, ◌^◌, ◌++◌, [], ◌∷◌, IfOk, OnOk, OnErr, IsOk, IsTrue, IsSome, IfSome, ◌↔◌, ◌⊎◌, Some, None, true, false};
 ghost use Rattle.std.specs.Borrow.{sem};
 ghost use Rattle.gl_value.specs.View.{view};
 ghost use Rattle.gl_arena.specs.Arena.{IsStamped, Ends};
 ghost use Rattle.gl_tags.specs.Tags as t;
-ghost use Rattle.gl_refs.specs.Forms.{Each, constant_form, parts, is_known, IsUnread};
-ghost use Rattle.gl_refs.specs.State.{IsKept, IsSound, IsValid, held_tag, has_tag, own_tag, is_cell, is_item, is_readable};
-ghost use Rattle.gl_refs.specs.Refs.{rows_of, forms_of, meaning_of, HasRoom, Makes, MakesSource, Keeps, SetsValue, Holds, SameCounts, HasRead, HasEvaluated, EndsTag};
+ghost use Rattle.gl_refs.specs.Forms.{Each, all_form, constant_form, parts, is_known, IsUnread};
+ghost use Rattle.gl_refs.specs.State.{IsKept, IsSound, IsValid, held_tag, has_tag, own_tag, is_cell, is_item, is_readable, is_position, EndsTag};
+ghost use Rattle.gl_refs.specs.Refs.{rows_of, forms_of, meaning_of, HasRoom, Makes, MakesSource, Keeps, SetsValue, Holds, SameCounts, HasRead, HasEvaluated};
 ghost use Rattle.gl_refs.specs.View.{seen_form};
 ghost use Rattle.gl_refs.specs.Lends.{Rests};
 
 use crate::evaluation::{is_kept, is_valid};
 use crate::looking::look;
 use crate::making::{make, make_source};
-use crate::row::{Kind, Rows, held, held_tag, readable};
+use crate::row::{Kind, Rows, held, held_tag, is_position, is_source, parts_of, readable};
 use crate::settling::prepare;
+use crate::tally::unread;
 use crate::writing::{end, holds, put};
 use crate::{Form, RefId};
 use gl_arena::Arena;
@@ -40,6 +41,8 @@ impl Model for Refs {
     ghost use Rattle.gl_refs.specs.Refs.{Refs as Seen, refs_code};
     ghost use Rattle.gl_refs.specs.State.{IsSound};
     ghost use Rattle.gl_refs.specs.View.{rows_in, rows_of};
+    ghost use Rattle.gl_refs.specs.Counting.{Counts};
+    ghost use Rattle.std.specs.Prelude.{[]};
 
     ghost Value = { Seen };
 
@@ -47,7 +50,7 @@ impl Model for Refs {
 
     ghost view = { λ r. record { rows = rows_in r.rows; tags = r.tags; evals = r.evals; asks = r.asks; evaluated = r.evaluated.items } };
 
-    ghost invariant = { λ r. IsSound r.tags (rows_of r.rows) };
+    ghost invariant = { λ r. IsSound r.tags (rows_of r.rows) × Counts r.rows [] [] };
 }
 
 impl Refs {
@@ -56,6 +59,7 @@ impl Refs {
         ensures rows { IfOk result (λ r. (r.rows.slots ≡ []) × (r.rows.made ≡ 0)) }
         ensures tags { IfOk result (λ r. (i : _) → i ≢ r.tags.still → t.tag_at r.tags i ≡ None) }
         ensures clock { IfOk result (λ r. (r.tags.clock ≡ 0) × (r.tags.count ≡ 0)) }
+        ensures made { IfOk result (λ r. r.tags.tags.made ≡ 1) }
         ensures counts { IfOk result (λ r. (r.evals ≡ 0) × (r.asks ≡ 0) × (r.evaluated ≡ [])) }
     {
         let tags = Tags::new(alloc)?;
@@ -237,7 +241,7 @@ impl Refs {
         look(self.alloc, &self.rows, id)
     }
 
-    /// Ends a reference that no live one reads, and no other.
+    /// Ends a reference that no live one reads, with its tag, and no other.
     pub fn free(&mut self, id: RefId)
         requires live { IsSome (forms_of self.old id) }
         requires unread { IsUnread (forms_of self.old) id }
@@ -253,6 +257,41 @@ impl Refs {
         ensures { result ≡ is_readable (forms_of self.now id) }
     {
         readable(&self.rows, id)
+    }
+
+    /// Whether it is a live cell. It takes no memory.
+    pub fn is_cell(&self, id: RefId) -> bool
+        ensures { result ≡ is_cell (forms_of self.now id) }
+    {
+        is_source(&self.rows, id, false)
+    }
+
+    /// Whether it is a live item. It takes no memory.
+    pub fn is_item(&self, id: RefId) -> bool
+        ensures { result ≡ is_item (forms_of self.now id) }
+    {
+        is_source(&self.rows, id, true)
+    }
+
+    /// Whether it is a live position that was evaluated. It takes no memory.
+    pub fn position(&self, id: RefId) -> bool
+        ensures { result ≡ is_position (rows_of self.now id) }
+    {
+        is_position(&self.rows, id)
+    }
+
+    /// What a live position reads; none where it is no live position. It takes no memory.
+    pub fn parts(&self, id: RefId) -> Option<&[RefId]>
+        ensures { IfSome result (λ ids. forms_of self.now id ≡ Some (all_form ids.now)) }
+    {
+        parts_of(&self.rows, id)
+    }
+
+    /// Whether it is live, and no live reference reads it. It takes no memory, and no search.
+    pub fn unread(&self, id: RefId) -> bool
+        ensures { IsTrue result ↔ (IsSome (forms_of self.now id) × IsUnread (forms_of self.now) id) }
+    {
+        unread(&self.rows, id)
     }
 
     /// Whether each of the counters is below its last value.

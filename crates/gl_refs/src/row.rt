@@ -1,18 +1,18 @@
 // The references by id, with what each keeps.
-ghost use Rattle.std.specs.Prelude.{◌≡◌, ◌++◌, Some, IfOk, OnErr, IsSome, option_map, slice_get, true};
-ghost use Rattle.gl_arena.specs.Arena.{named, with_value, Gives};
+ghost use Rattle.std.specs.Prelude.{◌≡◌, ◌++◌, [], Some, IsSome, IfSome, option_map, slice_get, true, false};
+ghost use Rattle.gl_arena.specs.Arena.{named, with_value};
 ghost use Rattle.gl_value.specs.Value.{truthy};
 ghost use Rattle.gl_value.specs.View.{view};
-ghost use Rattle.gl_refs.specs.Forms.{reads, chosen, ids_of, form_at};
-ghost use Rattle.gl_refs.specs.State.{forms, held, held_tag, own_tag, is_readable, IsSource, is_source, Puts};
+ghost use Rattle.gl_refs.specs.Forms.{all_form, reads, chosen, ids_of, form_at};
+ghost use Rattle.gl_refs.specs.State.{forms, held, held_tag, own_tag, is_readable, is_cell, is_item, is_position, IsSource, is_source, Puts};
 ghost use Rattle.gl_refs.specs.View.{rows_of, found_in, shown_in, value_in, seen_form, seen_last, seen_row, row_with, kind_with};
+ghost use Rattle.gl_refs.specs.Counting.{Counts};
 
 use crate::table::Table;
 use crate::{Form, Ids, NamedIds, RefId};
 use gl_arena::{Arena, RefMark};
 use gl_tags::{TagId, Tags};
 use gl_value::Value;
-use std::alloc::AllocError;
 use std::mem;
 
 // What a reference computes, or holds by itself.
@@ -35,23 +35,15 @@ pub(crate) struct Last {
     pub(crate) tag: TagId,
 }
 
+// A reference, with how often live ones name it.
 #[derive(Drop)]
 pub(crate) struct Row {
     pub(crate) kind: Kind,
     pub(crate) last: Option<Last>,
+    pub(crate) readers: usize,
 }
 
 pub(crate) type Rows = Arena<Row, RefMark>;
-
-pub(crate) fn insert_row(rows: &mut Rows, row: Row) -> Result<RefId, AllocError>
-    ensures ok { IfOk result (λ id. Gives rows.old rows.new id row) }
-    ensures err { OnErr result (rows.new ≡ rows.old) }
-{
-    match rows.insert(row) {
-        Ok(id) => Ok(id),
-        Err((_, error)) => Err(error),
-    }
-}
 
 // The value that a row has by itself, or that of its last evaluation.
 fn held_in(row: &Row) -> Option<&Value>
@@ -123,6 +115,47 @@ pub(crate) fn readable(rows: &Rows, id: RefId) -> bool
     }
 }
 
+// Whether a reference is an item, where that is asked, or else a cell.
+pub(crate) fn is_source(rows: &Rows, id: RefId, of_items: bool) -> bool
+    ensures cell { of_items ≡ false → result ≡ is_cell (forms (rows_of rows.now) id) }
+    ensures item { of_items ≡ true → result ≡ is_item (forms (rows_of rows.now) id) }
+{
+    if rows.live(id) {
+        match &rows.get(id).kind {
+            Kind::Source { item, .. } => *item == of_items,
+            _ => false,
+        }
+    } else {
+        false
+    }
+}
+
+// Whether a reference is a position that was evaluated.
+pub(crate) fn is_position(rows: &Rows, id: RefId) -> bool
+    ensures { result ≡ is_position (rows_of rows.now id) }
+{
+    if rows.live(id) {
+        let row = rows.get(id);
+        matches!(&row.kind, Kind::Bound(Form::All(_))) && row.last.is_some()
+    } else {
+        false
+    }
+}
+
+// What a position reads.
+pub(crate) fn parts_of(rows: &Rows, id: RefId) -> Option<&[RefId]>
+    ensures { IfSome result (λ ids. forms (rows_of rows.now) id ≡ Some (all_form ids.now)) }
+{
+    if rows.live(id) {
+        match &rows.get(id).kind {
+            Kind::Bound(Form::All(ids)) => Some(ids.as_slice()),
+            _ => None,
+        }
+    } else {
+        None
+    }
+}
+
 // A table of what was worked out, in the place of what is kept.
 pub(crate) type Found<'a> = Option<&'a Table>;
 
@@ -189,7 +222,7 @@ fn truth(rows: &Rows, found: Found<'_>, id: RefId) -> bool
 }
 
 // One of the arguments of a call: the positional ones come first.
-fn argument_at(ids: &Ids, named: &NamedIds, at: usize) -> Option<RefId>
+pub(crate) fn argument_at(ids: &Ids, named: &NamedIds, at: usize) -> Option<RefId>
     ensures { result ≡ slice_get (ids.now ++ ids_of named.now) at }
 {
     if at < ids.len() {
@@ -237,7 +270,9 @@ pub(crate) fn put_last(rows: &mut Rows, id: RefId, last: Last)
     requires { IsSome (named rows.old id) }
     ensures puts { Puts (rows_of rows.old) (rows_of rows.new) id (seen_last last) }
     ensures made { rows.new.made ≡ rows.old.made }
+    ensures counts { Counts rows.old [] [] → Counts rows.new [] [] }
 {
+    rows.stamps();
     last_in(rows.get_mut(id), last);
 }
 
@@ -259,8 +294,10 @@ pub(crate) fn source_tag(rows: &Rows, id: RefId) -> TagId
 
 pub(crate) fn put_value(rows: &mut Rows, id: RefId, value: Value)
     requires { IsSome (named rows.old id) }
-    ensures { (row : _) → named rows.old id ≡ Some row → rows.new ≡ with_value rows.old id (row_with row value) }
+    ensures value { (row : _) → named rows.old id ≡ Some row → rows.new ≡ with_value rows.old id (row_with row value) }
+    ensures counts { Counts rows.old [] [] → Counts rows.new [] [] }
 {
+    rows.stamps();
     value_in(&mut rows.get_mut(id).kind, value);
 }
 

@@ -3,6 +3,7 @@ ghost use Rattle.std.specs.Prelude.{◌≡◌, ◌≤◌, ◌++◌, ◌∷◌, [
 ghost use Rattle.gl_refs.specs.Forms.{Each, IsReadFor};
 ghost use Rattle.gl_refs.specs.State.{forms, reads_of, IsKept, IsSound, AllReady, IsReady, Settles};
 ghost use Rattle.gl_refs.specs.View.{rows_of, seen_waiting, seen_stack};
+ghost use Rattle.gl_refs.specs.Counting.{Counts};
 
 use crate::RefId;
 use crate::evaluation::{compute, is_kept};
@@ -62,6 +63,7 @@ fn visit(
     ensures settles { Settles (λ k. k ≡ waiting.id) tags.old tags.new (rows_of rows.old) (rows_of rows.new) }
     ensures ready { OnOk result ((root : _) → AllReady tags.old (rows_of rows.old) root (seen_stack stack.old.items) → IsReady tags.old (rows_of rows.old) root (seen_waiting waiting) → AllReady tags.new (rows_of rows.new) root (seen_stack stack.new.items)) }
     ensures made { rows.new.made ≡ rows.old.made }
+    ensures counts { Counts rows.old [] [] → Counts rows.new [] [] }
 {
     let id = waiting.id;
     match next_stale(tags, rows, id, waiting.next)? {
@@ -87,6 +89,7 @@ fn settle(alloc: Global, tags: &mut Tags, rows: &mut Rows, id: RefId) -> Result<
     requires { IsSound tags.old (rows_of rows.old) }
     ensures settles { Settles (IsReadFor (forms (rows_of rows.old)) id) tags.old tags.new (rows_of rows.old) (rows_of rows.new) }
     ensures made { rows.new.made ≡ rows.old.made }
+    ensures counts { Counts rows.old [] [] → Counts rows.new [] [] }
 {
     let mut stack = Vec::new(alloc);
     stack.push(Waiting { id, next: 0 })?;
@@ -109,6 +112,7 @@ pub(crate) fn prepare(
     requires { IsSound tags.old (rows_of rows.old) }
     ensures settles { Settles (IsReadFor (forms (rows_of rows.old)) id) tags.old tags.new (rows_of rows.old) (rows_of rows.new) }
     ensures made { rows.new.made ≡ rows.old.made }
+    ensures counts { Counts rows.old [] [] → Counts rows.new [] [] }
     ensures kept { OnOk result (IsKept tags.new (rows_of rows.new) id) }
     ensures fresh { IsKept tags.old (rows_of rows.old) id → IsOk result }
     ensures still { IsKept tags.old (rows_of rows.old) id → (tags.new ≡ tags.old) × (rows.new ≡ rows.old) }

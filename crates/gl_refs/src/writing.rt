@@ -1,15 +1,16 @@
 // What is done to one row: a source is given a value, and a reference is ended.
-ghost use Rattle.std.specs.Prelude.{◌≡◌, ◌+◌, ◌<◌, ◌^◌, Some, IsTrue, IsSome, ◌↔◌, true};
+ghost use Rattle.std.specs.Prelude.{◌≡◌, ◌≢◌, ◌+◌, ◌<◌, ◌^◌, [], Some, IsTrue, IsSome, ◌↔◌, true};
 ghost use Rattle.gl_value.specs.View.{view};
 ghost use Rattle.gl_arena.specs.Arena.{with_value, Ends};
 ghost use Rattle.gl_tags.specs.Tags as t;
 ghost use Rattle.gl_refs.specs.Forms.{source_form, IsUnread};
-ghost use Rattle.gl_refs.specs.State.{forms, held, own_tag, last_tag, is_source, is_combined, IsSound};
-ghost use Rattle.gl_refs.specs.Refs.{EndsTag};
-ghost use Rattle.gl_refs.specs.View.{rows_of, rows_in, seen_row};
+ghost use Rattle.gl_refs.specs.State.{forms, held, own_tag, is_source, IsSound, EndsTag};
+ghost use Rattle.gl_refs.specs.View.{rows_of, rows_in};
+ghost use Rattle.gl_refs.specs.Counting.{Counts};
 
 use crate::RefId;
-use crate::row::{Kind, Row, Rows, held, put_value, source_tag};
+use crate::row::{Rows, held, own_tag, put_value, source_tag};
+use crate::tally::take_out;
 use gl_tags::{TagId, Tags};
 use gl_value::Value;
 
@@ -31,6 +32,7 @@ pub(crate) fn put(tags: &mut Tags, rows: &mut Rows, id: RefId, value: Value)
     ensures sound { IsSound tags.new (rows_of rows.new) }
     ensures tags { (kind : _) (tag : _) (was : _) (last : _) → rows_of rows.old id ≡ Some (record { form = source_form kind tag was; last = last }) → tags.new ≡ t.dirtied tags.old tag }
     ensures rows { (kind : _) (tag : _) (was : _) (last : _) → rows_of rows.old id ≡ Some (record { form = source_form kind tag was; last = last }) → rows_in rows.new ≡ with_value (rows_in rows.old) id (record { form = source_form kind tag (view value); last = last }) }
+    ensures counts { Counts rows.old [] [] → Counts rows.new [] [] }
 {
     let tag = source_tag(rows, id);
     put_value(rows, id, value);
@@ -38,41 +40,32 @@ pub(crate) fn put(tags: &mut Tags, rows: &mut Rows, id: RefId, value: Value)
     let _ = tags.constant();
 }
 
-// The tag of the last evaluation of a row.
-fn last_tag(row: &Row) -> Option<TagId>
-    ensures { result ≡ last_tag (seen_row row.now) }
-{
-    match &row.kind {
-        Kind::Bound(_) => match &row.last {
-            Some(last) => Some(last.tag),
-            None => None,
-        },
-        _ => None,
-    }
-}
-
-// Ends the tag of a last evaluation.
+// Ends a tag to which no combined one leads.
 fn free_tag(tags: &mut Tags, tag: Option<TagId>)
-    requires { (u : _) → tag ≡ Some u → is_combined (t.tag_at tags.old u) ≡ true }
+    requires live { (u : _) → tag ≡ Some u → IsSome (t.tag_at tags.old u) }
+    requires not_constant { (u : _) → tag ≡ Some u → u ≢ tags.old.still }
+    requires unled { (u : _) → tag ≡ Some u → t.is_dirtyable (t.tag_at tags.old u) ≡ true → t.IsUnled tags.old u }
     ensures ends { EndsTag tags.old tags.new tag }
     ensures sound { t.IsSound tags.new }
 {
-    let _ = tags.constant();
     if let Some(tag) = tag {
         tags.free(tag);
     }
     let _ = tags.constant();
 }
 
-// Ends a reference that no live one reads, with the tag of its last evaluation.
+// Ends a reference that no live one reads, with its tag.
 pub(crate) fn end(tags: &mut Tags, rows: &mut Rows, id: RefId)
     requires sound { IsSound tags.old (rows_of rows.old) }
     requires live { IsSome (forms (rows_of rows.old) id) }
     requires unread { IsUnread (forms (rows_of rows.old)) id }
+    requires counts { Counts rows.old [] [] }
     ensures sound { IsSound tags.new (rows_of rows.new) }
     ensures ends { Ends (rows_in rows.old) (rows_in rows.new) id }
+    ensures counts { Counts rows.new [] [] }
     ensures tags { EndsTag tags.old tags.new (own_tag (rows_of rows.old id)) }
 {
-    let row = rows.remove(id);
-    free_tag(tags, last_tag(&row));
+    let tag = own_tag(rows, id);
+    take_out(rows, id);
+    free_tag(tags, tag);
 }

@@ -1,5 +1,5 @@
 // The blocks by id.
-ghost use Rattle.std.specs.Prelude.{◌≡◌, [], Some, None, IfOk, OnErr, IsSome};
+ghost use Rattle.std.specs.Prelude.{◌≡◌, [], Some, None, IfOk, OnErr, IsSome, is_some};
 ghost use Rattle.gl_arena.specs.Arena.{named, Gives, Ends, IsStamped};
 ghost use Rattle.gl_scope.specs.View.{seen_block};
 
@@ -45,6 +45,13 @@ impl BlockStack {
         ensures err { OnErr result (self.new ≡ self.old) }
     {
         insert_block(&mut self.blocks, block)
+    }
+
+    /// Whether the id names a block. It takes no memory.
+    pub fn live(&self, id: BlockId) -> bool
+        ensures { result ≡ is_some (named self.now id) }
+    {
+        self.blocks.live(id)
     }
 
     /// The block of an id.

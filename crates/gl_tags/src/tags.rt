@@ -40,6 +40,7 @@ impl Tags {
         ensures alone { IfOk result (λ t. (i : _) → i ≢ t.still → tag_at t i ≡ None) }
         ensures clock { IfOk result (λ t. t.clock ≡ 0) }
         ensures count { IfOk result (λ t. t.count ≡ 0) }
+        ensures made { IfOk result (λ t. t.tags.made ≡ 1) }
     {
         let mut tags = Arena::new(alloc)?;
         let still = insert_tag(&mut tags, Tag::Constant)?;

@@ -12,6 +12,8 @@ mod lex;
 #[cfg(test)]
 mod parse;
 #[cfg(test)]
+mod places;
+#[cfg(test)]
 mod show;
 #[cfg(test)]
 mod white_space;

@@ -4,15 +4,18 @@ use Rattle.std.specs.Prelude.{◌&&◌, not, filter, nat_eq, if◌then◌else◌
 use Rattle.std.proofs.lemmas.Bool.{cases_eq}
 use Rattle.gl_arena.specs.Id.{Id, same_id}
 use Rattle.gl_arena.specs.Arena.{Arena, named, by_stamp, amended, Sets}
+use Rattle.gl_nodes.specs.Tree.{Tree}
+use Rattle.gl_nodes.specs.Flat.{node_by, RemovesLeaf}
+use Rattle.gl_nodes.proofs.Flats.{stamp-same, stamp-other}
 use Rattle.gl_mods.specs.Mods as m
 use Rattle.gl_mods.proofs.Ids.{hit-is}
 use Rattle.gl_scope.specs.Scope.{Blocks}
 use Rattle.gl_meaning.specs.Scope.{Source}
-use Rattle.gl_plain.specs.Ids.{Kind, a_ref, a_node, an_instance, a_block, a_modifier, Id as Name, kind_eq, id_eq, hit, ref, block_id, instance_id, modifier_id}
-use Rattle.gl_plain.specs.State.{instance_row, block_row, modifier_row, row, Thing, State}
+use Rattle.gl_plain.specs.Ids.{Kind, a_ref, a_node, an_instance, a_block, a_modifier, Id as Name, kind_eq, id_eq, hit, ref, node as node_id, block_id, instance_id, modifier_id}
+use Rattle.gl_plain.specs.State.{instance_row, block_row, modifier_row, row, content, Thing, State}
 use Rattle.gl_plain.specs.Naming.{by_number, dropped_as}
 use Rattle.gl_vm.specs.Kept.{Kept, thing_at, next_of, state_by}
-use Rattle.gl_vm.specs.View.{Tables, stamps, seen_instance, seen_modifier, kept_of}
+use Rattle.gl_vm.specs.View.{Tables, stamps, seen_node, seen_instance, seen_modifier, kept_of}
 use Rattle.gl_vm.specs.Steps.{Does, dropped_one, is_on, on_count}
 use Rattle.gl_vm.specs.declared.vm.Vm.{Vm}
 use Rattle.gl_vm.specs.declared.vm.Instance.{Instance}
@@ -72,7 +75,7 @@ not_hit q r = by (id_eq q r) where
   by true = refl
   by false = refl
 
-all_stay : (p : ℕ → Bool) → ((n : ℕ) → p n ≡ true) → (xs : List ℕ) → filter p xs ≡ xs
+pub all_stay : (p : ℕ → Bool) → ((n : ℕ) → p n ≡ true) → (xs : List ℕ) → filter p xs ≡ xs
 all_stay p e [] = refl
 all_stay p e (x ∷ xs) = ap₂ (λ b ys. cond b (x ∷ ys) ys) (e x) (all_stay p e xs)
 
@@ -139,6 +142,22 @@ module _ (k : Kept) (touched : Source → Bool) where
     same a_block = refl
     same a_modifier = refl
 
+  pub node_ended : (s : ℕ) → state_by (record k { node = amended k.node s None }) touched ≡ dropped_one (node_id s) (state_by k touched)
+  node_ended s = ended (node_id s) (record k { node = amended k.node s None }) refl at (λ z j. same j z) refl refl refl where
+    at : (i : Kind) (n : ℕ) → thing_at (record k { node = amended k.node s None }) i n ≡ cond (id_eq (record { kind = i; num = n }) (node_id s)) None (thing_at k i n)
+    at a_ref n = refl
+    at a_node n = amended_thing k.node s None content n
+    at an_instance n = refl
+    at a_block n = refl
+    at a_modifier n = refl
+
+    same : (i : Kind) → next_of (record k { node = amended k.node s None }) i ≡ next_of k i
+    same a_ref = refl
+    same a_node = refl
+    same an_instance = refl
+    same a_block = refl
+    same a_modifier = refl
+
 seen_gone : {T S : Type 0} (g : ℕ → T → S) (old new : Arena T) (s : ℕ) → Sets old new s None → (λ k. option_map (g k) (by_stamp new k)) ≡ amended (λ k. option_map (g k) (by_stamp old k)) s None
 seen_gone g old new s h = amended_is (λ k. option_map (g k) (by_stamp old k)) s None (λ k. option_map (g k) (by_stamp new k)) (ap (option_map (g s)) h.here) (λ q ne. ap (option_map (g q)) (h.others q ne))
 
@@ -161,6 +180,22 @@ module _ (vm : Vm) (a : Blocks) (s : ℕ) (sets : Sets vm.scopes a s None) (coun
     where
       kept-is : kept_of n (record vm { scopes = a }) ≡ record (kept_of n vm) { block = amended (kept_of n vm).block s None }
       kept-is = λ z. record (kept_of n vm) { block = seen_gone (λ k b. tt) vm.scopes a s sets z; blocks = count z }
+
+module _ (vm : Vm) (t : Tree) (i : Id) (goes : RemovesLeaf vm.tree t i) where
+  pub node_gone : Does (λ n. dropped_one (node_id i.1)) vm (record vm { tree = t })
+  node_gone n touched agrees = record {
+    state = ap (λ (k : Kept). state_by k touched) kept-is ∙ node_ended (kept_of n vm) touched i.1;
+    agrees = agrees;
+  }
+    where
+      nodes-are : (λ k. option_map seen_node (node_by t k)) ≡ amended (λ k. option_map seen_node (node_by vm.tree k)) i.1 None
+      nodes-are =
+          amended_is (λ k. option_map seen_node (node_by vm.tree k)) i.1 None (λ k. option_map seen_node (node_by t k))
+          (ap (option_map seen_node) (goes.removes.ended i.1 (let one = stamp-same i.1 in omega (arith, one))))
+          (λ q ne. ap (option_map seen_node) (goes.removes.nodes q (let off = stamp-other q i.1 ne in omega (arith, off))))
+
+      kept-is : kept_of n (record vm { tree = t }) ≡ record (kept_of n vm) { node = amended (λ k. option_map seen_node (node_by vm.tree k)) i.1 None }
+      kept-is = λ z. record (kept_of n vm) { node = nodes-are z; nodes = goes.count z }
 
 -- The modifiers of a node
 

@@ -8,7 +8,7 @@ use Rattle.gl_arena.proofs.Stamps.{by_stamp-id, by_stamp-live, ends-sets}
 use Rattle.gl_tags.specs.Tags as t
 use Rattle.gl_refs.specs.Forms as f
 use Rattle.gl_refs.specs.State as s
-use Rattle.gl_refs.specs.Refs.{Refs, rows_of, forms_of, SameCounts, EndsTag}
+use Rattle.gl_refs.specs.Refs.{Refs, rows_of, forms_of, SameCounts}
 use Rattle.gl_meaning.specs.Scope.{Source}
 use Rattle.gl_plain.specs.Ids.{ref}
 use Rattle.gl_vm.specs.Labels.{label}
@@ -44,7 +44,7 @@ forgotten r id h = by (s.is_source (rows_of r id)) refl where
   by false e = λ k x l ids q g w. not_led (t.leads_of r.tags.tags l.tag) (rows_of r id) e
 
 module _ (vm : Vm) (r : Refs) (id : Id) (stamped : IsStamped vm.refs.rows) (sound : s.IsSound vm.refs.tags (rows_of vm.refs)) (live : IsSome (forms_of vm.refs id)) (ends : Ends vm.refs.rows r.rows id)
-    (tags : EndsTag vm.refs.tags r.tags (s.own_tag (rows_of vm.refs id))) (counts : SameCounts vm.refs r) where
+    (tags : s.EndsTag vm.refs.tags r.tags (s.own_tag (rows_of vm.refs id))) (counts : SameCounts vm.refs r) where
   abbrev was : Refs
   was = vm.refs
 

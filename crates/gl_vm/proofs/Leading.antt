@@ -8,16 +8,17 @@ use Rattle.gl_arena.proofs.Values.{with_value-writes, Writes}
 use Rattle.gl_tags.specs.Tags as t
 use Rattle.gl_refs.specs.Forms as f
 use Rattle.gl_refs.specs.State as s
-use Rattle.gl_refs.specs.Refs.{Refs, rows_of, forms_of, Reads, Makes, MakesSource, SetsValue, Holds, EndsTag}
+use Rattle.gl_refs.specs.Refs.{Refs, rows_of, forms_of, Reads, Makes, MakesSource, SetsValue, Holds, Keeps}
 use Rattle.gl_refs.proofs.Meanings.{meaning_is, below_is, each_map, each_append, each_read}
 use Rattle.gl_refs.proofs.Rows.{last_fresh}
-use Rattle.gl_vm.specs.Led.{Reaches, itself, through, IsReached, Led}
+use Rattle.gl_refs.specs.State.{Reaches, itself, through, EndsTag}
+use Rattle.gl_refs.proofs.Reaching.{reach_unread, each_in}
+use Rattle.gl_vm.specs.Led.{IsReached, Led}
 use Rattle.gl_vm.proofs.Rows.{none_not, some_same}
 use Rattle.gl_vm.proofs.Sources.{dirty_not_combined}
-use Rattle.gl_vm.proofs.Reached.{reach_unread, pick, each_in}
-use Rattle.gl_vm.specs.View.{PositionsUnread}
+use Rattle.gl_vm.proofs.Reached.{pick}
 use Rattle.gl_vm.proofs.Values.{each_flat}
-use Rattle.gl_vm.proofs.Settled.{some_row, only_read}
+use Rattle.gl_vm.proofs.Settled.{some_row}
 
 abbrev form_in : s.Row → f.Form
 form_in x = x.form
@@ -195,39 +196,36 @@ module _ (r : Refs) (sound : s.IsSound r.tags (rows_of r)) (root : Id) where
       owns (f.cat_form ids) e = tt
       owns (f.all_form ids) e = tt
 
--- a position is evaluated
-module _ (a b : Refs) (id : Id) (reads : Reads a b id) (unread : PositionsUnread a) (sound : s.IsSound b.tags (rows_of b)) (kept : s.IsKept b.tags (rows_of b) id) where
-  others_carried : (i : Id) (ids : List Id) (l : s.Last) → i ≢ id → rows_of b i ≡ Some (spot_row ids l) → Carried a b i ids l
-  others_carried i ids l ne e = by (reads.settles.stays i) where
-    by : s.StaysOr (f.IsReadFor (forms_of a) id) a.tags b.tags (rows_of a) (rows_of b) i → Carried a b i ids l
-    by (inr h) = absurd (ne (only_read (forms_of a) id i h (unread i ids (sym (ap (λ l. l i) reads.settles.forms) ∙ ap (option_map form_in) e))))
-    by (inl w) =
-        let was : rows_of a i ≡ Some (spot_row ids l) = sym w.0 ∙ e in
-        record {
-          was = was;
-          leads = ap (t.leads_by l.tag) (w.1 l.tag (ap s.own_tag was));
-          forms = λ k q h r e n. ap (λ l. l k) reads.settles.forms ∙ e;
-          sources = λ j u d r.
-              let y = some_row (rows_of b j) (f.source_form d.kind u d.was) (ap (λ l. l j) reads.settles.forms ∙ ap (option_map form_in) d.is) in
-              record { kind = d.kind; was = d.was; last = y.0.last; is = y.1 ∙ λ z. Some (record { form = y.2 z; last = y.0.last }) };
-        }
+-- a position is evaluated, or was not for want of memory
+module _ (a b : Refs) (id : Id) (reads : Reads a b id) (sound : s.IsSound b.tags (rows_of b)) where
+  stays_carried : (i : Id) (ids : List Id) (l : s.Last) → rows_of b i ≡ Some (spot_row ids l) → (rows_of b i ≡ rows_of a i) × ((u : Id) → s.own_tag (rows_of a i) ≡ Some u → t.tag_at b.tags u ≡ t.tag_at a.tags u) → Carried a b i ids l
+  stays_carried i ids l e w =
+      let was : rows_of a i ≡ Some (spot_row ids l) = sym w.0 ∙ e in
+      record {
+        was = was;
+        leads = ap (t.leads_by l.tag) (w.1 l.tag (ap s.own_tag was));
+        forms = λ k q h r e n. ap (λ l. l k) reads.settles.forms ∙ e;
+        sources = λ j u d r.
+            let y = some_row (rows_of b j) (f.source_form d.kind u d.was) (ap (λ l. l j) reads.settles.forms ∙ ap (option_map form_in) d.is) in
+            record { kind = d.kind; was = d.was; last = y.0.last; is = y.1 ∙ λ z. Some (record { form = y.2 z; last = y.0.last }) };
+      }
 
-  here : (ids : List Id) (l : s.Last) → rows_of b id ≡ Some (spot_row ids l) → f.Each (IsReached b id) (t.leads_of b.tags.tags l.tag)
-  here ids l e = by (s.kept b.tags (rows_of b) id) refl kept where
-    by : (w : Option s.Kept) → s.kept b.tags (rows_of b) id ≡ w → IsSome w → f.Each (IsReached b id) (t.leads_of b.tags.tags l.tag)
+  here : (i : Id) (ids : List Id) (l : s.Last) → rows_of b i ≡ Some (spot_row ids l) → s.IsKept b.tags (rows_of b) i → f.Each (IsReached b i) (t.leads_of b.tags.tags l.tag)
+  here i ids l e kept = by (s.kept b.tags (rows_of b) i) refl kept where
+    by : (w : Option s.Kept) → s.kept b.tags (rows_of b) i ≡ w → IsSome w → f.Each (IsReached b i) (t.leads_of b.tags.tags l.tag)
     by None w h = let no : false ≡ true = h in absurd (cc)
     by (Some k) w h =
         let fresh = last_fresh b.tags l k (sym (ap (s.kept_row b.tags) e) ∙ w) in
-        let all = reached_below b sound id (suc id.1) id (omega arith) itself (f.all_form ids) (ap (option_map form_in) e) in
-        each_in (IsReached b id) (t.leads_of b.tags.tags l.tag)
-        (λ u m. pick (IsReached b id) (f.meaning (forms_of b) id).sources all u
-        (sym ((sound.right id k w).sources (same_id u)) ∙ (ap (λ (z : s.Kept). list_any (same_id u) (t.leads_of b.tags.tags z.tag)) fresh.1 ∙ m)))
+        let all = reached_below b sound i (suc i.1) i (omega arith) itself (f.all_form ids) (ap (option_map form_in) e) in
+        each_in (IsReached b i) (t.leads_of b.tags.tags l.tag)
+        (λ u m. pick (IsReached b i) (f.meaning (forms_of b) i).sources all u
+        (sym ((sound.right i k w).sources (same_id u)) ∙ (ap (λ (z : s.Kept). list_any (same_id u) (t.leads_of b.tags.tags z.tag)) fresh.1 ∙ m)))
 
   pub led_evaluated : Led a → Led b
-  led_evaluated led i ids l e = by (id_cases i id) where
-    by : (i ≡ id) ⊎ (i ≢ id) → f.Each (IsReached b i) (t.leads_of b.tags.tags l.tag)
-    by (inl q) = subst (λ j. f.Each (IsReached b j) (t.leads_of b.tags.tags l.tag)) (sym q) (here ids l (ap (rows_of b) (sym q) ∙ e))
-    by (inr ne) = carry a b led i ids l (others_carried i ids l ne e)
+  led_evaluated led i ids l e = by (reads.settles.either i) where
+    by : s.StaysOr (λ k. f.IsReadFor (forms_of a) id k × s.IsKept b.tags (rows_of b) k) a.tags b.tags (rows_of a) (rows_of b) i → f.Each (IsReached b i) (t.leads_of b.tags.tags l.tag)
+    by (inl w) = carry a b led i ids l (stays_carried i ids l e w)
+    by (inr h) = here i ids l e h.1
 
 -- what keeps rows and tags keeps it
 pub led_same : (a b : Refs) → b.rows ≡ a.rows → b.tags.tags ≡ a.tags.tags → Led a → Led b
@@ -236,4 +234,13 @@ led_same a b rows tags led = carried a b led (λ i ids l e. record {
   leads = ap (λ (x : Arena t.Tag). t.leads_of x l.tag) tags;
   forms = λ k q h r e n. ap (λ (x : Arena s.Row). option_map form_in (named x k)) rows ∙ e;
   sources = λ j u d r. source_same a b j u (ap (λ (x : Arena s.Row). named x j) rows) d;
+})
+
+-- and so does what keeps rows and what each tag is
+pub led_kept : (a b : Refs) → Keeps a b → Led a → Led b
+led_kept a b k led = carried a b led (λ i ids l e. record {
+  was = sym (ap (λ (x : Arena s.Row). named x i) k.rows) ∙ e;
+  leads = ap (t.leads_by l.tag) (k.tags l.tag);
+  forms = λ j q h r e n. ap (λ (x : Arena s.Row). option_map form_in (named x j)) k.rows ∙ e;
+  sources = λ j u d r. source_same a b j u (ap (λ (x : Arena s.Row). named x j) k.rows) d;
 })

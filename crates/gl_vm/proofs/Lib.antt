@@ -17,3 +17,5 @@ pub mod Reached
 pub mod Stale
 pub mod Starts
 pub mod Leading
+pub mod Asks
+pub mod KeptMeanings

@@ -3,21 +3,18 @@ use Rattle.std.proofs.Common.{◌≡◌, ◌≢◌, Bool, true, false, Option, S
 use Rattle.std.specs.Prelude.{◌||◌}
 use Rattle.std.specs.List.{list_any}
 use Rattle.gl_arena.specs.Id.{Id, same_id}
-use Rattle.gl_arena.proofs.Ids.{same_id-true, same_id-refl, same_id-other}
+use Rattle.gl_arena.proofs.Ids.{same_id-true, same_id-other}
 use Rattle.gl_tags.specs.Tags as t
 use Rattle.gl_refs.specs.Forms as f
 use Rattle.gl_refs.specs.State as s
+use Rattle.gl_refs.specs.State.{Reaches}
 use Rattle.gl_refs.specs.Refs.{Refs, rows_of, forms_of}
 use Rattle.gl_refs.proofs.Meanings.{each_map}
-use Rattle.gl_vm.specs.Led.{Reaches, itself, through, IsReached, Led}
+use Rattle.gl_refs.proofs.Reaching.{reach_unread}
+use Rattle.gl_vm.specs.Led.{IsReached, Led}
 use Rattle.gl_vm.specs.View.{is_led, form_led}
 use Rattle.gl_vm.specs.Steps.{IsForgotten}
 use Rattle.gl_vm.proofs.Settled.{any_none}
-
--- what no live form names is named for itself alone
-pub reach_unread : (l : f.Look) (i q : Id) → Reaches l i q → f.IsUnread l q → q ≡ i
-reach_unread l i q itself u = refl
-reach_unread l i q (through k q2 g r e n) u = let no : false ≡ true = sym (u k g e) ∙ n in absurd (cc)
 
 pub pick : (P : Id → Type 0) (xs : List Id) → f.Each P xs → (w : Id) → list_any (same_id w) xs ≡ true → P w
 pick P [] e w h = let no : false ≡ true = h in absurd (cc)
@@ -25,14 +22,6 @@ pick P (x ∷ xs) e w h = by (same_id w x) refl h (λ g. pick P xs e.1 w g) wher
   by : (b : Bool) → same_id w x ≡ b → (b || list_any (same_id w) xs) ≡ true → (list_any (same_id w) xs ≡ true → P w) → P w
   by true q h r = subst P (sym (same_id-true w x q)) e.0
   by false q h r = r h
-
-or_true : (b : Bool) → (b || true) ≡ true
-or_true true = refl
-or_true false = refl
-
-pub each_in : (P : Id → Type 0) (xs : List Id) → ((w : Id) → list_any (same_id w) xs ≡ true → P w) → f.Each P xs
-each_in P [] h = tt
-each_in P (x ∷ xs) h = (h x (ap (λ b. b || list_any (same_id x) xs) (same_id-refl x)), each_in P xs (λ w e. h w (ap (λ b. same_id w x || b) e ∙ or_true (same_id w x))))
 
 -- no position read a cell or an item that no live form names
 pub led_forgotten : (r : Refs) (id : Id) → s.IsSound r.tags (rows_of r) → f.IsUnread (forms_of r) id → Led r → IsForgotten r id

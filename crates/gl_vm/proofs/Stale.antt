@@ -24,7 +24,8 @@ use Rattle.gl_vm.proofs.States.{test_yes}
 use Rattle.gl_vm.proofs.Settled.{some_row}
 use Rattle.gl_vm.proofs.Sources.{last_combined, source_dirtyable}
 use Rattle.gl_vm.proofs.Begins.{revision_low}
-use Rattle.gl_vm.proofs.Reached.{pick, each_in}
+use Rattle.gl_refs.proofs.Reaching.{each_in}
+use Rattle.gl_vm.proofs.Reached.{pick}
 
 turned : (b : Bool) → (IsTrue b → ⊥) → not b ≡ true
 turned true h = absurd (h refl)

@@ -1,22 +1,25 @@
 -- What positions read at their last evaluations.
-use Rattle.std.specs.Prelude.{◌≡◌, ◌<◌, List, true, Some}
+use Rattle.std.specs.Prelude.{◌≡◌, ◌<◌, Bool, List, true, Some}
 use Rattle.std.specs.List.{list_any}
-use Rattle.gl_arena.specs.Id.{Id, same_id}
+use Rattle.gl_arena.specs.Id.{Id}
 use Rattle.gl_tags.specs.Tags as t
 use Rattle.gl_refs.specs.Forms as f
 use Rattle.gl_refs.specs.State as s
 use Rattle.gl_refs.specs.Refs.{Refs, rows_of, forms_of}
 
--- q is named for i, directly or through others, be it read or not
-pub data Reaches (l : f.Look) (i : Id) : Id → Type 0 where
-  itself : Reaches l i i
-  through : (k q : Id) (g : f.Form) → Reaches l i k → l k ≡ Some g → list_any (same_id q) (f.parts g) ≡ true → Reaches l i q
+-- what is held of a reference
+abbrev pub held_of : Refs → Id → f.V
+held_of r i = s.held_value (rows_of r) i
+
+-- whether its tag leads to one that passes the test
+abbrev pub leads_to : Refs → Id → (Id → Bool) → Bool
+leads_to r i test = list_any test (t.leads_of r.tags.tags (s.held_tag r.tags (rows_of r) i))
 
 -- the tag is that of a live cell or item which is named for i
 pub record IsReached (r : Refs) (i tag : Id) : Type 0 where
   pub source : Id
   pub is : s.IsSource (rows_of r) source tag
-  pub reach : Reaches (forms_of r) i source
+  pub reach : s.Reaches (forms_of r) i source
 
 -- What a position read at its last evaluation lives, and is named for it still.
 abbrev pub Led : Refs → Type 0

@@ -1,11 +1,12 @@
 -- What a step of the code does to the state.
-use Rattle.std.specs.Prelude.{◌≡◌, ℕ, ◌+◌, List, [], ◌∷◌, Bool, false, ◌&&◌, if◌then◌else◌, Option, Some, None}
+use Rattle.std.specs.Prelude.{◌≡◌, ℕ, ◌+◌, List, [], ◌∷◌, Bool, true, false, ◌==◌, ◌&&◌, if◌then◌else◌, Option, Some, None}
 use Rattle.std.specs.Str.{bytes_eq}
 use Rattle.gl_base.specs.Texts.{Text}
 use Rattle.gl_arena.specs.Id.{Id, same_id}
 use Rattle.gl_arena.specs.Arena.{Arena, IsOwn, by_stamp}
 use Rattle.gl_tags.specs.Tags as t
 use Rattle.gl_mods.specs.Mods as m
+use Rattle.gl_nodes.specs.Node as n
 use Rattle.gl_refs.specs.Forms as f
 use Rattle.gl_refs.specs.State as s
 use Rattle.gl_refs.specs.Refs.{Refs, rows_of}
@@ -43,6 +44,20 @@ put_attr s name value st = put_thing (node s) (content (changed_attr name value 
 abbrev pub times_named : Text → Attrs → ℕ
 times_named n [] = 0
 times_named n (a ∷ xs) = (if bytes_eq n a.0 then 1 else 0) + times_named n xs
+
+-- a text or a comment that is there
+abbrev pub is_told : Option n.Node → Bool
+is_told None = false
+is_told (Some (n.element tag attrs)) = false
+is_told (Some (n.text s)) = true
+is_told (Some (n.comment s)) = true
+
+-- an element that is there, with one attribute of that name
+abbrev pub has_once : Text → Option n.Node → Bool
+has_once m None = false
+has_once m (Some (n.element tag attrs)) = times_named m attrs == 1
+has_once m (Some (n.text s)) = false
+has_once m (Some (n.comment s)) = false
 
 -- a modifier with other values of its arguments
 abbrev pub given_args : List V → List (Text × V) → Option Thing → Installed

@@ -17,6 +17,7 @@ use Rattle.gl_meaning.specs.Scope.{Source, Pair}
 use Rattle.gl_meaning.specs.View.{path_view}
 use Rattle.gl_plain.specs.State.{any_of, Form, constant_form, source_form, property_form, call_form, joined_form, all_form, Row, Names, Inst, named_as, Content, element_content, text_content, comment_content, Installed, State}
 use Rattle.gl_vm.specs.Labels.{label, labelled, all_labelled, names_labelled}
+use Rattle.gl_vm.specs.Led.{Led}
 use Rattle.gl_vm.specs.Kept.{Kept, some_below, state_by}
 use Rattle.gl_vm.specs.declared.vm.Vm.{Vm}
 use Rattle.gl_vm.specs.declared.vm.Instance.{Instance}
@@ -82,17 +83,22 @@ abbrev pub holder : (ℕ → Option s.Row) → ℕ → Id → ℕ
 holder rows zero tag = 0
 holder rows (suc n) tag = if is_led (tag ∷ []) (rows n) then n else holder rows n tag
 
+-- the source with a tag, named by its number
+abbrev pub source_of : Refs → Id → Source
+source_of r t = label (holder (by_stamp r.rows) r.rows.made t)
+
 -- what a reference means, with owners and sources named by numbers
 abbrev pub seen_pair : Refs → f.Pair → Pair
-seen_pair r p = record { value = labelled p.value; sources = map (λ t. label (holder (by_stamp r.rows) r.rows.made t)) p.sources }
+seen_pair r p = record { value = labelled p.value; sources = map (source_of r) p.sources }
 
 -- no reference reads a position
 abbrev pub PositionsUnread : Refs → Type 0
 PositionsUnread r = (i : Id) (ids : List Id) → forms_of r i ≡ Some (f.all_form ids) → f.IsUnread (forms_of r) i
 
--- no reference of the machine reads a position
+-- No reference of the machine reads a position, and what each position read at its last evaluation lives.
 pub record Calm (vm : Vm) : Type 0 where
   pub unread : PositionsUnread vm.refs
+  pub led : Led vm.refs
 
 abbrev pub is_all : Option f.Form → Bool
 is_all (Some (f.all_form ids)) = true

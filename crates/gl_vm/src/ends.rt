@@ -1,5 +1,5 @@
 // What ends.
-ghost use Rattle.std.specs.Prelude.{◌≡◌, ◌≢◌, true, None, IsSome};
+ghost use Rattle.std.specs.Prelude.{◌≡◌, ◌≢◌, ◌↔◌, true, false, None, IsSome, IsTrue};
 ghost use Rattle.gl_arena.specs.Arena.{named as named_in};
 ghost use Rattle.gl_refs.specs.Forms.{IsUnread};
 ghost use Rattle.gl_refs.specs.State.{is_source};
@@ -28,6 +28,24 @@ impl Vm {
     {
         self.refs.sound();
         self.refs.free(id);
+    }
+
+    /// Ends a reference where it lives and no live one reads it, and tells whether that was so. It takes no memory.
+    pub fn end_if_unread(&mut self, id: RefId) -> bool
+        ensures told { IsTrue result ↔ (IsSome (forms_of self.old.refs id) × IsUnread (forms_of self.old.refs) id) }
+        ensures step { result ≡ true → Calm self.old → Does (λ n. dropped_one (ref_id id.1)) self.old self.new }
+        ensures ended { result ≡ true → forms_of self.new.refs id ≡ None }
+        ensures others { (i : _) → i ≢ id → forms_of self.new.refs i ≡ forms_of self.old.refs i }
+        ensures still { result ≡ false → self.new ≡ self.old }
+        ensures rest { self.new ≡ record self.old { refs = self.new.refs } }
+        ensures calm { Calm self.old → Calm self.new }
+    {
+        if self.refs.unread(id) {
+            self.end_reference(id);
+            true
+        } else {
+            false
+        }
     }
 
     /// Ends an instance. The references of its fields stay.

@@ -2,6 +2,8 @@
 #![tactic(auto)]
 
 mod ends;
+mod law;
+mod node_ends;
 mod nodes;
 mod placing;
 mod positions;

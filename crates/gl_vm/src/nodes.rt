@@ -1,5 +1,5 @@
 // Nodes that are made, and that change.
-ghost use Rattle.std.specs.Prelude.{◌≡◌, [], IfOk, OnOk, OnErr, Some, IsSome, IfSome, option_map};
+ghost use Rattle.std.specs.Prelude.{◌≡◌, ◌==◌, [], IfOk, OnOk, OnErr, Some, IsSome, IfSome, option_map};
 ghost use Rattle.std.specs.Str.{chars};
 ghost use Rattle.gl_nodes.specs.Node as n;
 ghost use Rattle.gl_nodes.specs.Tree.{node_at};
@@ -8,12 +8,28 @@ ghost use Rattle.gl_plain.specs.Ids.{node as node_id};
 ghost use Rattle.gl_plain.specs.State.{element_content, text_content, comment_content, content, put_thing};
 ghost use Rattle.gl_plain.specs.Grow.{made_node};
 ghost use Rattle.gl_vm.specs.View.{seen_node};
-ghost use Rattle.gl_vm.specs.Steps.{Does, Numbers, put_attr, times_named};
+ghost use Rattle.gl_vm.specs.Steps.{Does, Numbers, put_attr, times_named, is_told, has_once};
 
 use crate::Vm;
-use gl_nodes::{Attrs, NodeId};
+use gl_nodes::{Attr, Attrs, Node, NodeId};
 use gl_value::Text;
 use std::alloc::AllocError;
+
+// Whether there is one attribute of that name.
+fn names_once(attrs: &[Attr], name: &str) -> bool
+    ensures { result ≡ (times_named (chars name.now) attrs.now == 1) }
+{
+    let mut found = false;
+    for attr in attrs {
+        if attr.0.is(name) {
+            if found {
+                return false;
+            }
+            found = true;
+        }
+    }
+    found
+}
 
 impl Vm {
     /// Makes an element without attributes, which stands nowhere yet.
@@ -58,6 +74,28 @@ impl Vm {
         ensures err { OnErr result (self.new ≡ self.old) }
     {
         self.tree.comment(text)
+    }
+
+    /// Whether the id names a text or a comment, so that [`Vm::set_text`] can be called. It takes no memory.
+    pub fn is_told(&self, node: NodeId) -> bool
+        ensures { result ≡ is_told (node_at self.now.tree node) }
+    {
+        match self.tree.find(node) {
+            Some(Node::Element { .. }) => false,
+            Some(_) => true,
+            None => false,
+        }
+    }
+
+    /// Whether the id names an element that has one attribute of that name, so that [`Vm::set_attr`] changes it alone.
+    /// It takes no memory.
+    pub fn has_once(&self, node: NodeId, name: &str) -> bool
+        ensures { result ≡ has_once (chars name.now) (node_at self.now.tree node) }
+    {
+        match self.tree.find(node) {
+            Some(Node::Element { attrs, .. }) => names_once(attrs.as_slice(), name),
+            _ => false,
+        }
     }
 
     /// Gives a text or a comment another text.

@@ -6,7 +6,7 @@ use Rattle.gl_exprs.proofs.words.is_end_of.Goals as goal
 pub loop-c-init : goal.loop-c-init
 loop-c-init c =
     let rest = c.skip_two.ensures in
-    rw (rest, c.new-rest.ensures, c.new-want.ensures) (ap (λ x. bytes_eq x c.args.name.now) (sym (end_name_of-front c.args.tag.now)))
+    rw (rest, c.new-rest.ensures, c.copy-want.ensures) (ap (λ x. bytes_eq x c.args.name.now) (sym (end_name_of-front c.args.tag.now)))
 
 pub loop-c-preserved : goal.loop-c-preserved
 loop-c-preserved c =

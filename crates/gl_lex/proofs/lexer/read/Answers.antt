@@ -1,12 +1,13 @@
 use Rattle.std.proofs.Common.{◌≡◌, ◌+◌, ◌++◌, ◌∷◌, [], true, false, Some, length, length-drop, drop, sym, ◌∙◌, ap, arith}
-use Rattle.gl_base.specs.Reading.{after_front}
 use Rattle.gl_ast.specs.Modes.{token}
-use Rattle.gl_ast.specs.TokenReading.{read_from, stands_white, width}
+use Rattle.gl_ast.specs.TokenReading.{stands_white, width}
 use Rattle.gl_ast.proofs.Forward.{Steps}
 use Rattle.gl_ast.proofs.Progress.{token_steps}
-use Rattle.gl_ast.proofs.Reading.{read_white, white_steps, white_border, token_border, token_left, after_token}
+use Rattle.gl_ast.proofs.Reading.{white_steps, white_border, token_border, token_left}
 use Rattle.gl_lex.specs.Clear.{IsClear}
 use Rattle.gl_lex.specs.Found.{found_of}
+use Rattle.gl_lex.specs.Front.{front_from, with_front}
+use Rattle.gl_lex.proofs.Fronted.{front_white, front_more}
 use Rattle.gl_lex.proofs.Turns.{falls, steps_clear, token_same}
 use Rattle.gl_lex.proofs.lexer.read.Goals as goal
 
@@ -25,9 +26,9 @@ loop-rest-preserved-then-stands_white c =
     let s : Steps rest left = rw is (white_steps c.loop-rest.mode rest white) in
     record {
       reading =
-          ap (λ l. after_front c.loop-rest.tokens (read_from c.spaced-mode.result 0 (c.loop-rest.at + 1) l)) is
-          ∙ ap (λ m. after_front c.loop-rest.tokens (read_from m 0 (c.loop-rest.at + 1) (drop 1 rest))) c.spaced-mode.ensures
-          ∙ ap (λ o. after_front c.loop-rest.tokens o) (sym (read_white c.loop-rest.mode c.loop-rest.at rest white)) ∙ c.loop-rest.invariant.reading;
+          ap (λ l. with_front c.loop-rest.tokens (front_from c.spaced-mode.result 0 (c.loop-rest.at + 1) l)) is
+          ∙ ap (λ m. with_front c.loop-rest.tokens (front_from m 0 (c.loop-rest.at + 1) (drop 1 rest))) c.spaced-mode.ensures
+          ∙ ap (λ o. with_front c.loop-rest.tokens o) (sym (front_white c.loop-rest.mode c.loop-rest.at rest white)) ∙ c.loop-rest.invariant.reading;
       clear = steps_clear c.loop-rest.clear rest left s c.loop-rest.invariant.clear;
       place = let h = falls rest left s in omega (arith, h, ap length is, length-drop 1 rest);
       text = c.after_byte-rest.utf8;
@@ -70,8 +71,8 @@ loop-rest-preserved c =
     let clear : IsClear c.token.new.clear rest = rw (← c.as_bytes-bytes.ensures.value) c.in-Some.ensures.clear in
     record {
       reading =
-          ap (λ l. after_front c.add.new.tokens (read_from f.2 0 (c.loop-rest.at + width rest f) l)) left
-          ∙ after_token c.loop-rest.mode c.loop-rest.at rest f c.loop-rest.tokens c.add.new.tokens _ tight is s c.loop-rest.invariant.reading added;
+          ap (λ l. with_front c.add.new.tokens (front_from f.2 0 (c.loop-rest.at + width rest f) l)) left
+          ∙ front_more c.loop-rest.mode c.loop-rest.at rest f c.loop-rest.tokens c.add.new.tokens _ tight is s c.loop-rest.invariant.reading added;
       clear = rw left (steps_clear c.token.new.clear rest f.1 s clear);
       place = let h = falls rest f.1 s in omega (arith, h, c.split_at.ensures.back_len);
       text = rw left (s.3 c.loop-rest.invariant.text);

@@ -30,3 +30,7 @@ returns-in-None-clause-ready c =
     let rows = rows_of c.args.rows.now in
     let s = subst (λ x. Settles (λ k. k ≡ c.args.waiting.id) x c.compute.new.tags rows (rows_of c.compute.new.rows)) e c.compute.ensures.settles in
     on_ok_any c.compute.result (λ root all ready. all_ready_stay (λ k. k ≡ c.args.waiting.id) c.args.tags.now c.compute.new.tags rows (rows_of c.compute.new.rows) c.requires.sound s root (seen_stack c.args.stack.now.items) all)
+
+pub returns-in-None-clause-settles : goal.returns-in-None-clause-settles
+returns-in-None-clause-settles c =
+    subst (λ x. Settles (λ k. k ≡ c.args.waiting.id) x c.compute.new.tags (rows_of c.args.rows.now) (rows_of c.compute.new.rows)) c.next_stale.ensures.stays c.compute.ensures.settles

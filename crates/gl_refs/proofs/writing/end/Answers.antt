@@ -1,19 +1,20 @@
-use Rattle.std.proofs.Common.{ap, option_map, sym, subst, ◌∙◌}
-use Rattle.gl_arena.proofs.Mapped.{ends-mapped}
-use Rattle.gl_refs.specs.Refs.{EndsTag}
-use Rattle.gl_refs.specs.View.{seen_row}
-use Rattle.gl_refs.proofs.Seen.{last_combined, end_sound}
+use Rattle.std.proofs.Common.{sym, subst, ◌∙◌}
+use Rattle.gl_refs.specs.State.{EndsTag}
+use Rattle.gl_refs.specs.View.{rows_of}
+use Rattle.gl_refs.proofs.Leading.{own_live, own_moves, unled}
+use Rattle.gl_refs.proofs.Seen.{end_sound}
 use Rattle.gl_refs.proofs.writing.end.Goals as goal
 
-pub free_tag-requires : goal.free_tag-requires
-free_tag-requires c u e =
-    let q = seen_row c.remove-row.result in
-    last_combined c.args.tags.now q.form q.last u (c.requires.sound.fits c.args.id q (ap (option_map seen_row) c.remove-row.ensures.value)) (sym c.last_tag.ensures ∙ e)
+pub free_tag-requires-clause-live : goal.free_tag-requires-clause-live
+free_tag-requires-clause-live c u e = own_live c.args.tags.now (rows_of c.args.rows.now) c.requires.sound c.args.id u (sym c.own_tag-tag.ensures ∙ e)
+
+pub free_tag-requires-clause-not_constant : goal.free_tag-requires-clause-not_constant
+free_tag-requires-clause-not_constant c u e = own_moves c.args.tags.now (rows_of c.args.rows.now) c.requires.sound c.args.id u (sym c.own_tag-tag.ensures ∙ e)
+
+pub free_tag-requires-clause-unled : goal.free_tag-requires-clause-unled
+free_tag-requires-clause-unled c u e d = unled c.args.tags.now (rows_of c.args.rows.now) c.args.id u c.requires.sound c.requires.unread (sym c.own_tag-tag.ensures ∙ e) d
 
 pub returns-clause-sound : goal.returns-clause-sound
 returns-clause-sound c =
-    end_sound c.args.rows.now c.remove-row.new.self c.args.tags.now c.free_tag.new.tags c.args.id c.remove-row.result c.requires.sound c.requires.unread c.remove-row.ensures.value c.remove-row.ensures.ends
-    (subst (EndsTag c.args.tags.now c.free_tag.new.tags) c.last_tag.ensures c.free_tag.ensures.ends) c.free_tag.ensures.sound
-
-pub returns-clause-ends : goal.returns-clause-ends
-returns-clause-ends c = ends-mapped seen_row c.args.rows.now c.remove-row.new.self c.args.id c.remove-row.ensures.ends
+    end_sound c.args.rows.now c.take_out.new.rows c.args.tags.now c.free_tag.new.tags c.args.id c.requires.sound c.requires.unread c.take_out.ensures.ends
+    (subst (EndsTag c.args.tags.now c.free_tag.new.tags) c.own_tag-tag.ensures c.free_tag.ensures.ends) c.free_tag.ensures.sound

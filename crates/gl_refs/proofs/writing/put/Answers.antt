@@ -14,8 +14,8 @@ pub returns-clause-sound : goal.returns-clause-sound
 returns-clause-sound c =
     let s = c.source_tag-tag.ensures in
     set_sound c.args.tags.now c.dirty.new.self (rows_of c.args.rows.now) (rows_of c.put_value.new.rows) c.args.id (view c.args.value) c.requires.sound
-    (put_sets c.args.rows.now c.put_value.new.rows c.args.id c.args.value c.put_value.ensures s.kind c.source_tag-tag.result s.was s.last s.is c.args.tags.now c.dirty.new.self c.dirty.ensures)
+    (put_sets c.args.rows.now c.put_value.new.rows c.args.id c.args.value c.put_value.ensures.value s.kind c.source_tag-tag.result s.was s.last s.is c.args.tags.now c.dirty.new.self c.dirty.ensures)
     c.constant.ensures.sound
 
 pub returns-clause-rows : goal.returns-clause-rows
-returns-clause-rows c kind tag was last old = put_rows c.args.rows.now c.put_value.new.rows c.args.id c.args.value c.put_value.ensures kind tag was last old
+returns-clause-rows c kind tag was last old = put_rows c.args.rows.now c.put_value.new.rows c.args.id c.args.value c.put_value.ensures.value kind tag was last old

@@ -24,4 +24,4 @@ returns-clause-step c =
     (λ n u. ap text_of (c.in_ok-value.ensures n u) ∙ ((rules_leave_owners owner_path (view c.in_ok-value.value)).1 ∙ sym c.in_ok-text.ensures))) c.show.ensures
 
 pub returns-clause-calm : goal.returns-clause-calm
-returns-clause-calm c = subst Calm (sym c.in_ok-node.ensures.rest) (record { unread = c.in_ok-id.ensures.calm.unread })
+returns-clause-calm c = subst Calm (sym c.in_ok-node.ensures.rest) (record { unread = c.in_ok-id.ensures.calm.unread; led = c.in_ok-id.ensures.calm.led })

@@ -9,4 +9,4 @@ pub invariant_of-self : goal.invariant_of-self
 invariant_of-self c =
     let s = c.self.inside in
     let e = c.advance.ensures in
-    subst (λ x. IsSound x (rows_of s.rows)) (sym e) (advanced_sound s.tags (s.tags.clock + 1) (rows_of s.rows) c.self.invariant (subst t.IsSound e c.constant.ensures.sound))
+    (subst (λ x. IsSound x (rows_of s.rows)) (sym e) (advanced_sound s.tags (s.tags.clock + 1) (rows_of s.rows) c.self.invariant.0 (subst t.IsSound e c.constant.ensures.sound)), c.self.invariant.1)

@@ -14,6 +14,6 @@ returns c =
     let s = c.self.inside in
     let rows = code.rows_of s.rows in
     let kept = of_seen (λ x. IsKept s.tags x c.args.id) s.rows (subst (λ (r : Refs). IsKept r.tags (rows_of r) c.args.id) (sym c.self.view_is) c.requires) in
-    let v = value_now s.tags rows c.args.id c.self.invariant kept in
+    let v = value_now s.tags rows c.args.id c.self.invariant.0 kept in
     some_is (view c.in-Some.value.now) (meaning (forms rows) c.args.id).value (sym (ap (option_map (λ x. view x.now)) c.in-Some.is) ∙ (c.held.ensures ∙ v))
     ∙ (ap (λ x. (meaning (forms x) c.args.id).value) (sym (rows-seen s.rows)) ∙ ap (λ (r : Refs). (meaning_of r c.args.id).value) c.self.view_is)

@@ -9,7 +9,7 @@ pub returns-then-self : goal.returns-then-self
 returns-then-self c =
     let s = c.self.inside in
     let old = c.args.self.now in
-    let sound = subst (λ (r : Refs). IsSound r.tags (rows_of r)) c.self.view_is (to_seen (IsSound s.tags) s.rows c.self.invariant) in
+    let sound = subst (λ (r : Refs). IsSound r.tags (rows_of r)) c.self.view_is (to_seen (IsSound s.tags) s.rows c.self.invariant.0) in
     evaluated_err old old c.args.id (reads_none old c.args.id sound) (Err (record {})) refl refl refl
 
 pub returns-in_err-prepare : goal.returns-in_err-prepare
@@ -42,3 +42,9 @@ returns c =
     let reads : Reads old new c.args.id = record { settles = q.settles; made = q.made; asks = q.asks } in
     subst (λ (r : Refs). HasEvaluated r new c.args.id (Ok tt)) c.self.view_is
     (evaluated_ok old new c.args.id reads (Ok tt) (to_seen (λ x. IsKept c.prepare.new.tags x c.args.id) c.prepare.new.rows c.in_ok-prepare.ensures.kept) refl c.in_ok-push.ensures.items refl)
+
+pub invariant_of-self-in_err-push : goal.invariant_of-self-in_err-push
+invariant_of-self-in_err-push c = let e = c.prepare.ensures in (e.settles.sound, e.counts c.self.invariant.1)
+
+pub invariant_of-self-2 : goal.invariant_of-self-2
+invariant_of-self-2 c = let e = c.prepare.ensures in (e.settles.sound, e.counts c.self.invariant.1)

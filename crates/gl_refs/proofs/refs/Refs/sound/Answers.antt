@@ -10,7 +10,7 @@ use Rattle.gl_refs.proofs.refs.Refs.sound.Goals as goal
 pub returns-clause-sound : goal.returns-clause-sound
 returns-clause-sound c =
     let s = c.self.inside in
-    subst (λ (r : Refs). IsSound r.tags (rows_of r)) c.self.view_is (to_seen (IsSound s.tags) s.rows c.self.invariant)
+    subst (λ (r : Refs). IsSound r.tags (rows_of r)) c.self.view_is (to_seen (IsSound s.tags) s.rows c.self.invariant.0)
 
 pub returns-clause-stamped : goal.returns-clause-stamped
 returns-clause-stamped c =

@@ -8,6 +8,7 @@ use Rattle.gl_refs.proofs.Meanings.{each_map}
 use Rattle.gl_refs.proofs.Rows.{bound_form}
 use Rattle.gl_vm.proofs.Rows.{plain_step, plain_numbers, bound_plain}
 use Rattle.gl_vm.specs.View.{PositionsUnread}
+use Rattle.gl_vm.specs.Led.{Led}
 use Rattle.gl_vm.proofs.Calms.{live_of, either_way, calm_makes, olds_makes, olds_err, form_makes}
 use Rattle.gl_vm.proofs.Leading.{led_makes}
 use Rattle.gl_vm.proofs.vm.Vm.bind.Goals as goal
@@ -39,6 +40,7 @@ pub returns-clause-calm : goal.returns-clause-calm
 returns-clause-calm c calm = record {
   unread = either_way c.bind.result (λ id m. calm_makes c.args.self.now.refs c.bind.new.self id (code.seen_form c.args.form) m c.sound.ensures.sound.lower c.requires.parts calm.unread)
       (λ e. subst PositionsUnread (sym e) calm.unread) c.bind.ensures.ok c.bind.ensures.err;
+  led = either_way c.bind.result (λ id m. led_makes c.args.self.now.refs c.bind.new.self id (code.seen_form c.args.form) c.sound.ensures.sound m calm.led) (λ e. subst Led (sym e) calm.led) c.bind.ensures.ok c.bind.ensures.err;
 }
 
 pub returns-clause-led : goal.returns-clause-led

@@ -4,7 +4,7 @@ use Rattle.gl_arena.proofs.Stamps.{on_if}
 use Rattle.gl_vm.proofs.Sources.{source_step, source_numbers}
 use Rattle.gl_vm.proofs.Calms.{on_err, either_way, calm_same, calm_source, olds_source, olds_kept, cell_source, live_source}
 use Rattle.gl_vm.proofs.Wants.{keeps_step, keeps_forms}
-use Rattle.gl_vm.proofs.Leading.{led_source}
+use Rattle.gl_vm.proofs.Leading.{led_source, led_kept}
 use Rattle.gl_vm.proofs.vm.Vm.cell.Goals as goal
 
 pub returns-clause-step : goal.returns-clause-step
@@ -27,6 +27,7 @@ pub returns-clause-calm : goal.returns-clause-calm
 returns-clause-calm c calm = record {
   unread = either_way c.cell.result (λ id m. calm_source c.args.self.now.refs c.cell.new.self id false (view c.args.value) m c.sound.ensures.sound.lower calm.unread)
       (λ e. calm_same c.args.self.now.refs c.cell.new.self (keeps_forms c.args.self.now.refs c.cell.new.self e) calm.unread) c.cell.ensures.ok c.cell.ensures.err;
+  led = either_way c.cell.result (λ id m. led_source c.args.self.now.refs c.cell.new.self id false (view c.args.value) c.sound.ensures.sound m calm.led) (λ e. led_kept c.args.self.now.refs c.cell.new.self e calm.led) c.cell.ensures.ok c.cell.ensures.err;
 }
 
 pub returns-clause-err : goal.returns-clause-err

@@ -4,6 +4,7 @@ use Rattle.gl_arena.proofs.Stamps.{on_if}
 use Rattle.gl_refs.specs.Forms as f
 use Rattle.gl_vm.proofs.Rows.{plain_step, plain_numbers}
 use Rattle.gl_vm.specs.View.{PositionsUnread}
+use Rattle.gl_vm.specs.Led.{Led}
 use Rattle.gl_vm.proofs.Calms.{either_way, calm_makes, olds_makes, olds_err, form_makes}
 use Rattle.gl_vm.proofs.Leading.{led_makes}
 use Rattle.gl_vm.proofs.vm.Vm.constant.Goals as goal
@@ -25,6 +26,7 @@ pub returns-clause-calm : goal.returns-clause-calm
 returns-clause-calm c calm = record {
   unread = either_way c.constant.result (λ id m. calm_makes c.args.self.now.refs c.constant.new.self id (f.constant_form (view c.args.value)) m c.sound.ensures.sound.lower tt calm.unread)
       (λ e. subst PositionsUnread (sym e) calm.unread) c.constant.ensures.ok c.constant.ensures.err;
+  led = either_way c.constant.result (λ id m. led_makes c.args.self.now.refs c.constant.new.self id (f.constant_form (view c.args.value)) c.sound.ensures.sound m calm.led) (λ e. subst Led (sym e) calm.led) c.constant.ensures.ok c.constant.ensures.err;
 }
 
 pub returns-clause-led : goal.returns-clause-led

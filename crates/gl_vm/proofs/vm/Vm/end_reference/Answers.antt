@@ -21,6 +21,7 @@ pub returns-clause-calm : goal.returns-clause-calm
 returns-clause-calm c calm = record {
   unread = calm_ended c.args.self.now.refs c.free.new.self c.args.id (λ q ne. ap (option_map (λ (x : s.Row). x.form)) (c.free.ensures.ends.others q ne)) calm.unread
       (ap (option_map (λ (x : s.Row). x.form)) c.free.ensures.ends.ended);
+  led = let e = c.free.ensures in led_ended c.args.self.now.refs c.free.new.self c.args.id c.sound.ensures.sound c.requires.unread e.ends e.tags calm.led;
 }
 
 pub returns-clause-led : goal.returns-clause-led

@@ -20,9 +20,9 @@ returns-clause-owns c i own =
     let r = c.renew-done.ensures.reads in owns_same c.args.self.now.refs c.renew-done.new.self c.sound.ensures.stamped c.sound-2.ensures.stamped r.made r.settles.forms i own
 
 pub returns-clause-calm : goal.returns-clause-calm
-returns-clause-calm c = record { unread = calm_same c.args.self.now.refs c.renew-done.new.self c.renew-done.ensures.reads.settles.forms c.requires.calm.unread }
+returns-clause-calm c = record { unread = calm_same c.args.self.now.refs c.renew-done.new.self c.renew-done.ensures.reads.settles.forms c.requires.calm.unread; led = led_evaluated c.args.self.now.refs c.renew-done.new.self c.args.id c.renew-done.ensures.reads c.sound-2.ensures.sound c.requires.calm.led }
 
 pub returns-clause-led : goal.returns-clause-led
 returns-clause-led c =
-    on_ok c.renew-done.result (λ kept k led. led_evaluated c.args.self.now.refs c.renew-done.new.self c.args.id c.renew-done.ensures.reads c.requires.calm.unread c.sound-2.ensures.sound kept led) c.renew-done.ensures.kept
+    on_ok c.renew-done.result (λ kept k led. led_evaluated c.args.self.now.refs c.renew-done.new.self c.args.id c.renew-done.ensures.reads c.sound-2.ensures.sound led) c.renew-done.ensures.kept
     c.renew-done.ensures.kept

@@ -20,7 +20,7 @@ returns-clause-step c =
     (where_it_fails c.give.ensures)
 
 pub returns-clause-calm : goal.returns-clause-calm
-returns-clause-calm c calm = record { unread = calm_given c.args.self.now.refs c.give.new.self c.args.item (view c.args.value) c.give.ensures calm.unread }
+returns-clause-calm c calm = record { unread = calm_given c.args.self.now.refs c.give.new.self c.args.item (view c.args.value) c.give.ensures calm.unread; led = led_given c.args.self.now.refs c.give.new.self c.args.item (view c.args.value) c.sound.ensures.sound c.give.ensures calm.led }
 
 pub returns-clause-led : goal.returns-clause-led
 returns-clause-led c led = led_given c.args.self.now.refs c.give.new.self c.args.item (view c.args.value) c.sound.ensures.sound c.give.ensures led

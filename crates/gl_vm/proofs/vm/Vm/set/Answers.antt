@@ -9,7 +9,7 @@ pub returns-clause-step : goal.returns-clause-step
 returns-clause-step c = set_step c.args.self.now c.set.new.self c.args.cell false (view c.args.value) c.sound.ensures.stamped c.sound.ensures.sound c.set.ensures
 
 pub returns-clause-calm : goal.returns-clause-calm
-returns-clause-calm c calm = record { unread = calm_sets c.args.self.now.refs c.set.new.self c.args.cell false (view c.args.value) c.set.ensures calm.unread }
+returns-clause-calm c calm = record { unread = calm_sets c.args.self.now.refs c.set.new.self c.args.cell false (view c.args.value) c.set.ensures calm.unread; led = led_sets c.args.self.now.refs c.set.new.self c.args.cell false (view c.args.value) c.sound.ensures.sound c.set.ensures calm.led }
 
 pub returns-clause-led : goal.returns-clause-led
 returns-clause-led c led = led_sets c.args.self.now.refs c.set.new.self c.args.cell false (view c.args.value) c.sound.ensures.sound c.set.ensures led

@@ -1,0 +1,8 @@
+mod ClassLaws
+mod FieldLaws
+mod FoundIn
+mod FrameFits
+mod Joined
+mod Renamed
+mod Running
+mod Values

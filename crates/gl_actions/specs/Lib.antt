@@ -1,0 +1,11 @@
+pub mod Sets
+pub mod View
+pub mod World
+pub mod Frames
+pub mod Found
+pub mod FoundView
+pub mod Fired
+pub mod LastSet
+pub mod Reads
+pub mod Steps
+pub mod Classes

@@ -1,0 +1,37 @@
+-- When a machine has what the actions of a turn read.
+use Rattle.std.specs.Prelude.{◌≡◌, ℕ, ◌==◌, List, map, flat_map, Bool, Some, codes}
+use Rattle.std.specs.Str.{bytes_eq}
+use Rattle.gl_arena.specs.Id.{Id}
+use Rattle.gl_meaning.specs.Path.{Path, V}
+use Rattle.gl_meaning.specs.Eval.{values_in}
+use Rattle.gl_meaning.specs.Parts.{Modifier}
+use Rattle.gl_meaning.specs.Changes.{pieces, modifiers_on}
+use Rattle.gl_meaning.specs.Actions.{at_node}
+use Rattle.gl_meaning.specs.View.{manifest_view}
+use Rattle.gl_mods.specs.Mods as m
+use Rattle.gl_opc.specs.declared.app.App.{App}
+use Rattle.gl_plain.specs.State.{Names, Inst}
+use Rattle.gl_machine.specs.Code.{live_of}
+use Rattle.gl_append.specs.CodeView.{seen_code}
+use Rattle.gl_append.specs.declared.page.Page.{Page}
+use Rattle.gl_actions.specs.World.{World, tables_in, value_in}
+use Rattle.gl_actions.specs.Frames.{InstanceRead}
+use Rattle.gl_actions.specs.Found.{instance_in}
+
+-- The machine has what the rendering has, in all that actions read: the app is of its manifest, and each instance of the updating program
+-- is as it stands in the rendering.
+pub record Reads (a : App) (page : Page) (w : World) : Type 0 where
+  pub manifest : w.manifest ≡ manifest_view a.manifest
+  pub instances : (k : ℕ) (i : Inst) (args : Names) → instance_in k (live_of (seen_code (tables_in w) page.code)) ≡ Some (i, args) → InstanceRead w page.vm i args
+
+-- whether a modifier is `on`, with the values of its positional arguments
+abbrev pub shown_modifier : Modifier → Bool × List V
+shown_modifier x = (bytes_eq x.name (codes "on"), values_in x.args)
+
+abbrev pub kept_modifier : World → m.Installed → Bool × List V
+kept_modifier w x = (x.name == m.on_number, map (value_in w) x.args)
+
+-- The node is that at the path, in what may listen: its modifiers in order are those in the rendering, each `on` where that is, with the
+-- same values.
+abbrev pub Listens : World → Page → Id → Path → Type 0
+Listens w page node p = map (kept_modifier w) (m.mods_on page.vm.mods node) ≡ map shown_modifier (flat_map modifiers_on (at_node p (pieces w.forest)))

@@ -1,0 +1,20 @@
+//! The actions that an event runs: what they set. Contracts see it as the meaning's own sets, where the machine that is read stands for
+//! a rendering. The page is only read: what is set is laid on it by others, when all the events of a batch have run.
+#![tactic(auto)]
+
+mod arguments;
+mod evaluate;
+mod event;
+mod fields;
+mod frame;
+mod givens;
+mod lookup;
+mod plainly;
+mod reading;
+mod run;
+mod seeking;
+mod sets;
+mod turn;
+
+pub use event::{Fired, fire};
+pub use sets::{Set, Sets};

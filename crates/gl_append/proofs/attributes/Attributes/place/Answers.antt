@@ -1,0 +1,17 @@
+use Rattle.std.proofs.Common.{map, ◌∙◌, ap}
+use Rattle.std.proofs.lemmas.Result.{on_ok_weaker}
+use Rattle.gl_meaning.specs.Parts.{joined_texts}
+use Rattle.gl_plain.specs.State.{pair_of}
+use Rattle.gl_vm.specs.View.{stamps, state_of}
+use Rattle.gl_append.specs.CodeView.{seen_attr_spot}
+use Rattle.gl_append.specs.TagSteps.{seen_attributes, texts_given}
+use Rattle.gl_append.proofs.AttrLaws.{spot_placed}
+use Rattle.gl_append.proofs.attributes.Attributes.place.Goals as goal
+
+pub returns-clause-step : goal.returns-clause-step
+returns-clause-step c =
+    on_ok_weaker c.push_live.result
+    (spot_placed c.args.name.now c.in_ok-value.value (seen_attributes c.args.taken.now) c.in_ok-ids.field-0.ids c.in_ok-ids.field-0.made c.in_ok-id.id c.in_ok-texts.texts
+    c.args.self.now.attrs.items c.push_live.new.self.attrs.items (map seen_attr_spot c.args.self.now.spots.items) (map seen_attr_spot c.push_live.new.self.spots.items)
+    c.args.vm.now c.references.new.vm c.position.new.vm c.in_ok-ids.ensures.step (λ n u. c.in_ok-texts.ensures n u ∙ ap (λ is. texts_given (map (pair_of (state_of n c.references.new.vm u).look) (stamps is))) c.as_slice.ensures)
+    (c.in_ok-value.ensures ∙ ap joined_texts c.as_slice-2.ensures) c.in_ok-id.ensures.step c.in_ok-id.ensures.id) c.push_live.ensures

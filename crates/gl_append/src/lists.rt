@@ -1,0 +1,198 @@
+// `each`: how a list begins and ends.
+ghost use Rattle.std.specs.Prelude.{◌≡◌, ◌++◌, ◌∷◌, [], map, IfOk, OnOk};
+ghost use Rattle.gl_meaning.specs.Path as p;
+ghost use Rattle.gl_meaning.specs.View.{path_view};
+ghost use Rattle.gl_plain.specs.Ids.{ref};
+ghost use Rattle.gl_machine.specs.Code as c;
+ghost use Rattle.gl_machine.specs.Mach as m;
+ghost use Rattle.gl_machine.specs.Step as s;
+ghost use Rattle.gl_vm.specs.View.{Calm};
+ghost use Rattle.gl_append.specs.CodeView.{seen_listing, seen_spot, seen_item_spot, stamp_of, seen_code, seen_codes, seen_item_code, all_items};
+ghost use Rattle.gl_append.specs.MachineView.{seen_here, seen_pushed, seen_left, seen_items, call_kind};
+ghost use Rattle.gl_append.specs.Steps.{Moves, Changes, Takes, EndsFrame, EndsCall};
+ghost use Rattle.gl_append.specs.ListSteps.{each_at, list_waiting};
+
+use crate::bodies::below;
+use crate::branches::after;
+use crate::code::{Code, Codes, ItemCode, Listing, Spot};
+use crate::comments::comment_for;
+use crate::entries::items_of;
+use crate::kept::position;
+use crate::machine::{Call, Entry, Frame, Iteration, Kind, Machine, Pushed};
+use gl_meaning::{Path, PathStep};
+use gl_nodes::NodeId;
+use gl_refs::{Ids, RefId};
+use gl_value::Text;
+use gl_vm::Vm;
+use std::alloc::AllocError;
+use std::mem;
+
+impl Code {
+    /// An `each` with items.
+    pub fn listed(listing: Listing, spot: Spot, items: Vec<ItemCode>) -> Code
+        ensures { (n : _) → seen_code n result ≡ c.listed_code (seen_listing n listing) (seen_spot spot) (all_items (map (seen_item_code n) items.items)) }
+    {
+        Code::Listed {
+            listing,
+            spot,
+            items,
+        }
+    }
+
+    /// An `each` without items.
+    pub fn unlisted(listing: Listing, spot: Spot, comment: Option<NodeId>, body: Codes) -> Code
+        ensures { (n : _) → seen_code n result ≡ c.unlisted_code (seen_listing n listing) (seen_spot spot) (stamp_of comment) (seen_codes n body) }
+    {
+        Code::Unlisted {
+            listing,
+            spot,
+            comment,
+            body,
+        }
+    }
+}
+
+impl Machine {
+    /// A list is between two of its items, and an address is gone to.
+    pub fn wait_at(&mut self, pc: u32, iteration: Iteration) -> Result<(), AllocError>
+        ensures { OnOk result (Changes (λ n. list_waiting (call_kind n (Call.Each iteration)) pc) self.old self.new) }
+    {
+        self.made = Ids::new(self.alloc);
+        self.pc = pc;
+        self.calls.push(Call::Each(iteration))?;
+        Ok(())
+    }
+
+    // The path of what is rendered where the list has no item.
+    fn other_path(&self) -> Result<Path, AllocError>
+        ensures { IfOk result (λ q. (n : _) → path_view q ≡ p.otherwise ∷ m.next_at (seen_here n self.now.here)) }
+    {
+        let path = self.next_path()?;
+        let path = below(self.alloc, &path, PathStep::Else)?;
+        Ok(path)
+    }
+
+    fn enter_other(&mut self, listing: Listing, spot: Spot) -> Result<(), AllocError>
+        ensures { OnOk result (Moves (λ n k. s.each_into (seen_listing n listing) (seen_spot spot) 0 [] k.state k.stack k.rest) self.old self.new) }
+    {
+        let path = self.other_path()?;
+        self.made = Ids::new(self.alloc);
+        self.pc = listing.other;
+        self.begin(path, Kind::Other { listing, spot })
+    }
+
+    // The first item comes next, or the body where there is none.
+    fn enter_list(
+        &mut self,
+        listing: Listing,
+        id: RefId,
+        start: u32,
+        left: Vec<Entry>,
+    ) -> Result<(), AllocError>
+        ensures { OnOk result (Moves (λ n k. s.each_into (seen_listing n listing) (record { ref = id.1; made = k.made ++ ref id.1 ∷ [] }) start (seen_left left.items) k.state k.stack k.rest) self.old self.new) }
+    {
+        let made = mem::replace(&mut self.made, Ids::new(self.alloc));
+        let spot = Spot { id, made };
+        if left.is_empty() {
+            self.enter_other(listing, spot)
+        } else {
+            let done = Vec::new(self.alloc);
+            self.wait_at(
+                start,
+                Iteration {
+                    listing,
+                    spot,
+                    start,
+                    left,
+                    done,
+                },
+            )
+        }
+    }
+
+    /// An `each` of the reference on the top: a position, and the first item comes next, or the body where there is none.
+    /// The operands are those of the Item behind it.
+    pub fn do_each(
+        &mut self,
+        vm: &mut Vm,
+        key: &Text,
+        operands: (u32, u32),
+        other: u32,
+        top: Pushed,
+    ) -> Result<(), AllocError>
+        requires calm { Calm vm.old }
+        ensures step { OnOk result (Takes (λ n k. each_at key.now other operands k (k.stack, seen_pushed top)) vm.old self.old vm.new self.new) }
+        ensures calm { Calm vm.new }
+    {
+        if !vm.refs.readable(top.id) {
+            return Err(AllocError);
+        }
+        let value = vm.value(top.id)?;
+        let left = items_of(self.alloc, value, key)?;
+        let mut ids = Ids::new(self.alloc);
+        ids.push(top.id)?;
+        let start = after(self.pc)?;
+        let body = after(start)?;
+        let key = key.copy()?;
+        let sight = self.sight.copy()?;
+        let listing = Listing {
+            key,
+            value: operands.0,
+            index: operands.1,
+            body,
+            other,
+            sight,
+        };
+        let id = position(vm, ids)?;
+        self.enter_list(listing, id, start, left)
+    }
+
+    /// An `each` without items ends, whose frame was taken.
+    pub fn do_end_each(&mut self, vm: &mut Vm, frame: Frame) -> Result<(), AllocError>
+        ensures step { OnOk result (EndsFrame (λ n. s.do_end_each) vm.old self.old frame vm.new self.new) }
+        ensures calm { Calm vm.old → Calm vm.new }
+    {
+        let Frame { here, kind } = frame;
+        match kind {
+            Kind::Other { listing, spot } => {
+                if self.is_calling() {
+                    return Err(AllocError);
+                }
+                let body = self.end(here);
+                let comment = comment_for(vm, &body)?;
+                let code = Code::unlisted(listing, spot, comment, body);
+                self.show(code)
+            }
+            _ => Err(AllocError),
+        }
+    }
+
+    fn end_items(&mut self, iteration: Iteration) -> Result<(), AllocError>
+        ensures { OnOk result (Moves (λ n k. s.do_end_each k k.rest.frames k.rest.here (call_kind n (Call.Each iteration))) self.old self.new) }
+    {
+        if !iteration.left.is_empty() {
+            return Err(AllocError);
+        }
+        let code = Code::listed(iteration.listing, iteration.spot, iteration.done);
+        self.show(code)
+    }
+
+    fn end_call(&mut self, call: Call) -> Result<(), AllocError>
+        ensures { OnOk result (Moves (λ n k. s.do_end_each k k.rest.frames k.rest.here (call_kind n call)) self.old self.new) }
+    {
+        match call {
+            Call::Each(iteration) => self.end_items(iteration),
+            _ => Err(AllocError),
+        }
+    }
+
+    /// An `each` ends of which all items are done: it is the last call.
+    pub fn end_list(&mut self) -> Result<(), AllocError>
+        ensures { OnOk result (Moves (λ n k. s.with_end k s.do_end_each) self.old self.new) }
+    {
+        match self.pop_call() {
+            Some(call) => self.end_call(call),
+            None => Err(AllocError),
+        }
+    }
+}

@@ -1,0 +1,7 @@
+pub mod Plain
+pub mod Tied
+pub mod Owners
+pub mod Setting
+pub mod Turning
+pub mod Words
+mod Cases

@@ -1,0 +1,5 @@
+use Rattle.gl_naming.proofs.laws.moves.Goals as goal
+use Rattle.gl_naming.proofs.Moved.{stands_moved}
+
+pub returns : goal.returns
+returns c = stands_moved

@@ -1,0 +1,62 @@
+// Nodes put in by ids of which the caller knows nothing: what has to hold of them is asked.
+ghost use Rattle.std.specs.Prelude.{◌≡◌, Some, None, OnOk, OnErr, IsTrue};
+ghost use Rattle.gl_nodes.specs.Tree.{IsMade, ParentIsElement};
+ghost use Rattle.gl_nodes.specs.Flat.{IsFlat, PutsLast, TakesNodes, stamp_of};
+
+use crate::links::parent_at;
+use crate::{Node, NodeId, NodeTree};
+use std::alloc::AllocError;
+
+impl NodeTree {
+    /// Puts a node at the end of the children of a parent, or of the forest. Where the node is not a made one that is
+    /// not in the tree, or the parent not an element of the tree, it answers as for want of memory.
+    pub fn put_last(&mut self, parent: Option<NodeId>, node: NodeId) -> Result<(), AllocError>
+        ensures ok { OnOk result (PutsLast self.old self.new (stamp_of parent) node.1) }
+        ensures sound { IsFlat self.new }
+        ensures err { OnErr result (self.new ≡ self.old) }
+    {
+        self.flat();
+        if !self.waits(node) {
+            return Err(AllocError);
+        }
+        if !self.takes(&parent) {
+            return Err(AllocError);
+        }
+        self.insert_before(parent, node, None)
+    }
+
+    // Whether it is a made node that is not in the tree.
+    fn waits(&self, node: NodeId) -> bool
+        ensures { IsTrue result → IsMade node self.now }
+    {
+        if self.find(node).is_none() {
+            return false;
+        }
+        parent_at(&self.entries, node).is_none()
+    }
+
+    // Whether nodes may stand below it: an element of the tree, or none.
+    fn takes(&self, parent: &Option<NodeId>) -> bool
+        ensures { IsTrue result → TakesNodes self.now parent.now }
+    {
+        match parent {
+            Some(id) => self.takes_below(*id),
+            None => true,
+        }
+    }
+
+    fn takes_below(&self, id: NodeId) -> bool
+        ensures { IsTrue result → TakesNodes self.now (Some id) }
+    {
+        if !self.is_element(id) {
+            return false;
+        }
+        parent_at(&self.entries, id).is_some()
+    }
+
+    fn is_element(&self, id: NodeId) -> bool
+        ensures { IsTrue result → ParentIsElement self.now (Some id) }
+    {
+        matches!(self.find(id), Some(Node::Element { .. }))
+    }
+}

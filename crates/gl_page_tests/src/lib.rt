@@ -1,0 +1,7 @@
+//! Tests of the page that is appended: an application is loaded, its page appended, and its tree printed.
+//!
+//! They stand above the crates that they test, so that a check of them proves the tests alone.
+#![tactic(auto)]
+
+#[cfg(test)]
+mod rows;

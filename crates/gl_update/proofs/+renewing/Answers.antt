@@ -1,0 +1,523 @@
+use Rattle.std.proofs.Common.{rules, Bool, ◌≡◌, ◌≢◌, ℕ, ◌∷◌, ◌∙◌, length, drop, Some, map, ◌++◌, [], ◌-◌, ap, sym, subst, arith, get_or-set_other, List, Option, refl}
+use Rattle.std.specs.Prelude.{if◌then◌else◌, OnOk, IfErr, List, Option}
+use Rattle.std.proofs.lemmas.List.{length-set}
+use Rattle.std.proofs.lemmas.Result.{on_ok_weaker, IfOk-weaker, IfErr-weaker}
+use Rattle.std.specs.Cmp.{booleans_Decides}
+use Rattle.gl_meaning.specs.Path.{at, main, otherwise, slot, Path, item}
+use Rattle.gl_meaning.specs.View.{path_view}
+use Rattle.gl_nodes.specs.Flat.{stamp_of}
+use Rattle.gl_plain.specs.Ids as ids
+use Rattle.gl_plain.specs.Naming.{by_number, dropped_as}
+use Rattle.gl_plain.specs.Renew.{renew_attrs, renew_mods, renew_text}
+use Rattle.gl_machine.specs.Code as p
+use Rattle.gl_plain.specs.State.{Names, Inst}
+use Rattle.std.specs.declared.vec.Vec.{Vec}
+use Rattle.std.specs.declared.alloc.Global.{Global}
+use Rattle.gl_base.specs.Texts.{Text}
+use Rattle.gl_arena.specs.Id.{Id}
+use Rattle.gl_append.specs.declared.code.AttrSpot.{AttrSpot}
+use Rattle.gl_append.specs.declared.code.Choice.{Choice}
+use Rattle.gl_append.specs.declared.code.Codes.{Codes}
+use Rattle.gl_append.specs.declared.code.ModSpot.{ModSpot}
+use Rattle.gl_append.specs.declared.code.Spot.{Spot}
+use Rattle.gl_append.specs.declared.sight.Owner.{Owner}
+use Rattle.gl_machine.specs.RenewCode.{renew_code_as, renew_codes_as}
+use Rattle.gl_vm.specs.View.{Tables, stamps, name_stamps}
+use Rattle.gl_vm.specs.Steps.{Does}
+use Rattle.gl_append.specs.View.{refs_made, seen_owner}
+use Rattle.gl_append.specs.declared.code.Code.{the_lemmas}
+use Rattle.gl_append.specs.CodeView.{seen_attr_spot, seen_choice, seen_code, seen_codes, seen_mod_spot, seen_spot, seen_listing, seen_item_code, all_items}
+use Rattle.gl_update.specs.View.{trail_view}
+use Rattle.gl_update.specs.Renewing.{Renews, RenewFails}
+use Rattle.gl_update.proofs.Renewing.{renews_by, renews_still, renews_in, renews_at, fails_in, fails_at, renews_as}
+use Rattle.gl_update.proofs.Arms.{arm, arm_fails, still_is, put_is, element_is, branch_is, let_is, component_is, yield_is, Below, element_renews, element_fails, component_renews, component_fails}
+use Rattle.gl_update.proofs.Branching.{branch_kept, branch_kept_fails, branch_flips, branch_flip_fails}
+use Rattle.gl_update.proofs.Results.{if_err, if_err_all, moved2, moved4, moved5, written, sides_differ}
+use Rattle.gl_update.proofs.Walking.{One, walks_begin, walks_next, walks_fail, walks_end}
+use Rattle.std.specs.Vec.{vec_len}
+use Rattle.std.specs.Result.{IfOk, IfErr}
+use Rattle.gl_value.specs.Value.{plain}
+use Rattle.gl_value.specs.View.{view}
+use Rattle.gl_plain.specs.Live.{times_items}
+use Rattle.gl_machine.specs.Code.{Listing, Code as PlainCode, Codes as PlainCodes, ItemCodes, listed_code, unlisted_code, items_of}
+use Rattle.gl_append.specs.MachineView.{seen_entry, seen_left}
+use Rattle.gl_append.proofs.ListEnds.{none_counted, some_counted, none_left}
+use Rattle.gl_update.specs.ListItems.{Item, there, FreshItem, ListsFresh, ListsNone, Syncs}
+use Rattle.gl_update.specs.OldItems.{OneItem}
+use Rattle.gl_update.proofs.ListUpdates.{listed_is, unlisted_is, gives_of, unlisted_stays, unlisted_stays_fails, unlisted_lists, unlisted_lists_fails, Unlisting, gone, listed_ends, listed_ends_fails, listed_syncs, listed_syncs_fails, Relisting}
+use Rattle.gl_update.proofs.OldKeys.{there_is}
+use Rattle.gl_update.proofs.FreshItems.{none_waits}
+use Rattle.gl_update.proofs.SyncItems.{All, sync_begin, sync_next, sync_fails, sync_end, still_waits, work_next, kept_renews, kept_fails, list_syncs, list_sync_fails, item_is}
+use Rattle.gl_update.proofs.+renewing.Goals as goal
+
+pub codes::renew_below-returns-in-Ok-clause-ok : goal.codes::renew_below-returns-in-Ok-clause-ok
+codes::renew_below-returns-in-Ok-clause-ok t c =
+    subst (λ q. Renews c.args.app.now c.args.cells.now (Below c.args.app.now c.args.cells.now c.args.left q q c.args.body.now) c.args.vm.now (λ n. seen_codes n c.renew_codes.new.codes) c.renew_codes.new.vm) c.in_ok-push.ensures.view c.in-Ok.ensures.ok
+
+pub codes::renew_below-returns-in-Err-clause-fails : goal.codes::renew_below-returns-in-Err-clause-fails
+codes::renew_below-returns-in-Err-clause-fails t c =
+    subst (λ q. RenewFails c.args.app.now c.args.cells.now (Below c.args.app.now c.args.cells.now c.args.left q q c.args.body.now) c.args.vm.now c.in-Err.fault) c.in_ok-push.ensures.view c.in-Err.ensures.fails
+
+pub codes::renew_element-returns-in_ok-renew_mods-in-Ok-clause-ok : goal.codes::renew_element-returns-in_ok-renew_mods-in-Ok-clause-ok
+codes::renew_element-returns-in_ok-renew_mods-in-Ok-clause-ok t c = λ made.
+    element_renews c.args.app.now c.args.cells.now c.args.left (trail_view c.args.trail.now) c.args.node.1 made (map seen_attr_spot c.args.attrs.now.items) (map seen_mod_spot c.args.mods.now.items) c.args.body.now c.renew_codes.new.codes c.args.vm.now c.renew_attrs.new.vm c.renew_codes.new.vm c.renew_mods.new.vm
+    (subst (λ xs. Does (λ n. renew_attrs c.args.node.1 (map seen_attr_spot xs)) c.args.vm.now c.renew_attrs.new.vm) c.as_slice.ensures.value c.in_ok-renew_attrs.ensures.step) c.in-Ok.ensures.ok
+    (subst (λ xs. Does (λ n. renew_mods (map seen_mod_spot xs)) c.renew_codes.new.vm c.renew_mods.new.vm) c.as_slice-in-Ok.ensures.value c.in_ok-renew_mods-in-Ok.ensures.step)
+
+pub codes::renew_element-returns-in-Err-clause-fails : goal.codes::renew_element-returns-in-Err-clause-fails
+codes::renew_element-returns-in-Err-clause-fails t c = λ made.
+    element_fails c.args.app.now c.args.cells.now c.args.left (trail_view c.args.trail.now) c.args.node.1 made (map seen_attr_spot c.args.attrs.now.items) (map seen_mod_spot c.args.mods.now.items) c.args.body.now c.args.vm.now c.renew_attrs.new.vm c.in-Err.fault
+    (subst (λ xs. Does (λ n. renew_attrs c.args.node.1 (map seen_attr_spot xs)) c.args.vm.now c.renew_attrs.new.vm) c.as_slice.ensures.value c.in_ok-renew_attrs.ensures.step) c.in-Err.ensures.fails
+
+pub codes::renew_component-returns-clause-ok : goal.codes::renew_component-returns-clause-ok
+codes::renew_component-returns-clause-ok t c =
+    on_ok_weaker c.renew_codes.result
+    (λ r i made gm args k q e. component_renews c.args.app.now c.args.cells.now c.args.left q i made gm args k (c.args.left - 1) (omega arith) (trail_view c.in_ok-trail.trail) (e ∙ sym c.in_ok-trail.ensures) c.args.body.now c.renew_codes.new.codes c.args.vm.now c.renew_codes.new.vm r)
+    c.renew_codes.ensures.ok
+
+pub codes::renew_component-returns-clause-fails : goal.codes::renew_component-returns-clause-fails
+codes::renew_component-returns-clause-fails t c = λ i made gm args k q e.
+    if_err c.renew_codes.result
+    (λ f r. component_fails c.args.app.now c.args.cells.now c.args.left q i made gm args k (c.args.left - 1) (omega arith) (trail_view c.in_ok-trail.trail) (e ∙ sym c.in_ok-trail.ensures) c.args.body.now c.args.vm.now f r)
+    c.renew_codes.ensures.fails
+
+pub codes::renew_codes-loop-place-init : goal.codes::renew_codes-loop-place-init
+codes::renew_codes-loop-place-init t c = record {
+  unvisited = search rules;
+  trail = search rules;
+  calm = c.requires.calm;
+  walks = walks_begin c.args.app.now c.args.cells.now c.args.left (trail_view c.args.trail.now) c.args.codes.now c.deref_mut-code-items.result.now c.args.vm.now c.deref_mut-code-items.ensures.value;
+}
+
+pub codes::renew_codes-loop-place-preserved : goal.codes::renew_codes-loop-place-preserved
+codes::renew_codes-loop-place-preserved t c = record {
+  unvisited = (
+    length-set c.loop-place.code-items c.loop-place.place c.renew_code.new.code ∙ c.loop-place.invariant.unvisited.0,
+    λ k d le. let ne : k ≢ c.loop-place.place = omega (arith, le) in
+        get_or-set_other c.loop-place.code-items c.loop-place.place k c.renew_code.new.code d ne ∙ c.loop-place.invariant.unvisited.1 k d (omega (arith, le)),
+  );
+  trail = c.pop.ensures c.args.trail.now (at c.loop-place.place) (ap (λ x. x.path.steps) c.in-Ok.ensures.trail ∙ (c.in_ok-push.ensures.steps ∙ ap (λ x. x.path.steps ++ at c.loop-place.place ∷ []) c.loop-place.invariant.trail));
+  calm = c.in-Ok.ensures.calm;
+  walks = walks_next c.args.app.now c.args.cells.now c.args.left (trail_view c.args.trail.now) c.loop-place.code-items c.loop-place.place c.code-item.result (let lt = c.loop-place-test.true in let e = c.loop-place.invariant.unvisited.0 in omega (arith, lt, e)) c.code-item.is (trail_view c.push.new.self)
+      (c.in_ok-push.ensures.view ∙ ap (λ x. at c.loop-place.place ∷ trail_view x) c.loop-place.invariant.trail) c.args.codes.now c.args.vm.now c.loop-place.vm c.renew_code.new.vm c.renew_code.new.code c.loop-place.invariant.walks
+      (subst (λ z. Renews c.args.app.now c.args.cells.now (One c.args.app.now c.args.cells.now c.args.left (trail_view c.args.trail.now) (trail_view c.push.new.self) z) c.loop-place.vm (λ n. seen_code n c.renew_code.new.code) c.renew_code.new.vm) (sym c.code-item.is) c.in-Ok.ensures.ok);
+}
+
+pub codes::renew_codes-returns-in-Err-clause-fails : goal.codes::renew_codes-returns-in-Err-clause-fails
+codes::renew_codes-returns-in-Err-clause-fails t c =
+    walks_fail c.args.app.now c.args.cells.now c.args.left (trail_view c.args.trail.now) c.loop-place.code-items c.loop-place.place c.code-item.result (let lt = c.loop-place-test.true in let e = c.loop-place.invariant.unvisited.0 in omega (arith, lt, e)) c.code-item.is (trail_view c.push.new.self)
+    (c.in_ok-push.ensures.view ∙ ap (λ x. at c.loop-place.place ∷ trail_view x) c.loop-place.invariant.trail) c.args.codes.now c.args.vm.now c.loop-place.vm c.in-Err.fault c.loop-place.invariant.walks
+    (subst (λ z. RenewFails c.args.app.now c.args.cells.now (One c.args.app.now c.args.cells.now c.args.left (trail_view c.args.trail.now) (trail_view c.push.new.self) z) c.loop-place.vm c.in-Err.fault) (sym c.code-item.is) c.in-Err.ensures.fails)
+
+pub codes::renew_codes-returns-clause-ok : goal.codes::renew_codes-returns-clause-ok
+codes::renew_codes-returns-clause-ok t c =
+    walks_end c.args.app.now c.args.cells.now c.args.left (trail_view c.args.trail.now) c.args.codes.now _ c.args.vm.now c.loop-place.vm c.loop-place.code-items c.loop-place.place
+    (let le = c.loop-place-test.false in let e = c.loop-place.invariant.unvisited.0 in omega (arith, le, e)) c.loop-place.invariant.walks
+    (written c.loop-place.code-items (drop (length c.loop-place.code-items) c.args.codes.now.list.items) c.args.codes.now.list.len
+    (c.args.codes.now.list.ok.0 ∙ (ap length (sym c.deref_mut-code-items.ensures.value) ∙ sym c.loop-place.invariant.unvisited.0)))
+
+pub branches::renew_branch-returns-then-shows-main-clause-ok : goal.branches::renew_branch-returns-then-shows-main-clause-ok
+branches::renew_branch-returns-then-shows-main-clause-ok t c =
+    let b = c.args.main.now in
+    let e : c.in_ok-shows.shows ≡ b = (booleans_Decides c.in_ok-shows.shows b).0 c.if-shows-main.true in
+    on_ok_weaker c.renew_below.result
+    (λ r. branch_kept c.args.app.now c.args.cells.now c.args.left (trail_view c.args.trail.now) (λ n. seen_choice n c.args.choice.now) (seen_spot c.args.spot.now) (stamp_of c.args.comment.now) (λ n. seen_codes n c.args.body.now) b c.args.vm.now c.condition.new.vm c.renew_below.new.vm (λ n. seen_codes n c.renew_below.new.body)
+    c.in_ok-shows.ensures.step (λ n u. c.in_ok-shows.ensures.shows n u ∙ e)
+    (subst (λ q. Renews c.args.app.now c.args.cells.now (λ n run. renew_codes_as by_number run c.args.left (q ∷ trail_view c.args.trail.now) 0 (seen_codes n c.args.body.now)) c.condition.new.vm (λ n. seen_codes n c.renew_below.new.body) c.renew_below.new.vm)
+    (c.side.ensures ∙ ap (λ z. if z then main else otherwise) e) r))
+    c.renew_below.ensures.ok
+
+pub branches::renew_branch-returns-then-shows-main-clause-fails : goal.branches::renew_branch-returns-then-shows-main-clause-fails
+branches::renew_branch-returns-then-shows-main-clause-fails t c =
+    let b = c.args.main.now in
+    let e : c.in_ok-shows.shows ≡ b = (booleans_Decides c.in_ok-shows.shows b).0 c.if-shows-main.true in
+    if_err c.renew_below.result
+    (λ f r. branch_kept_fails c.args.app.now c.args.cells.now c.args.left (trail_view c.args.trail.now) (λ n. seen_choice n c.args.choice.now) (seen_spot c.args.spot.now) (stamp_of c.args.comment.now) (λ n. seen_codes n c.args.body.now) b c.args.vm.now c.condition.new.vm f
+    c.in_ok-shows.ensures.step (λ n u. c.in_ok-shows.ensures.shows n u ∙ e)
+    (subst (λ q. RenewFails {A = p.Codes} c.args.app.now c.args.cells.now (λ n run. renew_codes_as by_number run c.args.left (q ∷ trail_view c.args.trail.now) 0 (seen_codes n c.args.body.now)) c.condition.new.vm f)
+    (c.side.ensures ∙ ap (λ z. if z then main else otherwise) e) r))
+    c.renew_below.ensures.fails
+
+pub branches::renew_branch-returns-else-shows-main-clause-ok : goal.branches::renew_branch-returns-else-shows-main-clause-ok
+branches::renew_branch-returns-else-shows-main-clause-ok t c =
+    let s = seen_spot c.args.spot.now in
+    let ne : c.in_ok-shows.shows ≢ c.args.main.now = (sides_differ c.in_ok-shows.shows c.args.main.now c.if-shows-main.false) in
+    on_ok_weaker c.flip.result
+    (λ r. branch_flips c.args.app.now c.args.cells.now c.args.left (trail_view c.args.trail.now) (λ n. seen_choice n c.args.choice.now) s (stamp_of c.args.comment.now) (λ n. seen_codes n c.args.body.now) c.in_ok-shows.shows c.args.main.now c.args.vm.now c.condition.new.vm c.flip.new.vm
+    (λ n. p.branch_code (seen_choice n c.args.choice.now) s c.in_ok-shows.shows (stamp_of c.flip.new.comment) (seen_codes n c.flip.new.body)) ne c.in_ok-shows.ensures.step c.in_ok-shows.ensures.shows (r s))
+    c.flip.ensures.ok
+
+pub branches::renew_branch-returns-else-shows-main-clause-fails : goal.branches::renew_branch-returns-else-shows-main-clause-fails
+branches::renew_branch-returns-else-shows-main-clause-fails t c =
+    let s = seen_spot c.args.spot.now in
+    let ne : c.in_ok-shows.shows ≢ c.args.main.now = (sides_differ c.in_ok-shows.shows c.args.main.now c.if-shows-main.false) in
+    if_err c.flip.result
+    (λ f r. branch_flip_fails c.args.app.now c.args.cells.now c.args.left (trail_view c.args.trail.now) (λ n. seen_choice n c.args.choice.now) s (stamp_of c.args.comment.now) (λ n. seen_codes n c.args.body.now) c.in_ok-shows.shows c.args.main.now c.args.vm.now c.condition.new.vm f
+    ne c.in_ok-shows.ensures.step c.in_ok-shows.ensures.shows r)
+    (c.flip.ensures.fails s)
+
+pub codes::renew_code-returns-in-Still-clause-ok : goal.codes::renew_code-returns-in-Still-clause-ok
+codes::renew_code-returns-in-Still-clause-ok t c =
+    let k : Tables → p.Code = λ n. p.still_code c.in-Still.node.1 in
+    arm c.args.app.now c.args.cells.now c.args.left (trail_view c.args.trail.now) c.args.code.now c.args.code.now k k c.args.vm.now c.args.vm.now (λ n. ap (seen_code n) c.in-Still.is ∙ still_is n c.in-Still.node) (λ n. ap (seen_code n) c.in-Still.is ∙ still_is n c.in-Still.node) (renews_still c.args.app.now c.args.cells.now k c.args.vm.now)
+
+pub codes::renew_code-returns-in-Let-clause-ok : goal.codes::renew_code-returns-in-Let-clause-ok
+codes::renew_code-returns-in-Let-clause-ok t c =
+    let k : Tables → p.Codes → p.Code = λ n cs. p.let_code (refs_made c.in-Let.made) (stamps c.in-Let.params) cs in
+    let held : OnOk c.renew_below.result (Renews c.args.app.now c.args.cells.now (λ n run. renew_codes_as by_number run c.args.left (main ∷ trail_view c.args.trail.now) 0 (seen_codes n c.in-Let.body)) c.args.vm.now (λ n. seen_codes n c.renew_below.new.body) c.renew_below.new.vm) =
+    subst (λ z. OnOk c.renew_below.result (Renews c.args.app.now c.args.cells.now (λ n run. renew_codes_as by_number run c.args.left (main ∷ trail_view c.args.trail.now) 0 (seen_codes n z)) c.args.vm.now (λ n. seen_codes n c.renew_below.new.body) c.renew_below.new.vm)) c.in-Let.body-is c.renew_below.ensures.ok in
+    on_ok_weaker c.renew_below.result
+    (λ r. arm c.args.app.now c.args.cells.now c.args.left (trail_view c.args.trail.now) c.args.code.now _ (λ n. k n (seen_codes n c.in-Let.body)) (λ n. k n (seen_codes n c.renew_below.new.body)) c.args.vm.now c.renew_below.new.vm (λ n. ap (seen_code n) c.in-Let.is ∙ let_is n c.in-Let.made c.in-Let.params c.in-Let.body) (λ n. search (rules, the_lemmas))
+    (renews_in c.args.app.now c.args.cells.now (λ n run. renew_codes_as by_number run c.args.left (main ∷ trail_view c.args.trail.now) 0 (seen_codes n c.in-Let.body)) k (λ n. seen_codes n c.renew_below.new.body) c.args.vm.now c.renew_below.new.vm r))
+    held
+
+pub codes::renew_code-returns-in-Let-clause-fails : goal.codes::renew_code-returns-in-Let-clause-fails
+codes::renew_code-returns-in-Let-clause-fails t c =
+    let k : Tables → p.Codes → p.Code = λ n cs. p.let_code (refs_made c.in-Let.made) (stamps c.in-Let.params) cs in
+    let held : IfErr c.renew_below.result (RenewFails {A = p.Codes} c.args.app.now c.args.cells.now (λ n run. renew_codes_as by_number run c.args.left (main ∷ trail_view c.args.trail.now) 0 (seen_codes n c.in-Let.body)) c.args.vm.now) =
+    subst (λ z. IfErr c.renew_below.result (RenewFails {A = p.Codes} c.args.app.now c.args.cells.now (λ n run. renew_codes_as by_number run c.args.left (main ∷ trail_view c.args.trail.now) 0 (seen_codes n z)) c.args.vm.now)) c.in-Let.body-is c.renew_below.ensures.fails in
+    if_err c.renew_below.result
+    (λ f r. arm_fails c.args.app.now c.args.cells.now c.args.left (trail_view c.args.trail.now) c.args.code.now (λ n. k n (seen_codes n c.in-Let.body)) c.args.vm.now f (λ n. ap (seen_code n) c.in-Let.is ∙ let_is n c.in-Let.made c.in-Let.params c.in-Let.body)
+    (fails_in c.args.app.now c.args.cells.now (λ n run. renew_codes_as by_number run c.args.left (main ∷ trail_view c.args.trail.now) 0 (seen_codes n c.in-Let.body)) k (λ n st. st) c.args.vm.now f r))
+    held
+
+pub codes::renew_code-returns-in-Component-clause-ok : goal.codes::renew_code-returns-in-Component-clause-ok
+codes::renew_code-returns-in-Component-clause-ok t c =
+    let k : Tables → p.Codes → p.Code = λ m cs. p.component_code (seen_owner m c.in-Component.owner.value) (ids.instance_id (seen_owner m c.in-Component.owner.value).id ∷ ((ids.block_id c.in-Component.block.1 ∷ refs_made c.in-Component.made) ++ refs_made c.in-Component.owner.value.cells)) (ids.block_id c.in-Component.block.1 ∷ refs_made c.in-Component.made) (name_stamps c.in-Component.args.value) (Some c.in-Component.block.1) cs in
+    let held : OnOk c.renew_component.result ((i : Inst) (made gm : List ids.Id) (args : Names) (k : Option ℕ) (q : Path) → i.path ≡ path_view c.deref.result.now.path → Renews c.args.app.now c.args.cells.now (λ n run. renew_code_as by_number run c.args.left q (p.component_code i made gm args k (seen_codes n c.in-Component.body))) c.args.vm.now (λ n. p.component_code i made gm args k (seen_codes n c.renew_component.new.body)) c.renew_component.new.vm) = subst (λ z. OnOk c.renew_component.result ((i : Inst) (made gm : List ids.Id) (args : Names) (k : Option ℕ) (q : Path) → i.path ≡ path_view c.deref.result.now.path → Renews c.args.app.now c.args.cells.now (λ n run. renew_code_as by_number run c.args.left q (p.component_code i made gm args k (seen_codes n z))) c.args.vm.now (λ n. p.component_code i made gm args k (seen_codes n c.renew_component.new.body)) c.renew_component.new.vm)) c.in-Component.body-is c.renew_component.ensures.ok in
+    on_ok_weaker c.renew_component.result
+    (λ r. arm c.args.app.now c.args.cells.now c.args.left (trail_view c.args.trail.now) c.args.code.now _ (λ n. k n (seen_codes n c.in-Component.body)) (λ n. k n (seen_codes n c.renew_component.new.body)) c.args.vm.now c.renew_component.new.vm (λ n. ap (seen_code n) c.in-Component.is ∙ component_is n c.in-Component.owner c.in-Component.block c.in-Component.made c.in-Component.args c.in-Component.body) (λ n. search (rules, the_lemmas))
+    (renews_at c.args.app.now c.args.cells.now (λ m n run. renew_code_as by_number run c.args.left (trail_view c.args.trail.now) (k m (seen_codes n c.in-Component.body))) (λ m n. k m (seen_codes n c.renew_component.new.body)) c.args.vm.now c.renew_component.new.vm
+    (λ m. r (seen_owner m c.in-Component.owner.value) (ids.instance_id (seen_owner m c.in-Component.owner.value).id ∷ ((ids.block_id c.in-Component.block.1 ∷ refs_made c.in-Component.made) ++ refs_made c.in-Component.owner.value.cells)) (ids.block_id c.in-Component.block.1 ∷ refs_made c.in-Component.made) (name_stamps c.in-Component.args.value) (Some c.in-Component.block.1) (trail_view c.args.trail.now) (ap (λ (o : Owner). path_view o.path) (ap (λ z. z.value) (sym c.in-Component.owner-is) ∙ sym c.deref.ensures)))))
+    held
+
+pub codes::renew_code-returns-in-Component-clause-fails : goal.codes::renew_code-returns-in-Component-clause-fails
+codes::renew_code-returns-in-Component-clause-fails t c =
+    let k : Tables → p.Codes → p.Code = λ m cs. p.component_code (seen_owner m c.in-Component.owner.value) (ids.instance_id (seen_owner m c.in-Component.owner.value).id ∷ ((ids.block_id c.in-Component.block.1 ∷ refs_made c.in-Component.made) ++ refs_made c.in-Component.owner.value.cells)) (ids.block_id c.in-Component.block.1 ∷ refs_made c.in-Component.made) (name_stamps c.in-Component.args.value) (Some c.in-Component.block.1) cs in
+    let held : (i : Inst) (made gm : List ids.Id) (args : Names) (k : Option ℕ) (q : Path) → i.path ≡ path_view c.deref.result.now.path → IfErr c.renew_component.result (RenewFails {A = p.Code} c.args.app.now c.args.cells.now (λ n run. renew_code_as by_number run c.args.left q (p.component_code i made gm args k (seen_codes n c.in-Component.body))) c.args.vm.now) = subst (λ z. (i : Inst) (made gm : List ids.Id) (args : Names) (k : Option ℕ) (q : Path) → i.path ≡ path_view c.deref.result.now.path → IfErr c.renew_component.result (RenewFails {A = p.Code} c.args.app.now c.args.cells.now (λ n run. renew_code_as by_number run c.args.left q (p.component_code i made gm args k (seen_codes n z))) c.args.vm.now)) c.in-Component.body-is c.renew_component.ensures.fails in
+    if_err_all c.renew_component.result
+    (λ f r. arm_fails c.args.app.now c.args.cells.now c.args.left (trail_view c.args.trail.now) c.args.code.now (λ n. k n (seen_codes n c.in-Component.body)) c.args.vm.now f (λ n. ap (seen_code n) c.in-Component.is ∙ component_is n c.in-Component.owner c.in-Component.block c.in-Component.made c.in-Component.args c.in-Component.body)
+    (fails_at c.args.app.now c.args.cells.now (λ m n run. renew_code_as by_number run c.args.left (trail_view c.args.trail.now) (k m (seen_codes n c.in-Component.body))) c.args.vm.now f r))
+    (λ m. held (seen_owner m c.in-Component.owner.value) (ids.instance_id (seen_owner m c.in-Component.owner.value).id ∷ ((ids.block_id c.in-Component.block.1 ∷ refs_made c.in-Component.made) ++ refs_made c.in-Component.owner.value.cells)) (ids.block_id c.in-Component.block.1 ∷ refs_made c.in-Component.made) (name_stamps c.in-Component.args.value) (Some c.in-Component.block.1) (trail_view c.args.trail.now) (ap (λ (o : Owner). path_view o.path) (ap (λ z. z.value) (sym c.in-Component.owner-is) ∙ sym c.deref.ensures)))
+
+pub codes::renew_code-returns-in_ok-renew_text-in-Put-clause-ok : goal.codes::renew_code-returns-in_ok-renew_text-in-Put-clause-ok
+codes::renew_code-returns-in_ok-renew_text-in-Put-clause-ok t c =
+    let k : Tables → p.Code = λ n. p.put_code c.in-Put.node.1 (seen_spot c.in-Put.spot) in
+    arm c.args.app.now c.args.cells.now c.args.left (trail_view c.args.trail.now) c.args.code.now _ k k c.args.vm.now c.renew_text.new.vm (λ n. ap (seen_code n) c.in-Put.is ∙ put_is n c.in-Put.node c.in-Put.spot) (λ n. search (rules, the_lemmas))
+    (renews_by c.args.app.now c.args.cells.now (λ n. renew_text c.in-Put.node.1 c.in-Put.spot.id.1) k c.args.vm.now c.renew_text.new.vm
+    (moved2 (λ (y : Id) (z : Spot). Does (λ n. renew_text y.1 z.id.1) c.args.vm.now c.renew_text.new.vm) c.in-Put.node-is c.in-Put.spot-is c.in_ok-renew_text-in-Put.ensures.step))
+
+pub codes::renew_code-returns-in-Element-clause-ok : goal.codes::renew_code-returns-in-Element-clause-ok
+codes::renew_code-returns-in-Element-clause-ok t c =
+    let k : Tables → p.Codes → p.Code = λ n cs. p.element_code c.in-Element.node.1 (refs_made c.in-Element.made) (map seen_attr_spot c.in-Element.attrs.items) (map seen_mod_spot c.in-Element.mods.items) cs in
+    on_ok_weaker c.renew_element.result
+    (λ r. arm c.args.app.now c.args.cells.now c.args.left (trail_view c.args.trail.now) c.args.code.now _ (λ n. k n (seen_codes n c.in-Element.body)) (λ n. k n (seen_codes n c.renew_element.new.body)) c.args.vm.now c.renew_element.new.vm (λ n. ap (seen_code n) c.in-Element.is ∙ element_is n c.in-Element.node c.in-Element.made c.in-Element.attrs c.in-Element.mods c.in-Element.body) (λ n. search (rules, the_lemmas)) (r (refs_made c.in-Element.made)))
+    (moved4 (λ (y : Id) (xs : Vec AttrSpot Global) (zs : Vec ModSpot Global) (b : Codes). OnOk c.renew_element.result ((made : List ids.Id) → Renews c.args.app.now c.args.cells.now (λ n run. renew_code_as by_number run c.args.left (trail_view c.args.trail.now) (p.element_code y.1 made (map seen_attr_spot xs.items) (map seen_mod_spot zs.items) (seen_codes n b))) c.args.vm.now (λ n. (p.element_code y.1 made (map seen_attr_spot xs.items) (map seen_mod_spot zs.items) (seen_codes n c.renew_element.new.body))) c.renew_element.new.vm)) c.in-Element.node-is c.in-Element.attrs-is c.in-Element.mods-is c.in-Element.body-is c.renew_element.ensures.ok)
+
+pub codes::renew_code-returns-in-Element-clause-fails : goal.codes::renew_code-returns-in-Element-clause-fails
+codes::renew_code-returns-in-Element-clause-fails t c =
+    let k : Tables → p.Codes → p.Code = λ n cs. p.element_code c.in-Element.node.1 (refs_made c.in-Element.made) (map seen_attr_spot c.in-Element.attrs.items) (map seen_mod_spot c.in-Element.mods.items) cs in
+    if_err c.renew_element.result
+    (λ f r. arm_fails c.args.app.now c.args.cells.now c.args.left (trail_view c.args.trail.now) c.args.code.now (λ n. k n (seen_codes n c.in-Element.body)) c.args.vm.now f (λ n. ap (seen_code n) c.in-Element.is ∙ element_is n c.in-Element.node c.in-Element.made c.in-Element.attrs c.in-Element.mods c.in-Element.body) r)
+    (moved4 (λ (y : Id) (xs : Vec AttrSpot Global) (zs : Vec ModSpot Global) (b : Codes). (made : List ids.Id) → IfErr c.renew_element.result (RenewFails {A = p.Code} c.args.app.now c.args.cells.now (λ n run. renew_code_as by_number run c.args.left (trail_view c.args.trail.now) (p.element_code y.1 made (map seen_attr_spot xs.items) (map seen_mod_spot zs.items) (seen_codes n b))) c.args.vm.now)) c.in-Element.node-is c.in-Element.attrs-is c.in-Element.mods-is c.in-Element.body-is c.renew_element.ensures.fails (refs_made c.in-Element.made))
+
+pub codes::renew_code-returns-in-Branch-clause-ok : goal.codes::renew_code-returns-in-Branch-clause-ok
+codes::renew_code-returns-in-Branch-clause-ok t c =
+    on_ok_weaker c.renew_branch.result
+    (λ r. arm c.args.app.now c.args.cells.now c.args.left (trail_view c.args.trail.now) c.args.code.now _ (λ n. p.branch_code (seen_choice n c.in-Branch.choice) (seen_spot c.in-Branch.spot) c.in-Branch.main (stamp_of c.in-Branch.comment) (seen_codes n c.in-Branch.body))
+    (λ n. p.branch_code (seen_choice n c.in-Branch.choice) (seen_spot c.in-Branch.spot) c.renew_branch.new.main (stamp_of c.renew_branch.new.comment) (seen_codes n c.renew_branch.new.body)) c.args.vm.now c.renew_branch.new.vm (λ n. ap (seen_code n) c.in-Branch.is ∙ branch_is n c.in-Branch.choice c.in-Branch.spot c.in-Branch.main c.in-Branch.comment c.in-Branch.body) (λ n. search (rules, the_lemmas)) r)
+    (moved5 (λ (z : Choice) (x : Spot) (u : Bool) (k : Option Id) (b : Codes). OnOk c.renew_branch.result (Renews c.args.app.now c.args.cells.now (λ n run. renew_code_as by_number run c.args.left (trail_view c.args.trail.now) (p.branch_code (seen_choice n z) (seen_spot x) u (stamp_of k) (seen_codes n b))) c.args.vm.now (λ n. p.branch_code (seen_choice n z) (seen_spot x) c.renew_branch.new.main (stamp_of c.renew_branch.new.comment) (seen_codes n c.renew_branch.new.body)) c.renew_branch.new.vm)) c.in-Branch.choice-is c.in-Branch.spot-is c.in-Branch.main-is c.in-Branch.comment-is c.in-Branch.body-is c.renew_branch.ensures.ok)
+
+pub codes::renew_code-returns-in-Branch-clause-fails : goal.codes::renew_code-returns-in-Branch-clause-fails
+codes::renew_code-returns-in-Branch-clause-fails t c =
+    if_err c.renew_branch.result
+    (λ f r. arm_fails c.args.app.now c.args.cells.now c.args.left (trail_view c.args.trail.now) c.args.code.now (λ n. p.branch_code (seen_choice n c.in-Branch.choice) (seen_spot c.in-Branch.spot) c.in-Branch.main (stamp_of c.in-Branch.comment) (seen_codes n c.in-Branch.body)) c.args.vm.now f (λ n. ap (seen_code n) c.in-Branch.is ∙ branch_is n c.in-Branch.choice c.in-Branch.spot c.in-Branch.main c.in-Branch.comment c.in-Branch.body) r)
+    (moved5 (λ (z : Choice) (x : Spot) (u : Bool) (k : Option Id) (b : Codes). IfErr c.renew_branch.result (RenewFails {A = p.Code} c.args.app.now c.args.cells.now (λ n run. renew_code_as by_number run c.args.left (trail_view c.args.trail.now) (p.branch_code (seen_choice n z) (seen_spot x) u (stamp_of k) (seen_codes n b))) c.args.vm.now)) c.in-Branch.choice-is c.in-Branch.spot-is c.in-Branch.main-is c.in-Branch.comment-is c.in-Branch.body-is c.renew_branch.ensures.fails)
+
+pub codes::renew_code-returns-in_ok-copy-in-Yield-clause-ok : goal.codes::renew_code-returns-in_ok-copy-in-Yield-clause-ok
+codes::renew_code-returns-in_ok-copy-in-Yield-clause-ok t c =
+    let k : Tables → p.Codes → p.Code = λ n cs. p.yield_code c.in-Yield.name (refs_made c.in-Yield.made) (stamps c.in-Yield.params) cs in
+    on_ok_weaker c.renew_below-in-Yield.result
+    (λ r. arm c.args.app.now c.args.cells.now c.args.left (trail_view c.args.trail.now) c.args.code.now _ (λ n. k n (seen_codes n c.in-Yield.body)) (λ n. k n (seen_codes n c.renew_below-in-Yield.new.body)) c.args.vm.now c.renew_below-in-Yield.new.vm (λ n. ap (seen_code n) c.in-Yield.is ∙ yield_is n c.in-Yield.name c.in-Yield.made c.in-Yield.params c.in-Yield.body) (λ n. search (rules, the_lemmas))
+    (renews_in c.args.app.now c.args.cells.now (λ n run. renew_codes_as by_number run c.args.left (slot c.in-Yield.name ∷ trail_view c.args.trail.now) 0 (seen_codes n c.in-Yield.body)) k (λ n. seen_codes n c.renew_below-in-Yield.new.body) c.args.vm.now c.renew_below-in-Yield.new.vm r))
+    (moved2 (λ (y : Text) (b : Codes). OnOk c.renew_below-in-Yield.result (Renews c.args.app.now c.args.cells.now (λ n run. renew_codes_as by_number run c.args.left (slot y ∷ trail_view c.args.trail.now) 0 (seen_codes n b)) c.args.vm.now (λ n. seen_codes n c.renew_below-in-Yield.new.body) c.renew_below-in-Yield.new.vm)) (c.in_ok-copy-in-Yield.ensures ∙ c.in-Yield.name-is) c.in-Yield.body-is c.renew_below-in-Yield.ensures.ok)
+
+pub codes::renew_code-returns-in_ok-copy-in-Yield-clause-fails : goal.codes::renew_code-returns-in_ok-copy-in-Yield-clause-fails
+codes::renew_code-returns-in_ok-copy-in-Yield-clause-fails t c =
+    let k : Tables → p.Codes → p.Code = λ n cs. p.yield_code c.in-Yield.name (refs_made c.in-Yield.made) (stamps c.in-Yield.params) cs in
+    if_err c.renew_below-in-Yield.result
+    (λ f r. arm_fails c.args.app.now c.args.cells.now c.args.left (trail_view c.args.trail.now) c.args.code.now (λ n. k n (seen_codes n c.in-Yield.body)) c.args.vm.now f (λ n. ap (seen_code n) c.in-Yield.is ∙ yield_is n c.in-Yield.name c.in-Yield.made c.in-Yield.params c.in-Yield.body) (fails_in c.args.app.now c.args.cells.now (λ n run. renew_codes_as by_number run c.args.left (slot c.in-Yield.name ∷ trail_view c.args.trail.now) 0 (seen_codes n c.in-Yield.body)) k (λ n st. st) c.args.vm.now f r))
+    (moved2 (λ (y : Text) (b : Codes). IfErr c.renew_below-in-Yield.result (RenewFails {A = p.Codes} c.args.app.now c.args.cells.now (λ n run. renew_codes_as by_number run c.args.left (slot y ∷ trail_view c.args.trail.now) 0 (seen_codes n b)) c.args.vm.now)) (c.in_ok-copy-in-Yield.ensures ∙ c.in-Yield.name-is) c.in-Yield.body-is c.renew_below-in-Yield.ensures.fails)
+
+-- the list that is there
+
+pub lists::renew_list-returns-in-Ok-clause-ok : goal.lists::renew_list-returns-in-Ok-clause-ok
+lists::renew_list-returns-in-Ok-clause-ok t c =
+    let l = c.in-Listed.listing in
+    let s = c.in-Listed.spot in
+    let xs = c.in-Listed.items in
+    arm c.args.app.now c.args.cells.now c.args.left (trail_view c.args.trail.now) c.args.code.now c.in-Ok.new (λ n. listed_code (seen_listing n l) (seen_spot s) (all_items (map (seen_item_code n) xs.items))) (λ n. seen_code n c.in-Ok.new) c.args.vm.now c.renew_listed.new.vm
+    (λ n. ap (seen_code n) (sym c.replace.ensures.value ∙ c.in-Listed.is) ∙ listed_is n l s xs) (λ n. refl) c.in-Ok.ensures.ok
+
+pub lists::renew_list-returns-in-Listed-clause-fails : goal.lists::renew_list-returns-in-Listed-clause-fails
+lists::renew_list-returns-in-Listed-clause-fails t c =
+    let l = c.in-Listed.listing in
+    let s = c.in-Listed.spot in
+    let xs = c.in-Listed.items in
+    arm_fails c.args.app.now c.args.cells.now c.args.left (trail_view c.args.trail.now) c.args.code.now (λ n. listed_code (seen_listing n l) (seen_spot s) (all_items (map (seen_item_code n) xs.items))) c.args.vm.now c.in-Err.fault
+    (λ n. ap (seen_code n) (sym c.replace.ensures.value ∙ c.in-Listed.is) ∙ listed_is n l s xs) c.in-Err.ensures.fails
+
+pub lists::renew_list-returns-in-Ok-renew_unlisted-clause-ok : goal.lists::renew_list-returns-in-Ok-renew_unlisted-clause-ok
+lists::renew_list-returns-in-Ok-renew_unlisted-clause-ok t c =
+    let l = c.in-Unlisted.listing in
+    let s = c.in-Unlisted.spot in
+    let k = c.in-Unlisted.comment in
+    let b = c.in-Unlisted.body in
+    arm c.args.app.now c.args.cells.now c.args.left (trail_view c.args.trail.now) c.args.code.now c.in-Ok-renew_unlisted.new (λ n. unlisted_code (seen_listing n l) (seen_spot s) (stamp_of k) (seen_codes n b)) (λ n. seen_code n c.in-Ok-renew_unlisted.new) c.args.vm.now c.renew_unlisted.new.vm
+    (λ n. ap (seen_code n) (sym c.replace.ensures.value ∙ c.in-Unlisted.is) ∙ unlisted_is n l s k b) (λ n. refl) c.in-Ok-renew_unlisted.ensures.ok
+
+pub lists::renew_list-returns-in-Unlisted-clause-fails : goal.lists::renew_list-returns-in-Unlisted-clause-fails
+lists::renew_list-returns-in-Unlisted-clause-fails t c =
+    let l = c.in-Unlisted.listing in
+    let s = c.in-Unlisted.spot in
+    let k = c.in-Unlisted.comment in
+    let b = c.in-Unlisted.body in
+    arm_fails c.args.app.now c.args.cells.now c.args.left (trail_view c.args.trail.now) c.args.code.now (λ n. unlisted_code (seen_listing n l) (seen_spot s) (stamp_of k) (seen_codes n b)) c.args.vm.now c.in-Err-renew_unlisted.fault
+    (λ n. ap (seen_code n) (sym c.replace.ensures.value ∙ c.in-Unlisted.is) ∙ unlisted_is n l s k b) c.in-Err-renew_unlisted.ensures.fails
+
+-- with items
+
+pub lists::renew_listed-returns-then-is_empty-clause-ok : goal.lists::renew_listed-returns-then-is_empty-clause-ok
+lists::renew_listed-returns-then-is_empty-clause-ok t c =
+    let z : Tables → Listing = λ n. seen_listing n c.args.listing in
+    let s = seen_spot c.args.spot in
+    let p = trail_view c.args.trail.now in
+    let xs : Tables → List Item = λ n. map (seen_item_code n) c.args.items.items in
+    let es = c.in_ok-entries.entries in
+    let l : vec_len es ≡ length es.items = search rules in
+    let none = none_counted es.items (vec_len es) l (sym c.is_empty.ensures ∙ c.if-is_empty.true) in
+    IfOk-weaker c.unlist.result
+    (λ r. Renews c.args.app.now c.args.cells.now (ListsNone z s c.args.left p (λ n q. times_items q (items_of (all_items (xs n))))) c.value_now.new.vm (λ n. seen_code n r) c.unlist.new.vm)
+    (λ r. Renews c.args.app.now c.args.cells.now (Relisting c.args.app.now c.args.cells.now z c.args.listing.key (λ n. refl) s c.args.left p xs) c.args.vm.now (λ n. seen_code n r) c.unlist.new.vm)
+    (λ r h. listed_ends c.args.app.now c.args.cells.now z c.args.listing.key (λ n. refl) s c.args.left p xs c.args.vm.now c.value_now.new.vm c.unlist.new.vm (λ n. seen_code n r) c.in_ok-value.ensures.step
+    (λ n u. sym (ap seen_left none) ∙ gives_of c.args.listing.key s c.value_now.new.vm c.in_ok-value.value (seen_left es.items) c.in_ok-value.ensures.value c.in_ok-entries.ensures n u) h)
+    c.unlist.ensures.ok
+
+pub lists::renew_listed-returns-then-is_empty-clause-fails : goal.lists::renew_listed-returns-then-is_empty-clause-fails
+lists::renew_listed-returns-then-is_empty-clause-fails t c =
+    let z : Tables → Listing = λ n. seen_listing n c.args.listing in
+    let s = seen_spot c.args.spot in
+    let p = trail_view c.args.trail.now in
+    let xs : Tables → List Item = λ n. map (seen_item_code n) c.args.items.items in
+    let es = c.in_ok-entries.entries in
+    let l : vec_len es ≡ length es.items = search rules in
+    let none = none_counted es.items (vec_len es) l (sym c.is_empty.ensures ∙ c.if-is_empty.true) in
+    IfErr-weaker c.unlist.result
+    (RenewFails {A = PlainCode} c.args.app.now c.args.cells.now (ListsNone z s c.args.left p (λ n q. times_items q (items_of (all_items (xs n))))) c.value_now.new.vm)
+    (RenewFails {A = PlainCode} c.args.app.now c.args.cells.now (Relisting c.args.app.now c.args.cells.now z c.args.listing.key (λ n. refl) s c.args.left p xs) c.args.vm.now)
+    (λ f h. listed_ends_fails c.args.app.now c.args.cells.now z c.args.listing.key (λ n. refl) s c.args.left p xs c.args.vm.now c.value_now.new.vm f c.in_ok-value.ensures.step
+    (λ n u. sym (ap seen_left none) ∙ gives_of c.args.listing.key s c.value_now.new.vm c.in_ok-value.value (seen_left es.items) c.in_ok-value.ensures.value c.in_ok-entries.ensures n u) h)
+    c.unlist.ensures.fails
+
+pub lists::renew_listed-returns-else-is_empty-clause-ok : goal.lists::renew_listed-returns-else-is_empty-clause-ok
+lists::renew_listed-returns-else-is_empty-clause-ok t c =
+    let z : Tables → Listing = λ n. seen_listing n c.args.listing in
+    let s = seen_spot c.args.spot in
+    let p = trail_view c.args.trail.now in
+    let xs : Tables → List Item = λ n. map (seen_item_code n) c.args.items.items in
+    let es = c.in_ok-entries.entries in
+    let l : vec_len es ≡ length es.items = search rules in
+    let some = some_counted es.items (vec_len es) l (sym c.is_empty.ensures ∙ c.if-is_empty.false) in
+    IfOk-weaker c.sync_list.result
+    (λ r. Renews c.args.app.now c.args.cells.now (Syncs z s c.args.left p (seen_left es.items) xs) c.value_now.new.vm (λ n. seen_code n r) c.sync_list.new.vm)
+    (λ r. Renews c.args.app.now c.args.cells.now (Relisting c.args.app.now c.args.cells.now z c.args.listing.key (λ n. refl) s c.args.left p xs) c.args.vm.now (λ n. seen_code n r) c.sync_list.new.vm)
+    (λ r h. listed_syncs c.args.app.now c.args.cells.now z c.args.listing.key (λ n. refl) s c.args.left p xs (seen_left es.items) c.args.vm.now c.value_now.new.vm c.sync_list.new.vm (λ n. seen_code n r) (λ e. some (none_left es.items e)) c.in_ok-value.ensures.step
+    (gives_of c.args.listing.key s c.value_now.new.vm c.in_ok-value.value (seen_left es.items) c.in_ok-value.ensures.value c.in_ok-entries.ensures) h)
+    c.sync_list.ensures.ok
+
+pub lists::renew_listed-returns-else-is_empty-clause-fails : goal.lists::renew_listed-returns-else-is_empty-clause-fails
+lists::renew_listed-returns-else-is_empty-clause-fails t c =
+    let z : Tables → Listing = λ n. seen_listing n c.args.listing in
+    let s = seen_spot c.args.spot in
+    let p = trail_view c.args.trail.now in
+    let xs : Tables → List Item = λ n. map (seen_item_code n) c.args.items.items in
+    let es = c.in_ok-entries.entries in
+    let l : vec_len es ≡ length es.items = search rules in
+    let some = some_counted es.items (vec_len es) l (sym c.is_empty.ensures ∙ c.if-is_empty.false) in
+    IfErr-weaker c.sync_list.result
+    (RenewFails {A = PlainCode} c.args.app.now c.args.cells.now (Syncs z s c.args.left p (seen_left es.items) xs) c.value_now.new.vm)
+    (RenewFails {A = PlainCode} c.args.app.now c.args.cells.now (Relisting c.args.app.now c.args.cells.now z c.args.listing.key (λ n. refl) s c.args.left p xs) c.args.vm.now)
+    (λ f h. listed_syncs_fails c.args.app.now c.args.cells.now z c.args.listing.key (λ n. refl) s c.args.left p xs (seen_left es.items) c.args.vm.now c.value_now.new.vm f (λ e. some (none_left es.items e)) c.in_ok-value.ensures.step
+    (gives_of c.args.listing.key s c.value_now.new.vm c.in_ok-value.value (seen_left es.items) c.in_ok-value.ensures.value c.in_ok-entries.ensures) h)
+    c.sync_list.ensures.fails
+
+-- without items
+
+pub lists::renew_unlisted-returns-in-Ok-clause-ok : goal.lists::renew_unlisted-returns-in-Ok-clause-ok
+lists::renew_unlisted-returns-in-Ok-clause-ok t c =
+    let z : Tables → Listing = λ n. seen_listing n c.args.listing in
+    let s = seen_spot c.args.spot in
+    let p = trail_view c.args.trail.now in
+    let k = stamp_of c.args.comment in
+    let cs : Tables → PlainCodes = λ n. seen_codes n c.args.body in
+    let ds : Tables → PlainCodes = λ n. seen_codes n c.renew_below.new.body in
+    let es = c.in_ok-entries.entries in
+    let l : vec_len es ≡ length es.items = search rules in
+    let none = none_counted es.items (vec_len es) l (sym c.is_empty.ensures ∙ c.if-is_empty.true) in
+    renews_as c.args.app.now c.args.cells.now (Unlisting c.args.app.now c.args.cells.now z c.args.listing.key (λ n. refl) s c.args.left p k cs) (λ n. unlisted_code (z n) s k (ds n)) (λ n. seen_code n c.unlisted.result) c.args.vm.now c.renew_below.new.vm (λ n. sym (c.unlisted.ensures n))
+    (unlisted_stays c.args.app.now c.args.cells.now z c.args.listing.key (λ n. refl) s c.args.left p k cs c.args.vm.now c.value_now.new.vm c.renew_below.new.vm ds c.in_ok-value.ensures.step
+    (λ n u. sym (ap seen_left none) ∙ gives_of c.args.listing.key s c.value_now.new.vm c.in_ok-value.value (seen_left es.items) c.in_ok-value.ensures.value c.in_ok-entries.ensures n u) c.in-Ok.ensures.ok)
+
+pub lists::renew_unlisted-returns-in-Err-clause-fails : goal.lists::renew_unlisted-returns-in-Err-clause-fails
+lists::renew_unlisted-returns-in-Err-clause-fails t c =
+    let z : Tables → Listing = λ n. seen_listing n c.args.listing in
+    let s = seen_spot c.args.spot in
+    let p = trail_view c.args.trail.now in
+    let k = stamp_of c.args.comment in
+    let cs : Tables → PlainCodes = λ n. seen_codes n c.args.body in
+    let es = c.in_ok-entries.entries in
+    let l : vec_len es ≡ length es.items = search rules in
+    let none = none_counted es.items (vec_len es) l (sym c.is_empty.ensures ∙ c.if-is_empty.true) in
+    unlisted_stays_fails c.args.app.now c.args.cells.now z c.args.listing.key (λ n. refl) s c.args.left p k cs c.args.vm.now c.value_now.new.vm c.in-Err.fault c.in_ok-value.ensures.step
+    (λ n u. sym (ap seen_left none) ∙ gives_of c.args.listing.key s c.value_now.new.vm c.in_ok-value.value (seen_left es.items) c.in_ok-value.ensures.value c.in_ok-entries.ensures n u) c.in-Err.ensures.fails
+
+pub lists::renew_unlisted-returns-else-is_empty-clause-ok : goal.lists::renew_unlisted-returns-else-is_empty-clause-ok
+lists::renew_unlisted-returns-else-is_empty-clause-ok t c =
+    let z : Tables → Listing = λ n. seen_listing n c.args.listing in
+    let s = seen_spot c.args.spot in
+    let p = trail_view c.args.trail.now in
+    let k = stamp_of c.args.comment in
+    let cs : Tables → PlainCodes = λ n. seen_codes n c.args.body in
+    let es = c.in_ok-entries.entries in
+    let l : vec_len es ≡ length es.items = search rules in
+    let some = some_counted es.items (vec_len es) l (sym c.is_empty.ensures ∙ c.if-is_empty.false) in
+    IfOk-weaker c.list.result
+    (λ r. Renews c.args.app.now c.args.cells.now (ListsFresh z s c.args.left p (seen_left es.items) (gone c.args.app.now c.args.cells.now z c.args.listing.key (λ n. refl) s c.args.left p k cs)) c.value_now.new.vm (λ n. seen_code n r) c.list.new.vm)
+    (λ r. Renews c.args.app.now c.args.cells.now (Unlisting c.args.app.now c.args.cells.now z c.args.listing.key (λ n. refl) s c.args.left p k cs) c.args.vm.now (λ n. seen_code n r) c.list.new.vm)
+    (λ r h. unlisted_lists c.args.app.now c.args.cells.now z c.args.listing.key (λ n. refl) s c.args.left p k cs (seen_left es.items) c.args.vm.now c.value_now.new.vm c.list.new.vm (λ n. seen_code n r) (λ e. some (none_left es.items e)) c.in_ok-value.ensures.step
+    (gives_of c.args.listing.key s c.value_now.new.vm c.in_ok-value.value (seen_left es.items) c.in_ok-value.ensures.value c.in_ok-entries.ensures) h)
+    c.list.ensures.ok
+
+pub lists::renew_unlisted-returns-else-is_empty-clause-fails : goal.lists::renew_unlisted-returns-else-is_empty-clause-fails
+lists::renew_unlisted-returns-else-is_empty-clause-fails t c =
+    let z : Tables → Listing = λ n. seen_listing n c.args.listing in
+    let s = seen_spot c.args.spot in
+    let p = trail_view c.args.trail.now in
+    let k = stamp_of c.args.comment in
+    let cs : Tables → PlainCodes = λ n. seen_codes n c.args.body in
+    let es = c.in_ok-entries.entries in
+    let l : vec_len es ≡ length es.items = search rules in
+    let some = some_counted es.items (vec_len es) l (sym c.is_empty.ensures ∙ c.if-is_empty.false) in
+    IfErr-weaker c.list.result
+    (RenewFails {A = PlainCode} c.args.app.now c.args.cells.now (ListsFresh z s c.args.left p (seen_left es.items) (gone c.args.app.now c.args.cells.now z c.args.listing.key (λ n. refl) s c.args.left p k cs)) c.value_now.new.vm)
+    (RenewFails {A = PlainCode} c.args.app.now c.args.cells.now (Unlisting c.args.app.now c.args.cells.now z c.args.listing.key (λ n. refl) s c.args.left p k cs) c.args.vm.now)
+    (λ f h. unlisted_lists_fails c.args.app.now c.args.cells.now z c.args.listing.key (λ n. refl) s c.args.left p k cs (seen_left es.items) c.args.vm.now c.value_now.new.vm f (λ e. some (none_left es.items e)) c.in_ok-value.ensures.step
+    (gives_of c.args.listing.key s c.value_now.new.vm c.in_ok-value.value (seen_left es.items) c.in_ok-value.ensures.value c.in_ok-entries.ensures) h)
+    c.list.ensures.fails
+
+-- an item
+
+pub syncing::kept_item-returns-in-Ok-clause-ok : goal.syncing::kept_item-returns-in-Ok-clause-ok
+syncing::kept_item-returns-in-Ok-clause-ok t c =
+    let e = c.args.entry in
+    kept_renews c.args.app.now c.args.cells.now c.args.left (item (plain (view e.key)) e.occurrence ∷ trail_view c.args.trail.now) e c.args.old.spot c.args.old.comment c.args.old.body (λ n. seen_item_code n c.args.old) c.args.vm.now c.give.new.vm c.give-2.new.vm c.counted.result
+    (λ n. item_is n c.args.old) c.in_ok-give.ensures.step c.in_ok-give-2.ensures.step c.counted.ensures
+    c.renew_below.new.body (λ n. seen_item_code n c.rendered.result) c.renew_below.new.vm c.rendered.ensures c.in-Ok.ensures.ok
+
+pub syncing::kept_item-returns-in-Err-clause-fails : goal.syncing::kept_item-returns-in-Err-clause-fails
+syncing::kept_item-returns-in-Err-clause-fails t c =
+    let e = c.args.entry in
+    kept_fails c.args.app.now c.args.cells.now c.args.left (item (plain (view e.key)) e.occurrence ∷ trail_view c.args.trail.now) e c.args.old.spot c.args.old.comment c.args.old.body (λ n. seen_item_code n c.args.old) c.args.vm.now c.give.new.vm c.give-2.new.vm c.counted.result
+    (λ n. item_is n c.args.old) c.in_ok-give.ensures.step c.in_ok-give-2.ensures.step c.counted.ensures
+    c.in-Err.fault c.in-Err.ensures.fails
+
+pub syncing::entry_item-returns-in-Some-clause-ok : goal.syncing::entry_item-returns-in-Some-clause-ok
+syncing::entry_item-returns-in-Some-clause-ok t c =
+    let e = c.args.entry in
+    subst (λ o. IfOk c.kept_item.result (λ r. Renews c.args.app.now c.args.cells.now (OneItem (λ n. seen_listing n c.args.listing.now) c.args.left (item (plain (view e.key)) e.occurrence ∷ trail_view c.args.trail.now) (seen_entry e) o) c.args.vm.now (λ n. seen_item_code n r) c.kept_item.new.vm))
+    (sym c.in-Some.is) c.kept_item.ensures.ok
+
+pub syncing::entry_item-returns-in-Some-clause-fails : goal.syncing::entry_item-returns-in-Some-clause-fails
+syncing::entry_item-returns-in-Some-clause-fails t c =
+    let e = c.args.entry in
+    subst (λ o. IfErr c.kept_item.result (RenewFails {A = Item} c.args.app.now c.args.cells.now (OneItem (λ n. seen_listing n c.args.listing.now) c.args.left (item (plain (view e.key)) e.occurrence ∷ trail_view c.args.trail.now) (seen_entry e) o) c.args.vm.now))
+    (sym c.in-Some.is) c.kept_item.ensures.fails
+
+pub syncing::entry_item-returns-in_ok-path-in-None-clause-ok : goal.syncing::entry_item-returns-in_ok-path-in-None-clause-ok
+syncing::entry_item-returns-in_ok-path-in-None-clause-ok t c =
+    let e = c.args.entry in
+    let z : Tables → Listing = λ n. seen_listing n c.args.listing.now in
+    let at = c.in_ok-path-in-None.ensures ∙ ap (λ w. item (plain (view e.key)) e.occurrence ∷ w) c.requires.base in
+    subst (λ o. IfOk c.fresh_item.result (λ r. Renews c.args.app.now c.args.cells.now (OneItem z c.args.left (item (plain (view e.key)) e.occurrence ∷ trail_view c.args.trail.now) (seen_entry e) o) c.args.vm.now (λ n. seen_item_code n r) c.fresh_item.new.vm))
+    (sym c.in-None.is) (subst (λ q. IfOk c.fresh_item.result (λ r. Renews c.args.app.now c.args.cells.now (FreshItem z c.args.left q (seen_entry e)) c.args.vm.now (λ n. seen_item_code n r) c.fresh_item.new.vm)) at c.fresh_item.ensures.ok)
+
+pub syncing::entry_item-returns-in_ok-path-in-None-clause-fails : goal.syncing::entry_item-returns-in_ok-path-in-None-clause-fails
+syncing::entry_item-returns-in_ok-path-in-None-clause-fails t c =
+    let e = c.args.entry in
+    let z : Tables → Listing = λ n. seen_listing n c.args.listing.now in
+    let at = c.in_ok-path-in-None.ensures ∙ ap (λ w. item (plain (view e.key)) e.occurrence ∷ w) c.requires.base in
+    subst (λ o. IfErr c.fresh_item.result (RenewFails {A = Item} c.args.app.now c.args.cells.now (OneItem z c.args.left (item (plain (view e.key)) e.occurrence ∷ trail_view c.args.trail.now) (seen_entry e) o) c.args.vm.now))
+    (sym c.in-None.is) (subst (λ q. IfErr c.fresh_item.result (RenewFails {A = Item} c.args.app.now c.args.cells.now (FreshItem z c.args.left q (seen_entry e)) c.args.vm.now)) at c.fresh_item.ensures.fails)
+
+-- the items
+
+pub syncing::sync_items-loop-entry-init : goal.syncing::sync_items-loop-entry-init
+syncing::sync_items-loop-entry-init t c = record {
+  trail = refl;
+  calm = c.requires.calm;
+  ready = c.requires.ready;
+  onward = sync_begin c.args.app.now c.args.cells.now c.args.left c.args.listing.now (trail_view c.args.trail.now) c.args.work.waiting.items (there c.args.work.olds.items) c.new-done.result.items c.args.vm.now c.new-done.ensures.items;
+}
+
+pub syncing::sync_items-loop-entry-preserved : goal.syncing::sync_items-loop-entry-preserved
+syncing::sync_items-loop-entry-preserved t c =
+    let z = c.args.listing.now in
+    let base = trail_view c.args.trail.now in
+    let e = c.in-Some.entry in
+    let q : Path = item (plain (view e.key)) e.occurrence ∷ base in
+    let is : c.loop-entry.work.waiting.items ≡ c.take.new.self.waiting.items ++ e ∷ [] = still_waits c.loop-entry.work.waiting.items c.pop.new.self.items c.take.new.self.waiting.items e c.in-Some.ensures.items (ap (λ v. v.items) c.take.ensures.waiting) in
+    let next = work_next c.loop-entry.work c.take.new.self c.take.new.self.waiting.items e c.in_ok-old.old c.loop-entry.invariant.ready is refl c.take.ensures.keys c.in_ok-old.ensures.taken in
+    record {
+      trail = c.in-Ok.ensures.trail ∙ c.loop-entry.invariant.trail;
+      calm = c.entry_item.ensures.calm;
+      ready = next.1;
+      onward = sync_next c.args.app.now c.args.cells.now c.args.left z base (All c.args.app.now c.args.cells.now c.args.left z base c.args.work.waiting.items (there c.args.work.olds.items))
+          c.loop-entry.done.items c.add.new.items.items c.loop-entry.work.waiting.items c.take.new.self.waiting.items e c.in-Ok.item q c.loop-entry.work.olds.items c.take.new.self.olds.items c.in_ok-old.old c.args.vm.now c.loop-entry.vm c.entry_item.new.vm
+          is refl next.0 c.in_ok-add-in-Ok.ensures c.loop-entry.invariant.onward
+          (subst (λ w. Renews c.args.app.now c.args.cells.now (OneItem (λ n. seen_listing n z) c.args.left (item (plain (view e.key)) e.occurrence ∷ trail_view w) (seen_entry e) c.in_ok-old.old) c.loop-entry.vm (λ n. seen_item_code n c.in-Ok.item) c.entry_item.new.vm)
+          c.loop-entry.invariant.trail c.in-Ok.ensures.ok);
+    }
+
+pub syncing::sync_items-returns-in-Err-clause-fails : goal.syncing::sync_items-returns-in-Err-clause-fails
+syncing::sync_items-returns-in-Err-clause-fails t c =
+    let z = c.args.listing.now in
+    let base = trail_view c.args.trail.now in
+    let e = c.in-Some.entry in
+    let q : Path = item (plain (view e.key)) e.occurrence ∷ base in
+    let next = work_next c.loop-entry.work c.take.new.self c.pop.new.self.items e c.in_ok-old.old c.loop-entry.invariant.ready c.in-Some.ensures.items (ap (λ v. v.items) c.take.ensures.waiting) c.take.ensures.keys c.in_ok-old.ensures.taken in
+    sync_fails c.args.app.now c.args.cells.now c.args.left z base (All c.args.app.now c.args.cells.now c.args.left z base c.args.work.waiting.items (there c.args.work.olds.items))
+    c.loop-entry.done.items c.loop-entry.work.waiting.items c.pop.new.self.items e q c.loop-entry.work.olds.items c.take.new.self.olds.items c.in_ok-old.old c.args.vm.now c.loop-entry.vm c.in-Err.fault
+    c.in-Some.ensures.items refl next.0 c.loop-entry.invariant.onward
+    (subst (λ w. RenewFails {A = Item} c.args.app.now c.args.cells.now (OneItem (λ n. seen_listing n z) c.args.left (item (plain (view e.key)) e.occurrence ∷ trail_view w) (seen_entry e) c.in_ok-old.old) c.loop-entry.vm c.in-Err.fault)
+    c.loop-entry.invariant.trail c.in-Err.ensures.fails)
+
+pub syncing::sync_items-returns-clause-ok : goal.syncing::sync_items-returns-clause-ok
+syncing::sync_items-returns-clause-ok t c =
+    let z = c.args.listing.now in
+    let base = trail_view c.args.trail.now in
+    let waiting = c.loop-entry.work.waiting.items in
+    let none : waiting ≡ [] = none_waits waiting c.pop.new.self.items _ c.in_default.ensures.items c.in_default.ensures.rest c.in_default.ensures.cases.0 in
+    sync_end c.args.app.now c.args.cells.now c.args.left z base (All c.args.app.now c.args.cells.now c.args.left z base c.args.work.waiting.items (there c.args.work.olds.items))
+    c.loop-entry.done.items c.in_ok-olds.olds.items waiting c.loop-entry.work.olds.items c.args.vm.now c.loop-entry.vm c.end_items.new.vm none (c.in_ok-olds.ensures ∙ there_is c.loop-entry.work.olds.items) c.loop-entry.invariant.onward
+    (subst (λ xs. Does (λ n. dropped_as by_number (λ q. times_items q (items_of (all_items (map (seen_item_code n) xs))))) c.loop-entry.vm c.end_items.new.vm) c.as_slice.ensures.value c.in_ok-end_items.ensures.step)
+
+pub syncing::sync_list-returns-in-Ok-clause-ok : goal.syncing::sync_list-returns-in-Ok-clause-ok
+syncing::sync_list-returns-in-Ok-clause-ok t c =
+    list_syncs c.args.app.now c.args.cells.now c.args.left c.args.listing (seen_spot c.args.spot) (trail_view c.args.trail.now) (trail_view c.push.new.self) c.args.entries.items c.in_ok-work.work.waiting.items c.args.items.items (there c.in_ok-work.work.olds.items)
+    c.in_ok-push.ensures.view (ap (λ v. v.items) c.in_ok-work.ensures.waiting) c.in_ok-work.ensures.olds
+    (λ n. all_items (map (seen_item_code n) c.in-Ok.items.items)) (λ n. seen_code n c.listed.result) c.args.vm.now c.sync_items.new.vm c.listed.ensures c.in-Ok.ensures.ok
+
+pub syncing::sync_list-returns-in-Err-clause-fails : goal.syncing::sync_list-returns-in-Err-clause-fails
+syncing::sync_list-returns-in-Err-clause-fails t c =
+    list_sync_fails c.args.app.now c.args.cells.now c.args.left c.args.listing (seen_spot c.args.spot) (trail_view c.args.trail.now) (trail_view c.push.new.self) c.args.entries.items c.in_ok-work.work.waiting.items c.args.items.items (there c.in_ok-work.work.olds.items)
+    c.in_ok-push.ensures.view (ap (λ v. v.items) c.in_ok-work.ensures.waiting) c.in_ok-work.ensures.olds c.args.vm.now c.in-Err.fault c.in-Err.ensures.fails

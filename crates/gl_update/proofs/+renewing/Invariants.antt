@@ -1,0 +1,73 @@
+use Rattle.std.proofs.Common.{◌≡◌, ℕ, ◌+◌, ◌-◌, ◌*◌, ◌^◌, length, vec_len}
+use Rattle.gl_vm.specs.View.{Calm}
+use Rattle.gl_update.specs.ListItems.{there}
+use Rattle.gl_update.specs.OldItems.{IsReady}
+use Rattle.gl_update.specs.View.{trail_view}
+use Rattle.gl_update.proofs.Onward.{Onward}
+use Rattle.gl_update.proofs.SyncItems.{All, Left}
+use Rattle.gl_update.proofs.Walking.{Walks}
+use Rattle.gl_update.proofs.+renewing.Given as goal
+
+-- The trail grows, and no list is longer than that; where it begins anew, one level of nesting less is left.
+abbrev room : ℕ → ℕ → ℕ → ℕ
+room left steps rank = 16 * (left * (2 ^ 64 + 1) + (2 ^ 64 - steps)) + rank
+
+abbrev pub decreases-codes::renew_code : goal.decreases-codes::renew_code
+decreases-codes::renew_code l = room l.left (length l.trail.now.path.steps) 8
+
+abbrev pub decreases-codes::renew_component : goal.decreases-codes::renew_component
+decreases-codes::renew_component l = 16 * (l.left * (2 ^ 64 + 1)) + 7
+
+abbrev pub decreases-codes::renew_element : goal.decreases-codes::renew_element
+decreases-codes::renew_element l = room l.left (length l.trail.now.path.steps) 1
+
+abbrev pub decreases-codes::renew_below : goal.decreases-codes::renew_below
+decreases-codes::renew_below l = room l.left (length l.trail.now.path.steps) 1
+
+abbrev pub decreases-codes::renew_codes : goal.decreases-codes::renew_codes
+decreases-codes::renew_codes l = room l.left (length l.trail.now.path.steps) 0
+
+abbrev pub decreases-branches::renew_branch : goal.decreases-branches::renew_branch
+decreases-branches::renew_branch l = room l.left (length l.trail.now.path.steps) 2
+
+abbrev pub decreases-lists::renew_list : goal.decreases-lists::renew_list
+decreases-lists::renew_list l = room l.left (length l.trail.now.path.steps) 7
+
+abbrev pub decreases-lists::renew_listed : goal.decreases-lists::renew_listed
+decreases-lists::renew_listed l = room l.left (length l.trail.now.path.steps) 6
+
+abbrev pub decreases-lists::renew_unlisted : goal.decreases-lists::renew_unlisted
+decreases-lists::renew_unlisted l = room l.left (length l.trail.now.path.steps) 6
+
+abbrev pub decreases-syncing::sync_list : goal.decreases-syncing::sync_list
+decreases-syncing::sync_list l = room l.left (length l.trail.now.path.steps) 5
+
+abbrev pub decreases-syncing::sync_items : goal.decreases-syncing::sync_items
+decreases-syncing::sync_items l = room l.left (length l.trail.now.path.steps) 4
+
+abbrev pub decreases-syncing::entry_item : goal.decreases-syncing::entry_item
+decreases-syncing::entry_item l = room l.left (length l.trail.now.path.steps) 3
+
+abbrev pub decreases-syncing::kept_item : goal.decreases-syncing::kept_item
+decreases-syncing::kept_item l = room l.left (length l.trail.now.path.steps) 2
+
+-- where what is left goes on, all goes
+abbrev pub invariant-codes::renew_codes-loop-place : goal.invariant-codes::renew_codes-loop-place
+invariant-codes::renew_codes-loop-place l = record {
+  unvisited : goal.unvisited-codes::renew_codes-loop-place l;
+  trail : l.trail ≡ l.fn.trail;
+  calm : Calm l.vm;
+  walks : Walks l.app l.cells l.left (trail_view l.fn.trail) l.fn.codes l.fn.vm l.code-items l.place l.vm;
+}
+
+abbrev pub invariant-syncing::sync_items-loop-entry : goal.invariant-syncing::sync_items-loop-entry
+invariant-syncing::sync_items-loop-entry l = record {
+  trail : l.trail ≡ l.fn.trail;
+  calm : Calm l.vm;
+  ready : IsReady l.work;
+  onward : Onward l.app l.cells (All l.app l.cells l.left l.listing (trail_view l.fn.trail) l.fn.work.waiting.items (there l.fn.work.olds.items)) l.fn.vm
+      (Left l.app l.cells l.left l.listing (trail_view l.fn.trail) l.done.items l.work.waiting.items (there l.work.olds.items)) l.vm;
+}
+
+abbrev pub decreases-syncing::sync_items-loop-entry : goal.decreases-syncing::sync_items-loop-entry
+decreases-syncing::sync_items-loop-entry l = vec_len l.work.waiting

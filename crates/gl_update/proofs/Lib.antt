@@ -1,0 +1,15 @@
+pub mod Renewing
+pub mod Bodies
+pub mod Walking
+pub mod Arms
+pub mod Branching
+pub mod Spots
+pub mod Results
+pub mod Arguments
+pub mod Onward
+pub mod ItemJoins
+pub mod FreshItems
+pub mod Places
+pub mod OldKeys
+pub mod SyncItems
+pub mod ListUpdates

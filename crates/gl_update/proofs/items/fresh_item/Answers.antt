@@ -1,0 +1,30 @@
+use Rattle.std.proofs.lemmas.Result.{IfOk-weaker, IfErr-weaker}
+use Rattle.gl_machine.specs.RenewCode.{start}
+use Rattle.gl_meaning.specs.View.{path_view}
+use Rattle.gl_append.specs.CodeView.{seen_item_code, seen_item_spot, seen_listing}
+use Rattle.gl_append.specs.MachineView.{seen_entry}
+use Rattle.gl_append.specs.View.{seen_sight}
+use Rattle.gl_update.specs.ListItems.{Item, BodyItem, FreshItem}
+use Rattle.gl_update.specs.Renewing.{Renews, RenewFails}
+use Rattle.gl_update.proofs.FreshItems.{fresh_renews, fresh_fails}
+use Rattle.gl_update.proofs.items.fresh_item.Goals as goal
+
+pub returns-clause-ok : goal.returns-clause-ok
+returns-clause-ok c =
+    let z = c.args.listing.now in
+    IfOk-weaker c.item_body.result
+    (λ r. Renews c.args.app.now c.args.cells.now (BodyItem (λ n. start (seen_sight n c.in_ok-sight.sight) z.body (path_view c.args.path) c.args.left) (seen_item_spot (record { key = c.args.entry.key; occurrence = c.args.entry.occurrence; value = c.in_ok-value.value; index = c.in_ok-index.index; params = c.in_ok-params.params }))) c.item-2.new.self (λ n. seen_item_code n r) c.item_body.new.vm)
+    (λ r. Renews c.args.app.now c.args.cells.now (FreshItem (λ n. seen_listing n z) c.args.left (path_view c.args.path) (seen_entry c.args.entry)) c.args.vm.now (λ n. seen_item_code n r) c.item_body.new.vm)
+    (λ r. fresh_renews c.args.app.now c.args.cells.now c.args.left z c.args.entry c.args.vm.now c.item.new.self c.item-2.new.self c.in_ok-value.value c.in_ok-index.index c.counted.result c.in_ok-params.params c.in_ok-sight.sight c.args.path
+    c.in_ok-value.ensures.step c.in_ok-value.ensures.id c.in_ok-index.ensures.step c.in_ok-index.ensures.id c.counted.ensures c.in_ok-sight.ensures c.in_ok-params.ensures (λ n. seen_item_code n r) c.item_body.new.vm)
+    c.item_body.ensures.ok
+
+pub returns-clause-fails : goal.returns-clause-fails
+returns-clause-fails c =
+    let z = c.args.listing.now in
+    IfErr-weaker c.item_body.result
+    (RenewFails {A = Item} c.args.app.now c.args.cells.now (BodyItem (λ n. start (seen_sight n c.in_ok-sight.sight) z.body (path_view c.args.path) c.args.left) (seen_item_spot (record { key = c.args.entry.key; occurrence = c.args.entry.occurrence; value = c.in_ok-value.value; index = c.in_ok-index.index; params = c.in_ok-params.params }))) c.item-2.new.self)
+    (RenewFails {A = Item} c.args.app.now c.args.cells.now (FreshItem (λ n. seen_listing n z) c.args.left (path_view c.args.path) (seen_entry c.args.entry)) c.args.vm.now)
+    (λ h. fresh_fails c.args.app.now c.args.cells.now c.args.left z c.args.entry c.args.vm.now c.item.new.self c.item-2.new.self c.in_ok-value.value c.in_ok-index.index c.counted.result c.in_ok-params.params c.in_ok-sight.sight c.args.path
+    c.in_ok-value.ensures.step c.in_ok-value.ensures.id c.in_ok-index.ensures.step c.in_ok-index.ensures.id c.counted.ensures c.in_ok-sight.ensures c.in_ok-params.ensures h)
+    c.item_body.ensures.fails

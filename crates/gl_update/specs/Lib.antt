@@ -1,0 +1,5 @@
+pub mod Asked
+pub mod ListItems
+pub mod OldItems
+pub mod Renewing
+pub mod View

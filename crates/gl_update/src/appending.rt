@@ -1,0 +1,39 @@
+// Bodies that are appended in the middle of a page.
+ghost use Rattle.std.specs.Prelude.{◌≡◌, IfOk, IfErr};
+ghost use Rattle.gl_meaning.specs.View.{path_view};
+ghost use Rattle.gl_machine.specs.Code.{Codes as PlainCodes};
+ghost use Rattle.gl_machine.specs.RenewCode.{start};
+ghost use Rattle.gl_vm.specs.View.{Calm};
+ghost use Rattle.gl_append.specs.View.{seen_sight};
+ghost use Rattle.gl_append.specs.CodeView.{seen_codes};
+ghost use Rattle.gl_update.specs.Renewing.{Renews, RenewFails};
+
+use gl_append::{Cells, Codes, Machine, Sight, VmFault};
+use gl_meaning::Path;
+use gl_opc::App;
+use gl_vm::Vm;
+use std::alloc::Global;
+
+/// Appends a body, of which the nodes stand nowhere yet: what is seen there, the address of its first word, its path, and
+/// how deep components may still nest.
+pub(crate) fn append_body(
+    vm: &mut Vm,
+    alloc: Global,
+    app: &App,
+    cells: &Cells,
+    sight: Sight,
+    pc: u32,
+    path: Path,
+    left: u32,
+) -> Result<Codes, VmFault>
+    requires calm { Calm vm.old }
+    ensures ok { IfOk result (λ r. Renews app.now cells.now (λ n run. run (start (seen_sight n sight) pc (path_view path) left)) vm.old (λ n. seen_codes n r) vm.new) }
+    ensures fails { IfErr result (RenewFails {A = PlainCodes} app.now cells.now (λ n run. run (start (seen_sight n sight) pc (path_view path) left)) vm.old) }
+    ensures calm { Calm vm.new }
+{
+    let mut machine = Machine::new(alloc, sight, pc, path, left);
+    match machine.run(vm, app, cells) {
+        Ok(()) => Ok(machine.finish()),
+        Err(fault) => Err(fault),
+    }
+}

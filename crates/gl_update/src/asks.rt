@@ -1,0 +1,47 @@
+// What an update asks before it changes something.
+ghost use Rattle.std.specs.Prelude.{◌≡◌, true, IsTrue};
+ghost use Rattle.gl_refs.specs.State.{is_position};
+ghost use Rattle.gl_refs.specs.Refs.{rows_of, forms_of};
+ghost use Rattle.gl_vm.specs.View.{is_all};
+ghost use Rattle.gl_vm.specs.Steps.{times_named};
+ghost use Rattle.gl_update.specs.Asked.{IsText, HasOnce};
+
+use gl_nodes::{Attr, Node, NodeId, NodeTree};
+use gl_refs::{RefId, Refs};
+use gl_value::Text;
+
+/// Whether it is a live position that was evaluated.
+pub(crate) fn position(refs: &Refs, id: RefId) -> bool
+    ensures { IsTrue result → ((is_all (forms_of refs.now id) ≡ true) × (is_position (rows_of refs.now id) ≡ true)) }
+{
+    refs.position(id)
+}
+
+/// Whether it is a text that was made.
+pub(crate) fn is_text(tree: &NodeTree, node: NodeId) -> bool
+    ensures { IsTrue result → IsText tree.now node }
+{
+    matches!(tree.find(node), Some(Node::Text(_)))
+}
+
+fn count_named(attrs: &[Attr], name: &Text) -> usize
+    ensures { result ≡ times_named name.now attrs.now }
+{
+    let mut count: usize = 0;
+    for attr in attrs {
+        if name.same(&attr.0) {
+            count += 1;
+        }
+    }
+    count
+}
+
+/// Whether it is an element that has one attribute of that name.
+pub(crate) fn has_once(tree: &NodeTree, node: NodeId, name: &Text) -> bool
+    ensures { IsTrue result → HasOnce tree.now node name.now }
+{
+    match tree.find(node) {
+        Some(Node::Element { attrs, .. }) => count_named(attrs.as_slice(), name) == 1,
+        _ => false,
+    }
+}

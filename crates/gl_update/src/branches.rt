@@ -1,0 +1,99 @@
+// `if` and `unless`: the body that is shown is walked along, or the other one is appended in its place.
+ghost use Rattle.std.specs.Prelude.{◌≡◌, ◌≢◌, ◌+◌, OnOk, IfErr};
+ghost use Rattle.gl_nodes.specs.Flat.{stamp_of};
+ghost use Rattle.gl_plain.specs.Live.{times_in, times_comment};
+ghost use Rattle.gl_plain.specs.Naming.{by_number, dropped_as};
+ghost use Rattle.gl_machine.specs.Code as c;
+ghost use Rattle.gl_machine.specs.Code.{Code as PlainCode, lives_of};
+ghost use Rattle.gl_machine.specs.RenewCode.{renew_code_as, fresh_branch};
+ghost use Rattle.gl_vm.specs.View.{Calm};
+ghost use Rattle.gl_append.specs.CodeView.{seen_choice, seen_codes, seen_spot};
+ghost use Rattle.gl_update.specs.View.{trail_view};
+ghost use Rattle.gl_update.specs.Renewing.{Renews, RenewFails};
+
+use crate::appending::append_body;
+use crate::codes::renew_below;
+use crate::ending::end_branch;
+use crate::positions::condition;
+use crate::trail::Trail;
+use gl_append::{Cells, Choice, Codes, Spot, VmFault, chosen, comment_for, side};
+use gl_nodes::NodeId;
+use gl_opc::App;
+use gl_vm::Vm;
+use std::alloc::Global;
+
+/// A branch: its condition is evaluated again where it is stale.
+#[cycle(renewing)]
+pub(crate) fn renew_branch(
+    vm: &mut Vm,
+    alloc: Global,
+    app: &App,
+    cells: &Cells,
+    trail: &mut Trail,
+    left: u32,
+    choice: &Choice,
+    spot: &Spot,
+    main: &mut bool,
+    comment: &mut Option<NodeId>,
+    body: &mut Codes,
+    parent: &Option<NodeId>,
+) -> Result<(), VmFault>
+    requires calm { Calm vm.old }
+    ensures ok { OnOk result (Renews app.now cells.now (λ n run. renew_code_as by_number run left (trail_view trail.old) (c.branch_code (seen_choice n choice.now) (seen_spot spot.now) main.old (stamp_of comment.old) (seen_codes n body.old))) vm.old (λ n. c.branch_code (seen_choice n choice.now) (seen_spot spot.now) main.new (stamp_of comment.new) (seen_codes n body.new)) vm.new) }
+    ensures fails { IfErr result (RenewFails {A = PlainCode} app.now cells.now (λ n run. renew_code_as by_number run left (trail_view trail.old) (c.branch_code (seen_choice n choice.now) (seen_spot spot.now) main.old (stamp_of comment.old) (seen_codes n body.old))) vm.old) }
+    ensures trail { OnOk result (trail.new ≡ trail.old) }
+    ensures calm { Calm vm.new }
+{
+    let shows = condition(vm, choice.unless, spot.id)?;
+    if shows == *main {
+        renew_below(
+            vm,
+            alloc,
+            app,
+            cells,
+            trail,
+            side(shows),
+            left,
+            body,
+            parent,
+        )
+    } else {
+        *main = shows;
+        flip(
+            vm, alloc, app, cells, trail, left, choice, shows, comment, body, parent,
+        )
+    }
+}
+
+/// The other body is appended in the place of what stood there, which is ended.
+fn flip(
+    vm: &mut Vm,
+    alloc: Global,
+    app: &App,
+    cells: &Cells,
+    trail: &Trail,
+    left: u32,
+    choice: &Choice,
+    shows: bool,
+    comment: &mut Option<NodeId>,
+    body: &mut Codes,
+    parent: &Option<NodeId>,
+) -> Result<(), VmFault>
+    requires calm { Calm vm.old }
+    ensures ok { OnOk result ((s : _) → Renews app.now cells.now (λ n run st. fresh_branch run (seen_choice n choice.now) s shows (trail_view trail.now) left (dropped_as by_number (λ q. times_in q (lives_of (seen_codes n body.old)) + times_comment q (stamp_of comment.old)) st)) vm.old (λ n. c.branch_code (seen_choice n choice.now) s shows (stamp_of comment.new) (seen_codes n body.new)) vm.new) }
+    ensures fails { (s : _) → IfErr result (RenewFails {A = PlainCode} app.now cells.now (λ n run st. fresh_branch run (seen_choice n choice.now) s shows (trail_view trail.now) left (dropped_as by_number (λ q. times_in q (lives_of (seen_codes n body.old)) + times_comment q (stamp_of comment.old)) st)) vm.old) }
+    ensures calm { Calm vm.new }
+{
+    let sight = choice.sight.copy()?;
+    let path = trail.below(alloc, side(shows))?;
+    end_branch(vm, body, comment)?;
+    let pc = chosen(shows, choice.first, choice.second);
+    match append_body(vm, alloc, app, cells, sight, pc, path, left) {
+        Ok(codes) => {
+            *comment = comment_for(vm, &codes)?;
+            *body = codes;
+            Ok(())
+        }
+        Err(fault) => Err(fault),
+    }
+}

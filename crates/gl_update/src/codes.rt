@@ -1,0 +1,191 @@
+// What was rendered is walked along: what is stale is changed.
+ghost use Rattle.std.specs.Prelude.{◌≡◌, ◌∷◌, map, OnOk, IfErr};
+ghost use Rattle.gl_meaning.specs.View.{path_view, path_step_view};
+ghost use Rattle.gl_plain.specs.Naming.{by_number};
+ghost use Rattle.gl_machine.specs.Code as c;
+ghost use Rattle.gl_machine.specs.Code.{Code as PlainCode, Codes as PlainCodes};
+ghost use Rattle.gl_machine.specs.RenewCode.{renew_code_as, renew_codes_as};
+ghost use Rattle.gl_vm.specs.View.{Calm};
+ghost use Rattle.gl_append.specs.CodeView.{seen_attr_spot, seen_code, seen_codes, seen_mod_spot};
+ghost use Rattle.gl_update.specs.View.{trail_view};
+ghost use Rattle.gl_update.specs.Renewing.{Renews, RenewFails};
+
+use crate::branches::renew_branch;
+use crate::lists::renew_list;
+use crate::modifiers::renew_mods;
+use crate::nodes::{renew_attrs, renew_text};
+use crate::trail::Trail;
+use gl_append::{AttrSpot, Cells, Code, Codes, ModSpot, VmFault};
+use gl_meaning::{Path, PathStep};
+use gl_nodes::NodeId;
+use gl_opc::App;
+use gl_vm::Vm;
+use std::alloc::Global;
+
+/// What was rendered of a body, of which the path is the trail. Its nodes stand in the parent, or at the top.
+#[cycle(renewing)]
+pub(crate) fn renew_codes(
+    vm: &mut Vm,
+    alloc: Global,
+    app: &App,
+    cells: &Cells,
+    trail: &mut Trail,
+    left: u32,
+    codes: &mut Codes,
+    parent: &Option<NodeId>,
+) -> Result<(), VmFault>
+    requires calm { Calm vm.old }
+    ensures ok { OnOk result (Renews app.now cells.now (λ n run. renew_codes_as by_number run left (trail_view trail.old) 0 (seen_codes n codes.old)) vm.old (λ n. seen_codes n codes.new) vm.new) }
+    ensures fails { IfErr result (RenewFails {A = PlainCodes} app.now cells.now (λ n run. renew_codes_as by_number run left (trail_view trail.old) 0 (seen_codes n codes.old)) vm.old) }
+    ensures trail { OnOk result (trail.new ≡ trail.old) }
+    ensures calm { Calm vm.new }
+{
+    for (place, code) in codes.list.iter_mut().enumerate() {
+        trail.push(PathStep::At(place as u64))?;
+        match renew_code(vm, alloc, app, cells, trail, left, code, parent) {
+            Ok(()) => trail.pop(alloc),
+            Err(fault) => return Err(fault),
+        }
+    }
+    Ok(())
+}
+
+/// What was rendered of a statement, of which the path is the trail.
+#[cycle(renewing)]
+pub(crate) fn renew_code(
+    vm: &mut Vm,
+    alloc: Global,
+    app: &App,
+    cells: &Cells,
+    trail: &mut Trail,
+    left: u32,
+    code: &mut Code,
+    parent: &Option<NodeId>,
+) -> Result<(), VmFault>
+    requires calm { Calm vm.old }
+    ensures ok { OnOk result (Renews app.now cells.now (λ n run. renew_code_as by_number run left (trail_view trail.old) (seen_code n code.old)) vm.old (λ n. seen_code n code.new) vm.new) }
+    ensures fails { IfErr result (RenewFails {A = PlainCode} app.now cells.now (λ n run. renew_code_as by_number run left (trail_view trail.old) (seen_code n code.old)) vm.old) }
+    ensures trail { OnOk result (trail.new ≡ trail.old) }
+    ensures calm { Calm vm.new }
+{
+    match code {
+        Code::Still { .. } => Ok(()),
+        Code::Put { node, spot } => {
+            renew_text(vm, alloc, *node, spot.id)?;
+            Ok(())
+        }
+        Code::Element {
+            node,
+            attrs,
+            mods,
+            body,
+            ..
+        } => renew_element(vm, alloc, app, cells, trail, left, *node, attrs, mods, body),
+        Code::Branch {
+            choice,
+            spot,
+            main,
+            comment,
+            body,
+        } => renew_branch(
+            vm, alloc, app, cells, trail, left, choice, spot, main, comment, body, parent,
+        ),
+        Code::Listed { .. } => renew_list(vm, alloc, app, cells, trail, left, code, parent),
+        Code::Unlisted { .. } => renew_list(vm, alloc, app, cells, trail, left, code, parent),
+        Code::Let { body, .. } => {
+            let step = PathStep::Then;
+            renew_below(vm, alloc, app, cells, trail, step, left, body, parent)
+        }
+        Code::Component { owner, body, .. } => {
+            renew_component(vm, alloc, app, cells, &owner.path, left, body, parent)
+        }
+        Code::Root { .. } => Err(VmFault::Memory),
+        Code::Yield { name, body, .. } => {
+            let step = PathStep::Slot(name.copy()?);
+            renew_below(vm, alloc, app, cells, trail, step, left, body, parent)
+        }
+    }
+}
+
+/// An element: its attributes, what is in it, and its modifiers.
+#[cycle(renewing)]
+fn renew_element(
+    vm: &mut Vm,
+    alloc: Global,
+    app: &App,
+    cells: &Cells,
+    trail: &mut Trail,
+    left: u32,
+    node: NodeId,
+    attrs: &Vec<AttrSpot>,
+    mods: &Vec<ModSpot>,
+    body: &mut Codes,
+) -> Result<(), VmFault>
+    requires calm { Calm vm.old }
+    ensures ok { OnOk result ((made : _) → Renews app.now cells.now (λ n run. renew_code_as by_number run left (trail_view trail.old) (c.element_code node.1 made (map seen_attr_spot attrs.now.items) (map seen_mod_spot mods.now.items) (seen_codes n body.old))) vm.old (λ n. c.element_code node.1 made (map seen_attr_spot attrs.now.items) (map seen_mod_spot mods.now.items) (seen_codes n body.new)) vm.new) }
+    ensures fails { (made : _) → IfErr result (RenewFails {A = PlainCode} app.now cells.now (λ n run. renew_code_as by_number run left (trail_view trail.old) (c.element_code node.1 made (map seen_attr_spot attrs.now.items) (map seen_mod_spot mods.now.items) (seen_codes n body.old))) vm.old) }
+    ensures trail { OnOk result (trail.new ≡ trail.old) }
+    ensures calm { Calm vm.new }
+{
+    renew_attrs(vm, alloc, node, attrs.as_slice())?;
+    match renew_codes(vm, alloc, app, cells, trail, left, body, &Some(node)) {
+        Ok(()) => {
+            renew_mods(vm, alloc, mods.as_slice())?;
+            Ok(())
+        }
+        Err(fault) => Err(fault),
+    }
+}
+
+/// What was rendered of a body, of which the path is one step below the trail.
+#[cycle(renewing)]
+pub(crate) fn renew_below(
+    vm: &mut Vm,
+    alloc: Global,
+    app: &App,
+    cells: &Cells,
+    trail: &mut Trail,
+    step: PathStep,
+    left: u32,
+    body: &mut Codes,
+    parent: &Option<NodeId>,
+) -> Result<(), VmFault>
+    requires calm { Calm vm.old }
+    ensures ok { OnOk result (Renews app.now cells.now (λ n run. renew_codes_as by_number run left (path_step_view step ∷ trail_view trail.old) 0 (seen_codes n body.old)) vm.old (λ n. seen_codes n body.new) vm.new) }
+    ensures fails { IfErr result (RenewFails {A = PlainCodes} app.now cells.now (λ n run. renew_codes_as by_number run left (path_step_view step ∷ trail_view trail.old) 0 (seen_codes n body.old)) vm.old) }
+    ensures trail { OnOk result (trail.new ≡ trail.old) }
+    ensures calm { Calm vm.new }
+{
+    trail.push(step)?;
+    match renew_codes(vm, alloc, app, cells, trail, left, body, parent) {
+        Ok(()) => {
+            trail.pop(alloc);
+            Ok(())
+        }
+        Err(fault) => Err(fault),
+    }
+}
+
+/// What was rendered of a component, of which the path is its instance's: one level of nesting less is left.
+#[cycle(renewing)]
+fn renew_component(
+    vm: &mut Vm,
+    alloc: Global,
+    app: &App,
+    cells: &Cells,
+    path: &Path,
+    left: u32,
+    body: &mut Codes,
+    parent: &Option<NodeId>,
+) -> Result<(), VmFault>
+    requires calm { Calm vm.old }
+    ensures ok { OnOk result ((i : _) (made gm : _) (args : _) (k : _) (p : _) → i.path ≡ path_view path.now → Renews app.now cells.now (λ n run. renew_code_as by_number run left p (c.component_code i made gm args k (seen_codes n body.old))) vm.old (λ n. c.component_code i made gm args k (seen_codes n body.new)) vm.new) }
+    ensures fails { (i : _) (made gm : _) (args : _) (k : _) (p : _) → i.path ≡ path_view path.now → IfErr result (RenewFails {A = PlainCode} app.now cells.now (λ n run. renew_code_as by_number run left p (c.component_code i made gm args k (seen_codes n body.old))) vm.old) }
+    ensures calm { Calm vm.new }
+{
+    if left == 0 {
+        return Err(VmFault::Memory);
+    }
+    let mut trail = Trail::of(alloc, path)?;
+    renew_codes(vm, alloc, app, cells, &mut trail, left - 1, body, parent)
+}

@@ -1,0 +1,21 @@
+// The items of a list are ended.
+ghost use Rattle.std.specs.Prelude.{◌≡◌, map, OnOk};
+ghost use Rattle.gl_plain.specs.Live.{times_items};
+ghost use Rattle.gl_plain.specs.Naming.{by_number, dropped_as};
+ghost use Rattle.gl_machine.specs.Code.{items_of};
+ghost use Rattle.gl_vm.specs.View.{Calm};
+ghost use Rattle.gl_vm.specs.Steps.{Does};
+ghost use Rattle.gl_append.specs.CodeView.{seen_item_code, all_items};
+
+use gl_append::ItemCode;
+use gl_vm::Vm;
+use std::alloc::AllocError;
+
+/// Ends all that was rendered of the items of a list.
+pub(crate) fn end_items(vm: &mut Vm, items: &[ItemCode]) -> Result<(), AllocError>
+    requires calm { Calm vm.old }
+    ensures step { OnOk result (Does (λ n. dropped_as by_number (λ q. times_items q (items_of (all_items (map (seen_item_code n) items.now))))) vm.old vm.new) }
+    ensures calm { Calm vm.new }
+{
+    gl_ends::end_items(vm, items)
+}

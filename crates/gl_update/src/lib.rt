@@ -1,0 +1,20 @@
+//! The update of what was rendered: only what something touched reaches is changed.
+#![tactic(auto)]
+
+mod appending;
+mod asks;
+mod branches;
+mod codes;
+mod ending;
+mod ending_items;
+mod items;
+mod lists;
+mod modifiers;
+mod nodes;
+mod old_items;
+mod pages;
+mod positions;
+mod syncing;
+mod trail;
+
+pub use pages::update;

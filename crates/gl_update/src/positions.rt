@@ -1,0 +1,88 @@
+// Positions that are evaluated again where they are stale. What does not fit the machine is told as want of memory.
+ghost use Rattle.std.specs.Prelude.{◌≡◌, true, IfOk, OnOk};
+ghost use Rattle.gl_value.specs.View.{view};
+ghost use Rattle.gl_refs.specs.Refs.{forms_of};
+ghost use Rattle.gl_meaning.specs.Eval.{takes_first};
+ghost use Rattle.gl_meaning.specs.Parts.{attribute_value};
+ghost use Rattle.gl_plain.specs.Binding.{first_value};
+ghost use Rattle.gl_plain.specs.Renew as r;
+ghost use Rattle.gl_plain.specs.Renew.{spot_pairs};
+ghost use Rattle.gl_vm.specs.Labels.{labelled};
+ghost use Rattle.gl_vm.specs.View.{Calm, Agrees, is_all, state_of};
+ghost use Rattle.gl_vm.specs.Steps.{Does};
+
+use crate::asks::position;
+use gl_append::{attribute_over, takes, value_of};
+use gl_refs::RefId;
+use gl_value::{Text, Value};
+use gl_vm::Vm;
+use std::alloc::{AllocError, Global};
+
+/// Whether a position is stale: a source that it read at its last evaluation was touched.
+pub(crate) fn is_stale(vm: &mut Vm, id: RefId) -> Result<bool, AllocError>
+    requires calm { Calm vm.old }
+    ensures exact { IfOk result (λ b. (n : _) (touched : _) → Agrees touched vm.old → r.is_stale (state_of n vm.old touched) id.1 ≡ b) }
+    ensures position { IfOk result (λ b. is_all (forms_of vm.new.refs id) ≡ true) }
+    ensures still { Does (λ n st. st) vm.old vm.new }
+    ensures calm { Calm vm.new }
+{
+    if !vm.refs.room() {
+        return Err(AllocError);
+    }
+    if vm.refs.now() == 0 {
+        return Err(AllocError);
+    }
+    if !position(&vm.refs, id) {
+        return Err(AllocError);
+    }
+    Ok(vm.stale(id))
+}
+
+/// Evaluates a position again where it is stale, and tells whether it was.
+pub(crate) fn reread(vm: &mut Vm, id: RefId) -> Result<bool, AllocError>
+    requires calm { Calm vm.old }
+    ensures step { OnOk result (Does (λ n. r.reread id.1) vm.old vm.new) }
+    ensures stale { IfOk result (λ b. (n : _) (touched : _) → Agrees touched vm.old → r.is_stale (state_of n vm.old touched) id.1 ≡ b) }
+    ensures calm { Calm vm.new }
+{
+    if is_stale(vm, id)? {
+        vm.evaluate(id)?;
+        Ok(true)
+    } else {
+        Ok(false)
+    }
+}
+
+/// What the first reference of a position gives.
+pub(crate) fn shown(vm: &Vm, id: RefId) -> Result<Value, AllocError>
+    ensures { IfOk result (λ v. (n : _) (touched : _) → first_value (spot_pairs (state_of n vm.now touched) id.1) ≡ labelled (view v)) }
+{
+    vm.refs.sound();
+    match vm.refs.parts(id) {
+        Some([first, ..]) => value_of(vm, *first),
+        _ => Err(AllocError),
+    }
+}
+
+/// The text that an attribute has over a position, where it isn't left out.
+pub(crate) fn attribute(alloc: Global, vm: &Vm, id: RefId) -> Result<Option<Text>, AllocError>
+    ensures { IfOk result (λ o. (n : _) (touched : _) → attribute_value (spot_pairs (state_of n vm.now touched) id.1) ≡ o) }
+{
+    vm.refs.sound();
+    match vm.refs.parts(id) {
+        Some(ids) => attribute_over(alloc, vm, ids),
+        None => Err(AllocError),
+    }
+}
+
+/// Evaluates a condition again where it is stale, and tells whether the main body is to be shown.
+pub(crate) fn condition(vm: &mut Vm, unless: bool, id: RefId) -> Result<bool, AllocError>
+    requires calm { Calm vm.old }
+    ensures step { OnOk result (Does (λ n. r.reread id.1) vm.old vm.new) }
+    ensures shows { IfOk result (λ b. (n : _) (touched : _) → takes_first unless (first_value (spot_pairs (state_of n vm.new touched) id.1)) ≡ b) }
+    ensures calm { Calm vm.new }
+{
+    reread(vm, id)?;
+    let value = shown(vm, id)?;
+    Ok(takes(unless, &value))
+}
