@@ -83,7 +83,7 @@ module _ (w : World) (k : ℕ) (t : Path) (is : owner_in w k ≡ t) (names : Lis
       ap₂ or_else (last_is ss) (ap (λ b. if b then Some (value_in w (view s.to)) else None) (same_set s) ∙ cond_maps (value_in w) (tells s) (view s.to))
       ∙ both_maps (value_in w) (last_set k names x ss) (if tells s then Some (view s.to) else None)
 
-names_alike : (fs : List (Text × Value)) → names_of (map (λ f. let p : Text × v.Value ⊥ = plain_pair f in p) (seen_entries fs)) ≡ field_names fs
+pub names_alike : (fs : List (Text × Value)) → names_of (map (λ f. let p : Text × v.Value ⊥ = plain_pair f in p) (seen_entries fs)) ≡ field_names fs
 names_alike [] = refl
 names_alike (f ∷ fs) = ap (λ ns. f.0 ∷ ns) (names_alike fs)
 

@@ -12,12 +12,14 @@ use Rattle.gl_plain.specs.Live.{Live, still, put_live, element_live, branch_live
 use Rattle.gl_machine.specs.Code.{live_of}
 use Rattle.gl_machine.specs.Env.{class_or}
 use Rattle.gl_vm.specs.View.{name_stamps}
+use Rattle.gl_append.specs.View.{seen_owner}
 use Rattle.gl_append.specs.CodeView.{seen_code}
 use Rattle.gl_append.specs.declared.page.Page.{Page}
 use Rattle.gl_actions.specs.World.{World, tables_in}
 use Rattle.gl_actions.specs.Frames.{Fits, InstanceRead, inst_in, this_in}
 use Rattle.gl_actions.specs.Found.{instance_in, instance_of_items, instance_among}
 use Rattle.gl_actions.specs.Reads.{Reads}
+use Rattle.gl_actions.specs.Own.{names_in, shown_in, IsOnPage}
 use Rattle.gl_actions.specs.Classes.{IsClassOf}
 use Rattle.gl_actions.specs.declared.frame.Frame.{Frame}
 use Rattle.gl_actions.proofs.ClassLaws.{class_same}
@@ -71,3 +73,10 @@ frame_fits a page w reads f vm found class numbered =
       getters = same.getters;
       actions = same.actions;
     }
+
+pub frame_stands : (a : App) (page : Page) (f : Frame) → Some (seen_owner (names_in a) f.owner.now, name_stamps f.args.now) ≡ instance_in f.number (shown_in a page)
+    → IsClassOf (manifest_view a.manifest) (this_in f) (class_view f.class.now) → IsOnPage a page f
+frame_stands a page f found class = record {
+  stands = ap (λ k. instance_in k (shown_in a page)) (sym (id_in f.number (shown_in a page) (seen_owner (names_in a) f.owner.now, name_stamps f.args.now) (sym found))) ∙ sym found;
+  class = class;
+}

@@ -1,8 +1,13 @@
-mod ClassLaws
+mod CellLaws
+pub mod ClassLaws
 mod FieldLaws
+mod Fires
 mod FoundIn
 mod FrameFits
+mod HeardIn
 mod Joined
-mod Renamed
-mod Running
+mod OwnSets
+pub mod Renamed
+mod RootSets
+pub mod Running
 mod Values

@@ -16,7 +16,7 @@ use Rattle.std.specs.Prelude.{nat_eq}
 module _ {O P : Type 0} (f : O → P) where
   -- a plain form has no owners
   mutual
-    plain-to : {Q : Type 0} (v : Value Q) → with_owners f (plain v) ≡ plain v
+    pub plain-to : {Q : Type 0} (v : Value Q) → with_owners f (plain v) ≡ plain v
     plain-to undefined = refl
     plain-to null = refl
     plain-to (boolean b) = refl

@@ -223,7 +223,7 @@ runs_are w (x ∷ vs) payload p sofar e =
     ap (λ q. runs_all w vs p (run (app_in w) w.store w.forest x (q ∷ []) sofar)) e ∙ runs_are w vs payload p (run (app_in w) w.store w.forest x (plain payload ∷ []) sofar) e
 
 mutual
-  twice_plain : (x : v.Value ℕ) → plain {P = Path} (let y : Plain = plain x in y) ≡ plain x
+  pub twice_plain : (x : v.Value ℕ) → plain {P = Path} (let y : Plain = plain x in y) ≡ plain x
   twice_plain v.undefined = refl
   twice_plain v.null = refl
   twice_plain (v.boolean b) = refl

@@ -6,6 +6,9 @@ pub mod Found
 pub mod FoundView
 pub mod Fired
 pub mod LastSet
+pub mod Cells
 pub mod Reads
 pub mod Steps
 pub mod Classes
+pub mod Own
+pub mod Heard

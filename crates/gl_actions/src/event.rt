@@ -1,20 +1,23 @@
 // What an event of a node sets.
-ghost use Rattle.std.specs.Prelude.{◌≡◌, [], map, IfOk, OnOk};
-ghost use Rattle.std.specs.Str.{chars};
+ghost use Rattle.std.specs.Prelude.{◌≡◌, [], codes, map, IfOk, OnOk};
+ghost use Rattle.std.specs.List.{list_any};
+ghost use Rattle.std.specs.Str.{bytes_eq, chars};
 ghost use Rattle.gl_value.specs.View.{view, seen_items};
+ghost use Rattle.gl_meaning.specs.View.{manifest_view};
 ghost use Rattle.gl_actions.specs.World.{World, value_in, sets_in};
 ghost use Rattle.gl_actions.specs.Steps.{runs_all};
-ghost use Rattle.gl_actions.specs.Reads.{Reads};
-ghost use Rattle.gl_actions.specs.Fired.{Answers};
+ghost use Rattle.gl_actions.specs.Reads.{Reads, OnlyOn};
+ghost use Rattle.gl_actions.specs.Fired.{Answers, AnswersOwn};
+ghost use Rattle.gl_actions.specs.Own.{AddsOwn};
 
+use crate::hearing::{Heard, heard_on};
 use crate::run::run_value;
 use crate::sets::Sets;
 use crate::turn::Turn;
 use gl_append::Page;
-use gl_nodes::NodeId;
 use gl_opc::App;
 use gl_scope::Args;
-use gl_value::Value;
+use gl_value::{Text, Value};
 use std::alloc::{AllocError, Global};
 
 /// What an event answers: the sets so far with those that its actions add, or that nothing listens.
@@ -24,21 +27,69 @@ pub enum Fired {
     NoListener,
 }
 
-/// Calls what the modifiers `on` of a node call at an event, in their order and with the payload in plain form. While they run, a field reads
-/// as it was set last, a getter is worked out over these fields, and an argument reads as at the last rendering. The page is only read, and
-/// nothing is set on it yet. What the page doesn't have, as an instance that is gone, is told as want of memory.
+/// Whether a name is `on`.
+fn is_on(name: &Text) -> bool
+    ensures { result ≡ bytes_eq name.now (codes "on") }
+{
+    name.as_str() == "on"
+}
+
+/// Whether one of these names is `on`.
+fn has_on(names: &[Text]) -> bool
+    ensures { result ≡ list_any (λ t. bytes_eq t (codes "on")) names.now }
+{
+    for name in names {
+        if is_on(name) {
+            return true;
+        }
+    }
+    false
+}
+
+/// Calls what the modifiers `on` of the node with a number call at an event, in their order and with the payload in plain form. While they
+/// run, a field reads as it was set last, a getter is worked out over these fields, and an argument reads as at the last rendering. The page
+/// is only read, and nothing is set on it yet. What the page doesn't have, as an instance that is gone, is told as want of memory, and so is
+/// a modifier of the manifest with the name `on`, which no manifest that is read has.
 pub fn fire(
     alloc: Global,
     page: &Page,
     app: &App,
     sofar: &Sets,
-    node: NodeId,
+    number: u128,
     event: &str,
     payload: &Value,
 ) -> Result<Fired, AllocError>
-    ensures { IfOk result (λ f. Answers app.now page.now sofar.now node (chars event.now) (view payload.now) f) }
+    ensures sets { IfOk result (λ f. Answers app.now page.now sofar.now number (chars event.now) (view payload.now) f) }
+    ensures own { IfOk result (λ f. AnswersOwn app.now page.now sofar.now f) }
+    ensures only { IfOk result (λ f. OnlyOn (manifest_view app.now.manifest)) }
 {
-    let acts = page.vm.mods.listeners(node, event)?;
+    if has_on(app.manifest().modifiers.as_slice()) {
+        return Err(AllocError);
+    }
+    fire_heard(alloc, page, app, sofar, number, event, payload)
+}
+
+/// The same, where the manifest has no `on` of its own.
+fn fire_heard(
+    alloc: Global,
+    page: &Page,
+    app: &App,
+    sofar: &Sets,
+    number: u128,
+    event: &str,
+    payload: &Value,
+) -> Result<Fired, AllocError>
+    requires only { OnlyOn (manifest_view app.now.manifest) }
+    ensures sets { IfOk result (λ f. Answers app.now page.now sofar.now number (chars event.now) (view payload.now) f) }
+    ensures own { IfOk result (λ f. AnswersOwn app.now page.now sofar.now f) }
+{
+    let heard = Heard {
+        alloc,
+        vm: &page.vm,
+        number,
+        event,
+    };
+    let acts = heard_on(&heard, &page.code)?;
     if acts.is_empty() {
         return Ok(Fired::NoListener);
     }
@@ -63,7 +114,8 @@ fn run_values(
     sets: &mut Sets,
 ) -> Result<(), AllocError>
     requires none { turn.now.none.now ≡ [] }
-    ensures { OnOk result ((w : World) → Reads turn.now.app.now turn.now.page.now w → sets_in w sets.new ≡ runs_all w (map (value_in w) (seen_items values.now)) (value_in w (view payload.now)) (sets_in w sets.old)) }
+    ensures sets { OnOk result ((w : World) → Reads turn.now.app.now turn.now.page.now w → sets_in w sets.new ≡ runs_all w (map (value_in w) (seen_items values.now)) (value_in w (view payload.now)) (sets_in w sets.old)) }
+    ensures own { OnOk result (AddsOwn turn.now.app.now turn.now.page.now sets.old sets.new) }
 {
     for value in values {
         run_value(turn, value, payload, sets)?;

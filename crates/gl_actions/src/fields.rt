@@ -19,7 +19,7 @@ use gl_vm::Vm;
 use std::alloc::AllocError;
 
 /// The field at a place.
-fn field_at(fields: &[(Text, Value)], place: usize) -> Option<&(Text, Value)>
+pub fn field_at(fields: &[(Text, Value)], place: usize) -> Option<&(Text, Value)>
     ensures { option_map (λ f. f.now) result ≡ slice_get fields.now place }
 {
     fields.get(place)
@@ -67,7 +67,7 @@ fn last_value<'a>(
 }
 
 /// The cell of the field of a name.
-fn cell_of(fields: &[(Text, Value)], cells: &[RefId], name: &Text) -> Option<RefId>
+pub fn cell_of(fields: &[(Text, Value)], cells: &[RefId], name: &Text) -> Option<RefId>
     ensures { option_map (λ i. i.1) result ≡ named name.now (named_as (field_names fields.now) (stamps cells.now)) }
 {
     let mut rest = cells;

@@ -3,18 +3,23 @@
 #![tactic(auto)]
 
 mod arguments;
+mod cells;
 mod evaluate;
 mod event;
 mod fields;
 mod frame;
 mod givens;
+mod hearing;
 mod lookup;
 mod plainly;
 mod reading;
+mod root;
 mod run;
 mod seeking;
 mod sets;
 mod turn;
 
+pub use cells::cell_for;
 pub use event::{Fired, fire};
+pub use root::set_root;
 pub use sets::{Set, Sets};

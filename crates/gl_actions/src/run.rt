@@ -1,5 +1,5 @@
 // Actions that run.
-ghost use Rattle.std.specs.Prelude.{◌≡◌, ◌∷◌, ◌++◌, [], map, option_map, OnOk, IfOk};
+ghost use Rattle.std.specs.Prelude.{◌≡◌, ◌<◌, ◌∷◌, ◌++◌, [], length, map, option_map, OnOk, IfOk};
 ghost use Rattle.gl_value.specs.Value.{plain};
 ghost use Rattle.gl_value.specs.Value as v;
 ghost use Rattle.gl_value.specs.View.{view, seen_items};
@@ -7,11 +7,14 @@ ghost use Rattle.gl_ast.specs.Template.{exprs_of};
 ghost use Rattle.gl_ast.specs.View.{expr_view};
 ghost use Rattle.gl_meaning.specs.Actions.{Calls, runs, run_step, run_steps, run};
 ghost use Rattle.gl_meaning.specs.Eval.{values_in};
-ghost use Rattle.gl_meaning.specs.View.{step_view, seen_steps};
+ghost use Rattle.gl_meaning.specs.View.{class_view, step_view, seen_steps};
+ghost use Rattle.gl_opc.specs.declared.app.App.{App};
+ghost use Rattle.gl_append.specs.declared.page.Page.{Page};
 ghost use Rattle.gl_actions.specs.World.{World, app_in, value_in, field_in, sets_in};
 ghost use Rattle.gl_actions.specs.Frames.{Fits, scope_in, this_in};
 ghost use Rattle.gl_actions.specs.Steps.{given_at, all_at, calls_in, callee_in};
 ghost use Rattle.gl_actions.specs.Reads.{Reads};
+ghost use Rattle.gl_actions.specs.Own.{IsOnPage, AddsOwn};
 
 use crate::arguments::argument;
 use crate::frame::{Frame, Here};
@@ -33,8 +36,9 @@ pub struct Call {
 }
 
 /// The place of a field of the instance's class.
-fn place_of(frame: &Frame, field: &Text) -> Result<u16, AllocError>
-    ensures { IfOk result (λ q. (w : World) → Fits w frame.now → field_in w (this_in frame.now) q ≡ field.now) }
+pub fn place_of(frame: &Frame, field: &Text) -> Result<u16, AllocError>
+    ensures name { IfOk result (λ q. (w : World) → Fits w frame.now → field_in w (this_in frame.now) q ≡ field.now) }
+    ensures below { IfOk result (λ q. q < length (class_view frame.now.class.now).fields) }
 {
     match field_place(frame.class.fields.as_slice(), field) {
         Some(place) if place <= u16::MAX as usize => Ok(place as u16),
@@ -50,7 +54,8 @@ fn set_field(
     to: &Expr,
     sets: &mut Sets,
 ) -> Result<(), AllocError>
-    ensures { OnOk result ((w : World) → Fits w frame.now → sets_in w sets.new ≡ sets_in w sets.old ++ record { instance = this_in frame.now; field = field.now; value = plain (given_at w frame.now params.now sets.old (expr_view to.now)).value } ∷ []) }
+    ensures sets { OnOk result ((w : World) → Fits w frame.now → sets_in w sets.new ≡ sets_in w sets.old ++ record { instance = this_in frame.now; field = field.now; value = plain (given_at w frame.now params.now sets.old (expr_view to.now)).value } ∷ []) }
+    ensures own { OnOk result ((a : App) (page : Page) → IsOnPage a page frame.now → AddsOwn a page sets.old sets.new) }
 {
     let place = place_of(frame, field)?;
     let here = Here {
@@ -116,7 +121,8 @@ fn step_on(
     sets: &mut Sets,
 ) -> Result<(), AllocError>
     requires none { turn.now.none.now ≡ [] }
-    ensures { OnOk result ((w : World) → Reads turn.now.app.now turn.now.page.now w → Fits w frame.now → sets_in w sets.new ≡ run_step (app_in w) w.store (calls_in w levels) (scope_in w frame.now params.now) (step_view step.now) (sets_in w sets.old)) }
+    ensures sets { OnOk result ((w : World) → Reads turn.now.app.now turn.now.page.now w → Fits w frame.now → sets_in w sets.new ≡ run_step (app_in w) w.store (calls_in w levels) (scope_in w frame.now params.now) (step_view step.now) (sets_in w sets.old)) }
+    ensures own { OnOk result (IsOnPage turn.now.app.now turn.now.page.now frame.now → AddsOwn turn.now.app.now turn.now.page.now sets.old sets.new) }
 {
     if !is_run(frame, params, sets, &step.when)? {
         return Ok(());
@@ -141,7 +147,8 @@ fn steps_on(
     sets: &mut Sets,
 ) -> Result<(), AllocError>
     requires none { turn.now.none.now ≡ [] }
-    ensures { OnOk result ((w : World) → Reads turn.now.app.now turn.now.page.now w → Fits w frame.now → sets_in w sets.new ≡ run_steps (app_in w) w.store (calls_in w levels) (scope_in w frame.now params.now) (seen_steps steps.now) (sets_in w sets.old)) }
+    ensures sets { OnOk result ((w : World) → Reads turn.now.app.now turn.now.page.now w → Fits w frame.now → sets_in w sets.new ≡ run_steps (app_in w) w.store (calls_in w levels) (scope_in w frame.now params.now) (seen_steps steps.now) (sets_in w sets.old)) }
+    ensures own { OnOk result (IsOnPage turn.now.app.now turn.now.page.now frame.now → AddsOwn turn.now.app.now turn.now.page.now sets.old sets.new) }
 {
     for step in steps {
         step_on(turn, frame, params, levels, step, sets)?;
@@ -159,7 +166,8 @@ fn action_on(
     sets: &mut Sets,
 ) -> Result<(), AllocError>
     requires none { turn.now.none.now ≡ [] }
-    ensures { OnOk result ((w : World) → Reads turn.now.app.now turn.now.page.now w → sets_in w sets.new ≡ calls_in w levels (value_in w (v.action act.now.owner act.now.name (v.values_of act.now.fixed))) (map (value_in w) (seen_items given.items)) (sets_in w sets.old)) }
+    ensures sets { OnOk result ((w : World) → Reads turn.now.app.now turn.now.page.now w → sets_in w sets.new ≡ calls_in w levels (value_in w (v.action act.now.owner act.now.name (v.values_of act.now.fixed))) (map (value_in w) (seen_items given.items)) (sets_in w sets.old)) }
+    ensures own { OnOk result (AddsOwn turn.now.app.now turn.now.page.now sets.old sets.new) }
 {
     if levels == 0 {
         return Ok(());
@@ -192,7 +200,8 @@ fn value_on(
     sets: &mut Sets,
 ) -> Result<(), AllocError>
     requires none { turn.now.none.now ≡ [] }
-    ensures { OnOk result ((w : World) → Reads turn.now.app.now turn.now.page.now w → sets_in w sets.new ≡ calls_in w levels (value_in w (view value.now)) (map (value_in w) (seen_items given.items)) (sets_in w sets.old)) }
+    ensures sets { OnOk result ((w : World) → Reads turn.now.app.now turn.now.page.now w → sets_in w sets.new ≡ calls_in w levels (value_in w (view value.now)) (map (value_in w) (seen_items given.items)) (sets_in w sets.old)) }
+    ensures own { OnOk result (AddsOwn turn.now.app.now turn.now.page.now sets.old sets.new) }
 {
     match value {
         Value::Act(act) => action_on(turn, levels, act, given, sets),
@@ -208,7 +217,8 @@ pub fn run_value(
     sets: &mut Sets,
 ) -> Result<(), AllocError>
     requires none { turn.now.none.now ≡ [] }
-    ensures { OnOk result ((w : World) → Reads turn.now.app.now turn.now.page.now w → sets_in w sets.new ≡ run (app_in w) w.store w.forest (value_in w (view value.now)) (value_in w (view payload.now) ∷ []) (sets_in w sets.old)) }
+    ensures sets { OnOk result ((w : World) → Reads turn.now.app.now turn.now.page.now w → sets_in w sets.new ≡ run (app_in w) w.store w.forest (value_in w (view value.now)) (value_in w (view payload.now) ∷ []) (sets_in w sets.old)) }
+    ensures own { OnOk result (AddsOwn turn.now.app.now turn.now.page.now sets.old sets.new) }
 {
     match value {
         Value::Act(act) => {

@@ -2,9 +2,15 @@
 ghost use Rattle.std.specs.Prelude.{◌≡◌, [], IfOk, Some, slice_get};
 ghost use Rattle.gl_meaning.specs.View.{class_view, manifest_view, path_view, path_step_view};
 ghost use Rattle.gl_meaning.specs.Path.{nesting};
+ghost use Rattle.gl_machine.specs.Code.{live_of};
+ghost use Rattle.gl_vm.specs.View.{name_stamps};
+ghost use Rattle.gl_append.specs.View.{seen_owner};
+ghost use Rattle.gl_append.specs.CodeView.{seen_code};
 ghost use Rattle.gl_actions.specs.World.{World, tables_in};
+ghost use Rattle.gl_actions.specs.Found.{instance_in};
 ghost use Rattle.gl_actions.specs.Frames.{Fits};
 ghost use Rattle.gl_actions.specs.Reads.{Reads};
+ghost use Rattle.gl_actions.specs.Own.{IsOnPage};
 ghost use Rattle.gl_actions.specs.Classes.{IsClassOf, class_name, weight};
 
 use crate::frame::Frame;
@@ -56,8 +62,10 @@ fn class_numbered(app: &App, class: u16) -> Result<&Class, AllocError>
 /// The instance with a number. Where there is none, it answers as for want of memory.
 pub fn frame_of<'a>(turn: &Turn<'a>, number: u128) -> Result<Frame<'a>, AllocError>
     requires none { turn.now.none.now ≡ [] }
+    ensures found { IfOk result (λ f. (n : _) → instance_in number (live_of (seen_code n turn.now.page.now.code)) ≡ Some (seen_owner n f.owner.now, name_stamps f.args.now)) }
     ensures fits { IfOk result (λ f. (w : World) → Reads turn.now.app.now turn.now.page.now w → Fits w f) }
     ensures number { IfOk result (λ f. f.number ≡ number) }
+    ensures own { IfOk result (λ f. IsOnPage turn.now.app.now turn.now.page.now f) }
 {
     let sought = Sought {
         vm: &turn.page.vm,

@@ -122,6 +122,7 @@ pub fn append(alloc: Global, app: &App, cells: &Cells) -> Result<Page, VmFault>
     ensures ok { IfOk result (λ p. Appends app.now cells.now p.vm p.code) }
     ensures nodes { IfOk result (λ p. (n : _) → nest_of p.vm.tree.forest ≡ nest (live_of (seen_code n p.code))) }
     ensures fails { IfErr result (AppendFails app.now cells.now) }
+    ensures calm { IfOk result (λ p. Calm p.vm) }
 {
     let manifest = app.manifest();
     let number = root_class(manifest)?;

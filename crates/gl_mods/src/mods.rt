@@ -116,6 +116,14 @@ impl Mods {
         self.table.get(id)
     }
 
+    /// How many ids were given before that of a modifier.
+    pub fn stamp(&self, id: ModId) -> u128
+        requires { IsSome (named_in self.now.table id) }
+        ensures { result ≡ id.1 }
+    {
+        self.table.stamp(id)
+    }
+
     /// Gives a modifier new values of its arguments. Where there is no memory all stays as it was.
     pub fn refresh(&mut self, id: ModId, args: List, named: NamedValues) -> Result<(), AllocError>
         requires { IsSome (named_in self.old.table id) }

@@ -23,7 +23,7 @@ rising_differ : (ts : List Text) → Rise ts → NoRepeat ts
 rising_differ [] r = tt
 rising_differ (x ∷ ts) r = (not_later x ts r.0, rising_differ ts r.1)
 
-entries_differ : (cs : List ClassEntry) (templates : List Body) → Each ClassRises cs → (c : Class) → Among c (classes_of cs templates) → NoRepeat (names_of c.fields)
+pub entries_differ : (cs : List ClassEntry) (templates : List Body) → Each ClassRises cs → (c : Class) → Among c (classes_of cs templates) → NoRepeat (names_of c.fields)
 entries_differ [] templates h c m = absurd m
 entries_differ (e ∷ cs) [] h c (inl i) = subst (λ (d : Class). NoRepeat (names_of d.fields)) (sym i) (rising_differ (names_of e.fields) h.0.fields)
 entries_differ (e ∷ cs) [] h c (inr m) = entries_differ cs [] h.1 c m

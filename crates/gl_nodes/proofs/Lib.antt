@@ -23,3 +23,4 @@ pub mod Siblings
 pub mod Looks
 pub mod Asked
 pub mod Childless
+pub mod NextTo

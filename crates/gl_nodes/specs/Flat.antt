@@ -234,6 +234,20 @@ pub record RemovesLeaf (old new : Tree) (i : Id) : Type 0 where
   pub removes : RemovesFlat old new parent i.1 i.1 (leaf i)
   pub count : new.nodes.made ≡ old.nodes.made
 
+-- The siblings from the first to the last stand before a third of their parent, or at the end, and all else is as
+-- before.
+pub record Shifts (old new : Tree) (first last : Id) (next : Option Id) : Type 0 where
+  pub parent : Option Id
+  pub kids : Forest
+  pub is_below : below parent old.forest ≡ Some kids
+  pub is_run : IsRun first last kids
+  pub among : IsAmong next (without first last kids)
+  pub moves_flat : MovesFlat old new (stamp_of parent) (stamp_of next) first.1 last.1
+  pub moves : new.moves ≡ old.moves + 1
+  pub nodes : new.nodes ≡ old.nodes
+  pub made : new.made ≡ old.made
+  pub inserts : new.inserts ≡ old.inserts
+
 -- What a caller carries to meet the conditions of the calls.
 
 -- nodes may be put below an element of the forest, or at the top

@@ -1,9 +1,9 @@
 // Nodes put in by ids of which the caller knows nothing: what has to hold of them is asked.
 ghost use Rattle.std.specs.Prelude.{◌≡◌, Some, None, OnOk, OnErr, IsTrue};
-ghost use Rattle.gl_nodes.specs.Tree.{IsMade, ParentIsElement};
-ghost use Rattle.gl_nodes.specs.Flat.{IsFlat, PutsLast, TakesNodes, stamp_of};
+ghost use Rattle.gl_nodes.specs.Tree.{IsMade, IsPlace, ParentIsElement};
+ghost use Rattle.gl_nodes.specs.Flat.{IsFlat, PutsFlat, PutsLast, TakesNodes, stamp_of};
 
-use crate::links::parent_at;
+use crate::links::{hangs_below, parent_at};
 use crate::{Node, NodeId, NodeTree};
 use std::alloc::AllocError;
 
@@ -16,13 +16,63 @@ impl NodeTree {
         ensures err { OnErr result (self.new ≡ self.old) }
     {
         self.flat();
-        if !self.waits(node) {
-            return Err(AllocError);
-        }
-        if !self.takes(&parent) {
+        if !self.can_put(&parent, node) {
             return Err(AllocError);
         }
         self.insert_before(parent, node, None)
+    }
+
+    /// Puts a node before a child of a parent, or at the end of its children. Where the node is not a made one that is
+    /// not in the tree, the parent not an element of the tree, or the next one not a child of it, it answers as for
+    /// want of memory.
+    pub fn put_before(
+        &mut self,
+        parent: Option<NodeId>,
+        node: NodeId,
+        next: Option<NodeId>,
+    ) -> Result<(), AllocError>
+        ensures ok { OnOk result (PutsFlat self.old self.new (stamp_of parent) (stamp_of next) node.1) }
+        ensures sound { IsFlat self.new }
+        ensures err { OnErr result (self.new ≡ self.old) }
+    {
+        self.flat();
+        if !self.can_put(&parent, node) {
+            return Err(AllocError);
+        }
+        if !self.has_child(&parent, &next) {
+            return Err(AllocError);
+        }
+        self.insert_before(parent, node, next)
+    }
+
+    // Whether the node is a made one that is not in the tree, and nodes may stand below the parent.
+    fn can_put(&self, parent: &Option<NodeId>, node: NodeId) -> bool
+        ensures { IsTrue result → IsMade node self.now × TakesNodes self.now parent.now }
+    {
+        if !self.waits(node) {
+            return false;
+        }
+        self.takes(parent)
+    }
+
+    // Whether the next one is a child of the parent, or there is none.
+    fn has_child(&self, parent: &Option<NodeId>, next: &Option<NodeId>) -> bool
+        ensures { IsTrue result → TakesNodes self.now parent.now → IsPlace self.now parent.now next.now }
+    {
+        match next {
+            Some(id) => self.is_child(parent, *id),
+            None => true,
+        }
+    }
+
+    fn is_child(&self, parent: &Option<NodeId>, id: NodeId) -> bool
+        ensures { IsTrue result → TakesNodes self.now parent.now → IsPlace self.now parent.now (Some id) }
+    {
+        let above = match parent {
+            Some(above) => *above,
+            None => self.root,
+        };
+        hangs_below(&self.entries, id, above)
     }
 
     // Whether it is a made node that is not in the tree.

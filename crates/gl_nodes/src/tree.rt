@@ -8,7 +8,7 @@ ghost use Rattle.gl_nodes.specs.View.{seen_node, AddsEntry};
 ghost use Rattle.gl_nodes.specs.Flat.{IsFlat, MakesFlat, IsNextOf, children, node_by, stamp_of, head_of, IsRead, walked, order};
 ghost use Rattle.gl_arena.specs.Arena.{IsOwn};
 
-use crate::links::{Entries, Entry, first_at, links_below, next_at};
+use crate::links::{Entries, Entry, first_at, links_below, next_at, parent_at};
 use crate::{Attrs, Node, NodeId};
 use gl_arena::Arena;
 use gl_value::Text;
@@ -188,6 +188,24 @@ impl NodeTree {
     {
         self.flat();
         next_at(&self.entries, node)
+    }
+
+    /// The next sibling of a node where it stands in the tree, and else none.
+    pub fn after(&self, node: NodeId) -> Option<NodeId>
+        ensures { result ≡ first_in (f.after_node node self.now.forest) }
+    {
+        if parent_at(&self.entries, node).is_none() {
+            return None;
+        }
+        next_at(&self.entries, node)
+    }
+
+    /// How many nodes were put into the tree's store before a node.
+    pub fn stamp(&self, node: NodeId) -> u128
+        requires { IsSome (node_at self.now node) }
+        ensures { result ≡ node.1 }
+    {
+        self.entries.stamp(node)
     }
 
     /// The law that each id and each stamp stands once in the forest and names a node, and that no two live ids have

@@ -8,3 +8,4 @@ pub mod Pieces
 pub mod Numberings
 pub mod Carried
 pub mod Turns
+pub mod OwnLines

@@ -4,6 +4,7 @@ pub mod Walking
 pub mod Arms
 pub mod Branching
 pub mod Spots
+pub mod Still
 pub mod Results
 pub mod Arguments
 pub mod Onward

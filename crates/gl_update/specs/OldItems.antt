@@ -1,5 +1,5 @@
 -- Old items of a list that are taken by their keys.
-use Rattle.std.specs.Prelude.{◌≡◌, ◌≢◌, ℕ, List, [], ◌∷◌, reverse, set, Option, Some, None, slice_get}
+use Rattle.std.specs.Prelude.{◌≡◌, ◌≢◌, ℕ, List, [], ◌∷◌, reverse, set, Bool, true, false, Option, Some, None, slice_get}
 use Rattle.gl_ast.specs.ExprCode.{owned}
 use Rattle.gl_value.specs.Value.{plain}
 use Rattle.gl_value.specs.View.{view}
@@ -56,6 +56,12 @@ TakenBy (retain i) os ps o = TakenAt i os ps o
 TakenBy (move i) os ps o = TakenAt i os ps o
 TakenBy insert os ps (Some x) = ⊥
 TakenBy insert os ps None = ps ≡ os
+
+-- whether a step moves an old item
+abbrev pub is_move : Step → Bool
+is_move (retain i) = false
+is_move (move i) = true
+is_move insert = false
 
 -- the steps are those of the entries that wait
 pub record IsReady (w : Work) : Type 0 where

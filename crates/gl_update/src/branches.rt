@@ -15,8 +15,9 @@ use crate::appending::append_body;
 use crate::codes::renew_below;
 use crate::ending::end_branch;
 use crate::positions::condition;
+use crate::standing::{behind, seat_with_comment};
 use crate::trail::Trail;
-use gl_append::{Cells, Choice, Codes, Spot, VmFault, chosen, comment_for, side};
+use gl_append::{Cells, Choice, Codes, Spot, VmFault, chosen, side};
 use gl_nodes::NodeId;
 use gl_opc::App;
 use gl_vm::Vm;
@@ -86,11 +87,12 @@ fn flip(
 {
     let sight = choice.sight.copy()?;
     let path = trail.below(alloc, side(shows))?;
+    let seat = behind(vm, parent, body, comment)?;
     end_branch(vm, body, comment)?;
     let pc = chosen(shows, choice.first, choice.second);
     match append_body(vm, alloc, app, cells, sight, pc, path, left) {
         Ok(codes) => {
-            *comment = comment_for(vm, &codes)?;
+            *comment = seat_with_comment(vm, &seat, &codes)?;
             *body = codes;
             Ok(())
         }

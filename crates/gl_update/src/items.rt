@@ -14,9 +14,11 @@ ghost use Rattle.gl_update.specs.ListItems.{Item, BodyItem, FreshItem, FreshItem
 ghost use Rattle.gl_update.specs.Renewing.{Renews, RenewFails};
 
 use crate::appending::append_body;
+use crate::seating::Seat;
+use crate::standing::seat_with_comment;
 use gl_append::{
-    Cells, Entry, ItemCode, ItemSpot, Listing, Sight, VmFault, below, comment_for, counted,
-    item_params, item_sight,
+    Cells, Entry, ItemCode, ItemSpot, Listing, Sight, VmFault, below, counted, item_params,
+    item_sight,
 };
 use gl_meaning::{Path, PathStep};
 use gl_opc::App;
@@ -56,6 +58,7 @@ fn item_body(
     path: Path,
     left: u32,
     spot: ItemSpot,
+    seat: &Seat,
 ) -> Result<ItemCode, VmFault>
     requires calm { Calm vm.old }
     ensures ok { IfOk result (λ r. Renews app.now cells.now (BodyItem (λ n. start (seen_sight n sight) pc (path_view path) left) (seen_item_spot spot)) vm.old (λ n. seen_item_code n r) vm.new) }
@@ -64,14 +67,14 @@ fn item_body(
 {
     match append_body(vm, alloc, app, cells, sight, pc, path, left) {
         Ok(body) => {
-            let comment = comment_for(vm, &body)?;
+            let comment = seat_with_comment(vm, seat, &body)?;
             Ok(ItemCode::rendered(spot, comment, body))
         }
         Err(fault) => Err(fault),
     }
 }
 
-/// Appends an item of a list, of which the nodes stand nowhere yet, at its path.
+/// Appends an item of a list at its path, and puts its nodes into the tree.
 pub(crate) fn fresh_item(
     vm: &mut Vm,
     alloc: Global,
@@ -81,6 +84,7 @@ pub(crate) fn fresh_item(
     listing: &Listing,
     path: Path,
     entry: Entry,
+    seat: &Seat,
 ) -> Result<ItemCode, VmFault>
     requires calm { Calm vm.old }
     ensures ok { IfOk result (λ r. Renews app.now cells.now (FreshItem (λ n. seen_listing n listing.now) left (path_view path) (seen_entry entry)) vm.old (λ n. seen_item_code n r) vm.new) }
@@ -98,11 +102,22 @@ pub(crate) fn fresh_item(
         index,
         params,
     };
-    item_body(vm, alloc, app, cells, sight, listing.body, path, left, spot)
+    item_body(
+        vm,
+        alloc,
+        app,
+        cells,
+        sight,
+        listing.body,
+        path,
+        left,
+        spot,
+        seat,
+    )
 }
 
-/// Appends all items of a list, of which the first one is the last, below the path of its items. Their nodes stand nowhere
-/// yet.
+/// Appends all items of a list, of which the first one is the last, below the path of its items, and puts their nodes into
+/// the tree.
 pub(crate) fn fresh_items(
     vm: &mut Vm,
     alloc: Global,
@@ -112,6 +127,7 @@ pub(crate) fn fresh_items(
     listing: &Listing,
     base: &Path,
     entries: Vec<Entry>,
+    seat: &Seat,
 ) -> Result<Vec<ItemCode>, VmFault>
     requires calm { Calm vm.old }
     ensures ok { IfOk result (λ r. Renews app.now cells.now (FreshItems (λ n. seen_listing n listing.now) left (path_view base.now) (seen_left entries.items)) vm.old (λ n. all_items (map (seen_item_code n) r.items)) vm.new) }
@@ -122,7 +138,7 @@ pub(crate) fn fresh_items(
     let mut done = Vec::new(alloc);
     while let Some(entry) = waiting.pop() {
         let path = item_path(alloc, base, &entry.key, entry.occurrence)?;
-        match fresh_item(vm, alloc, app, cells, left, listing, path, entry) {
+        match fresh_item(vm, alloc, app, cells, left, listing, path, entry, seat) {
             Ok(item) => add(&mut done, item)?,
             Err(fault) => return Err(fault),
         }

@@ -14,7 +14,10 @@ mod nodes;
 mod old_items;
 mod pages;
 mod positions;
+mod seating;
+mod standing;
 mod syncing;
+mod tops;
 mod trail;
 
 pub use pages::update;

@@ -25,11 +25,10 @@ use crate::ending::end_branch;
 use crate::ending_items::end_items;
 use crate::items::fresh_items;
 use crate::positions::{reread, shown};
+use crate::standing::{behind, behind_items, seat_with_comment};
 use crate::syncing::{keys_of, sync_list};
 use crate::trail::Trail;
-use gl_append::{
-    Cells, Code, Codes, Entry, ItemCode, Listing, Spot, VmFault, comment_for, items_of,
-};
+use gl_append::{Cells, Code, Codes, Entry, ItemCode, Listing, Spot, VmFault, items_of};
 use gl_meaning::PathStep;
 use gl_nodes::NodeId;
 use gl_opc::App;
@@ -135,7 +134,9 @@ fn renew_listed(
     let keys = keys_of(alloc, &value, &listing.key)?;
     let entries = items_of(alloc, value, &listing.key)?;
     if entries.is_empty() {
-        unlist(vm, alloc, app, cells, trail, left, listing, spot, &items)
+        unlist(
+            vm, alloc, app, cells, trail, left, listing, spot, &items, parent,
+        )
     } else {
         sync_list(
             vm, alloc, app, cells, trail, left, listing, spot, items, entries, &keys, parent,
@@ -154,6 +155,7 @@ fn unlist(
     listing: Listing,
     spot: Spot,
     items: &Vec<ItemCode>,
+    parent: &Option<NodeId>,
 ) -> Result<Code, VmFault>
     requires calm { Calm vm.old }
     ensures ok { IfOk result (λ r. Renews app.now cells.now (ListsNone (λ n. seen_listing n listing) (seen_spot spot) left (trail_view trail.now) (λ n q. times_items q (lives_in (all_items (map (seen_item_code n) items.now.items))))) vm.old (λ n. seen_code n r) vm.new) }
@@ -162,10 +164,11 @@ fn unlist(
 {
     let sight = listing.sight.copy()?;
     let path = trail.below(alloc, PathStep::Else)?;
+    let seat = behind_items(vm, parent, items.as_slice())?;
     end_items(vm, items.as_slice())?;
     match append_body(vm, alloc, app, cells, sight, listing.other, path, left) {
         Ok(codes) => {
-            let comment = comment_for(vm, &codes)?;
+            let comment = seat_with_comment(vm, &seat, &codes)?;
             Ok(Code::unlisted(listing, spot, comment, codes))
         }
         Err(fault) => Err(fault),
@@ -204,7 +207,7 @@ fn renew_unlisted(
         }
     } else {
         list(
-            vm, alloc, app, cells, trail, left, listing, spot, &comment, &body, entries,
+            vm, alloc, app, cells, trail, left, listing, spot, &comment, &body, entries, parent,
         )
     }
 }
@@ -222,6 +225,7 @@ fn list(
     comment: &Option<NodeId>,
     body: &Codes,
     entries: Vec<Entry>,
+    parent: &Option<NodeId>,
 ) -> Result<Code, VmFault>
     requires calm { Calm vm.old }
     ensures ok { IfOk result (λ r. Renews app.now cells.now (ListsFresh (λ n. seen_listing n listing) (seen_spot spot) left (trail_view trail.now) (seen_left entries.items) (λ n q. times_in q (lives_of (seen_codes n body.now)) + times_comment q (stamp_of comment.now))) vm.old (λ n. seen_code n r) vm.new) }
@@ -229,8 +233,9 @@ fn list(
     ensures calm { Calm vm.new }
 {
     let base = trail.below(alloc, PathStep::Items)?;
+    let seat = behind(vm, parent, body, comment)?;
     end_branch(vm, body, comment)?;
-    match fresh_items(vm, alloc, app, cells, left, &listing, &base, entries) {
+    match fresh_items(vm, alloc, app, cells, left, &listing, &base, entries, &seat) {
         Ok(items) => Ok(Code::listed(listing, spot, items)),
         Err(fault) => Err(fault),
     }

@@ -7,7 +7,7 @@ ghost use Rattle.gl_each.specs.Sync.{Step};
 ghost use Rattle.gl_each.specs.View.{key_view, seen_keys, seen_steps, step_view};
 ghost use Rattle.gl_append.specs.MachineView.{seen_left};
 ghost use Rattle.gl_update.specs.ListItems.{there};
-ghost use Rattle.gl_update.specs.OldItems.{raw_key, code_key, Plans, TakenAt, TakenBy, IsReady};
+ghost use Rattle.gl_update.specs.OldItems.{raw_key, code_key, Plans, TakenAt, TakenBy, IsReady, is_move};
 
 use gl_append::{Entry, ItemCode};
 use gl_each::{Key, Keys, PlanStep, keys, plan};
@@ -115,6 +115,16 @@ impl Work {
         })
     }
 
+    /// Whether the old item of the entry that was the next one moves.
+    pub(crate) fn moves(&self) -> bool
+        ensures { (s : Step) (ss : _) → reverse (seen_steps self.now.steps.items) ≡ s ∷ ss → result ≡ is_move s }
+    {
+        match self.steps.last() {
+            Some(step) => moves_by(step),
+            None => false,
+        }
+    }
+
     /// Takes the old item of the entry that was the next one, where there is one.
     pub(crate) fn take(&mut self) -> Result<Option<ItemCode>, AllocError>
         ensures taken { IfOk result (λ o. (s : Step) (ss : _) → reverse (seen_steps self.old.steps.items) ≡ s ∷ ss → (reverse (seen_steps self.new.steps.items) ≡ ss) × TakenBy s self.old.olds.items self.new.olds.items o) }
@@ -136,6 +146,12 @@ impl Work {
     {
         olds.into_iter().filter_map(|old| old).collect(alloc)
     }
+}
+
+fn moves_by(step: &PlanStep) -> bool
+    ensures { result ≡ is_move (step_view step.now) }
+{
+    matches!(step, PlanStep::Move { .. })
 }
 
 // Takes the old item that a step keeps.

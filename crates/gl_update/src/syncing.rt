@@ -23,6 +23,8 @@ use crate::codes::renew_below;
 use crate::ending_items::end_items;
 use crate::items::{add, fresh_item, item_path};
 use crate::old_items::Work;
+use crate::seating::Seat;
+use crate::standing::{before_items, settle_item};
 use crate::trail::Trail;
 use gl_append::{Cells, Code, Entry, ItemCode, Listing, Spot, VmFault, counted};
 use gl_each::{Keys, keys};
@@ -71,7 +73,8 @@ fn kept_item(
     left: u32,
     old: ItemCode,
     entry: Entry,
-    parent: &Option<NodeId>,
+    moves: bool,
+    seat: &mut Seat,
 ) -> Result<ItemCode, VmFault>
     requires calm { Calm vm.old }
     ensures ok { IfOk result (λ r. Renews app.now cells.now (KeptItem left (item (plain (view entry.key)) entry.occurrence ∷ trail_view trail.old) (seen_entry entry) (λ n. seen_item_code n old)) vm.old (λ n. seen_item_code n r) vm.new) }
@@ -91,8 +94,21 @@ fn kept_item(
         occurrence: entry.occurrence,
     };
     let mut body = body;
-    match renew_below(vm, alloc, app, cells, trail, step, left, &mut body, parent) {
-        Ok(()) => Ok(ItemCode::rendered(spot, comment, body)),
+    match renew_below(
+        vm,
+        alloc,
+        app,
+        cells,
+        trail,
+        step,
+        left,
+        &mut body,
+        &seat.parent,
+    ) {
+        Ok(()) => {
+            settle_item(vm, moves, &body, &comment, seat)?;
+            Ok(ItemCode::rendered(spot, comment, body))
+        }
         Err(fault) => Err(fault),
     }
 }
@@ -110,7 +126,8 @@ fn entry_item(
     base: &Path,
     old: Option<ItemCode>,
     entry: Entry,
-    parent: &Option<NodeId>,
+    moves: bool,
+    seat: &mut Seat,
 ) -> Result<ItemCode, VmFault>
     requires calm { Calm vm.old }
     requires base { path_view base.now ≡ trail_view trail.old }
@@ -120,10 +137,10 @@ fn entry_item(
     ensures calm { Calm vm.new }
 {
     match old {
-        Some(item) => kept_item(vm, alloc, app, cells, trail, left, item, entry, parent),
+        Some(item) => kept_item(vm, alloc, app, cells, trail, left, item, entry, moves, seat),
         None => {
             let path = item_path(alloc, base, &entry.key, entry.occurrence)?;
-            fresh_item(vm, alloc, app, cells, left, listing, path, entry)
+            fresh_item(vm, alloc, app, cells, left, listing, path, entry, seat)
         }
     }
 }
@@ -141,7 +158,7 @@ fn sync_items(
     listing: &Listing,
     base: &Path,
     work: Work,
-    parent: &Option<NodeId>,
+    seat: Seat,
 ) -> Result<Vec<ItemCode>, VmFault>
     requires calm { Calm vm.old }
     requires base { path_view base.now ≡ trail_view trail.old }
@@ -152,11 +169,13 @@ fn sync_items(
     ensures calm { Calm vm.new }
 {
     let mut work = work;
+    let mut seat = seat;
     let mut done = Vec::new(alloc);
     while let Some(entry) = work.waiting.pop() {
+        let moves = work.moves();
         let old = work.take()?;
         match entry_item(
-            vm, alloc, app, cells, trail, left, listing, base, old, entry, parent,
+            vm, alloc, app, cells, trail, left, listing, base, old, entry, moves, &mut seat,
         ) {
             Ok(item) => add(&mut done, item)?,
             Err(fault) => return Err(fault),
@@ -190,11 +209,12 @@ pub(crate) fn sync_list(
     ensures trail { OnOk result (trail.new ≡ trail.old) }
     ensures calm { Calm vm.new }
 {
+    let seat = before_items(parent, items.as_slice())?;
     let work = Work::new(alloc, items, entries, keys)?;
     let base = trail.below(alloc, PathStep::Items)?;
     trail.push(PathStep::Items)?;
     match sync_items(
-        vm, alloc, app, cells, trail, left, &listing, &base, work, parent,
+        vm, alloc, app, cells, trail, left, &listing, &base, work, seat,
     ) {
         Ok(items) => {
             trail.pop(alloc);

@@ -48,6 +48,7 @@ use Rattle.gl_update.proofs.ListUpdates.{listed_is, unlisted_is, gives_of, unlis
 use Rattle.gl_update.proofs.OldKeys.{there_is}
 use Rattle.gl_update.proofs.FreshItems.{none_waits}
 use Rattle.gl_update.proofs.SyncItems.{All, sync_begin, sync_next, sync_fails, sync_end, still_waits, work_next, kept_renews, kept_fails, list_syncs, list_sync_fails, item_is}
+use Rattle.gl_update.proofs.Still.{renews_on}
 use Rattle.gl_update.proofs.+renewing.Goals as goal
 
 pub codes::renew_below-returns-in-Ok-clause-ok : goal.codes::renew_below-returns-in-Ok-clause-ok
@@ -417,12 +418,13 @@ lists::renew_unlisted-returns-else-is_empty-clause-fails t c =
 
 -- an item
 
-pub syncing::kept_item-returns-in-Ok-clause-ok : goal.syncing::kept_item-returns-in-Ok-clause-ok
-syncing::kept_item-returns-in-Ok-clause-ok t c =
+pub syncing::kept_item-returns-in_ok-settle_item-in-Ok-clause-ok : goal.syncing::kept_item-returns-in_ok-settle_item-in-Ok-clause-ok
+syncing::kept_item-returns-in_ok-settle_item-in-Ok-clause-ok t c =
     let e = c.args.entry in
     kept_renews c.args.app.now c.args.cells.now c.args.left (item (plain (view e.key)) e.occurrence ∷ trail_view c.args.trail.now) e c.args.old.spot c.args.old.comment c.args.old.body (λ n. seen_item_code n c.args.old) c.args.vm.now c.give.new.vm c.give-2.new.vm c.counted.result
     (λ n. item_is n c.args.old) c.in_ok-give.ensures.step c.in_ok-give-2.ensures.step c.counted.ensures
-    c.renew_below.new.body (λ n. seen_item_code n c.rendered.result) c.renew_below.new.vm c.rendered.ensures c.in-Ok.ensures.ok
+    c.renew_below.new.body (λ n. seen_item_code n c.rendered.result) c.settle_item.new.vm c.rendered.ensures
+    (renews_on c.args.app.now c.args.cells.now (λ n run. renew_codes_as by_number run c.args.left (item (plain (view e.key)) e.occurrence ∷ trail_view c.args.trail.now) 0 (seen_codes n c.args.old.body)) (λ n. seen_codes n c.renew_below.new.body) c.give-2.new.vm c.renew_below.new.vm c.settle_item.new.vm c.in-Ok.ensures.ok c.in_ok-settle_item-in-Ok.ensures.step)
 
 pub syncing::kept_item-returns-in-Err-clause-fails : goal.syncing::kept_item-returns-in-Err-clause-fails
 syncing::kept_item-returns-in-Err-clause-fails t c =

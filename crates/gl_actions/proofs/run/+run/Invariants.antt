@@ -4,6 +4,7 @@ use Rattle.gl_meaning.specs.View.{seen_steps}
 use Rattle.gl_actions.specs.World.{World, app_in, sets_in}
 use Rattle.gl_actions.specs.Frames.{Fits, scope_in}
 use Rattle.gl_actions.specs.Reads.{Reads}
+use Rattle.gl_actions.specs.Own.{IsOnPage, AddsOwn}
 use Rattle.gl_actions.specs.Steps.{calls_in}
 use Rattle.gl_actions.proofs.run.+run.Given as goal
 
@@ -20,6 +21,7 @@ abbrev pub decreases-steps_on : goal.decreases-steps_on
 decreases-steps_on l = 4 * l.levels + 3
 
 abbrev pub invariant-steps_on-loop-step : goal.invariant-steps_on-loop-step
-invariant-steps_on-loop-step l = (w : World) → Reads l.turn.app.now l.turn.page.now w → Fits w l.frame
+invariant-steps_on-loop-step l = ((w : World) → Reads l.turn.app.now l.turn.page.now w → Fits w l.frame
     → run_steps (app_in w) w.store (calls_in w l.levels) (scope_in w l.frame l.params) (seen_steps (drop l.step-index l.steps)) (sets_in w l.sets)
-    ≡ run_steps (app_in w) w.store (calls_in w l.levels) (scope_in w l.frame l.params) (seen_steps l.steps) (sets_in w l.fn.sets)
+    ≡ run_steps (app_in w) w.store (calls_in w l.levels) (scope_in w l.frame l.params) (seen_steps l.steps) (sets_in w l.fn.sets))
+    × (IsOnPage l.turn.app.now l.turn.page.now l.frame → AddsOwn l.turn.app.now l.turn.page.now l.fn.sets l.sets)

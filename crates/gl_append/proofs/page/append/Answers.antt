@@ -19,6 +19,7 @@ use Rattle.gl_append.specs.Cells.{store_of}
 use Rattle.gl_append.specs.Components.{Suits}
 use Rattle.gl_append.specs.Tables.{tables_of}
 use Rattle.gl_append.specs.Stepping.{env_of}
+use Rattle.gl_append.proofs.Calming.{tree_calm}
 use Rattle.gl_append.proofs.PageRuns.{page_of, page_stopped, hung_follows}
 use Rattle.gl_append.proofs.page.append.Goals as goal
 
@@ -47,6 +48,9 @@ returns-in_ok-hang_page-in-Ok-clause-ok c ts rise =
           (page_of env store x.steps number c.in_ok-left.left (state_of n c.in_ok-vm.vm empty.touched) (state_of n c.make_root.new.vm now.touched) there.inst (seen_owner n own) own.class (refs_made own.cells) x.codes x.state (seen_code n c.in-Ok.code)
           start.state there.is c.in_ok-owner.ensures.class there.seen there.follows.state there.made x.is x.recorded);
     }
+
+pub returns-in_ok-hang_page-in-Ok-clause-calm : goal.returns-in_ok-hang_page-in-Ok-clause-calm
+returns-in_ok-hang_page-in-Ok-clause-calm c = tree_calm c.append_root.new.vm c.hang_page.new.vm c.in_ok-hang_page-in-Ok.ensures.rest.0 c.append_root.ensures.calm
 
 pub returns-in-Err-clause-fails : goal.returns-in-Err-clause-fails
 returns-in-Err-clause-fails c =

@@ -24,9 +24,9 @@ returns-in_ok-comment-in-Ok-clause-ok c =
     let gone : Tables → Id → ℕ = λ n q. times_items q (items_of (all_items (map (seen_item_code n) c.args.items.now.items))) in
     let ds : Tables → Codes = λ n. seen_codes n c.in-Ok.codes in
     let from : Tables → Start = λ n. start (seen_sight n c.in_ok-sight.sight) c.args.listing.other (path_view c.in_ok-path.path) c.args.left in
-    let ended = subst (λ xs. Does (λ n. dropped_as by_number (λ q. times_items q (items_of (all_items (map (seen_item_code n) xs))))) c.args.vm.now c.end_items.new.vm) c.as_slice.ensures.value c.in_ok-end_items.ensures.step in
-    renews_as c.args.app.now c.args.cells.now (ListsNone z s c.args.left p gone) (λ n. unlisted_code (z n) s (stamp_of c.in_ok-comment-in-Ok.comment) (ds n)) (λ n. seen_code n c.unlisted.result) c.args.vm.now c.comment_for.new.vm (λ n. sym (c.unlisted.ensures n))
-    (lists_none c.args.app.now c.args.cells.now z c.args.listing.key (λ n. refl) s c.args.left p gone c.args.vm.now c.end_items.new.vm c.append_body.new.vm c.comment_for.new.vm from ds c.in_ok-comment-in-Ok.comment ended
+    let ended = subst (λ xs. Does (λ n. dropped_as by_number (λ q. times_items q (items_of (all_items (map (seen_item_code n) xs))))) c.args.vm.now c.end_items.new.vm) c.as_slice-2.ensures.value c.in_ok-end_items.ensures.step in
+    renews_as c.args.app.now c.args.cells.now (ListsNone z s c.args.left p gone) (λ n. unlisted_code (z n) s (stamp_of c.in_ok-comment-in-Ok.comment) (ds n)) (λ n. seen_code n c.unlisted.result) c.args.vm.now c.seat_with_comment.new.vm (λ n. sym (c.unlisted.ensures n))
+    (lists_none c.args.app.now c.args.cells.now z c.args.listing.key (λ n. refl) s c.args.left p gone c.args.vm.now c.end_items.new.vm c.append_body.new.vm c.seat_with_comment.new.vm from ds c.in_ok-comment-in-Ok.comment ended
     (λ n. ap₂ (λ w q. start w c.args.listing.other q c.args.left) (c.in_ok-sight.ensures n) c.in_ok-path.ensures) c.in-Ok.ensures.ok c.in_ok-comment-in-Ok.ensures.step)
 
 pub returns-in-Err-clause-fails : goal.returns-in-Err-clause-fails
@@ -36,6 +36,6 @@ returns-in-Err-clause-fails c =
     let p = trail_view c.args.trail.now in
     let gone : Tables → Id → ℕ = λ n q. times_items q (items_of (all_items (map (seen_item_code n) c.args.items.now.items))) in
     let from : Tables → Start = λ n. start (seen_sight n c.in_ok-sight.sight) c.args.listing.other (path_view c.in_ok-path.path) c.args.left in
-    let ended = subst (λ xs. Does (λ n. dropped_as by_number (λ q. times_items q (items_of (all_items (map (seen_item_code n) xs))))) c.args.vm.now c.end_items.new.vm) c.as_slice.ensures.value c.in_ok-end_items.ensures.step in
+    let ended = subst (λ xs. Does (λ n. dropped_as by_number (λ q. times_items q (items_of (all_items (map (seen_item_code n) xs))))) c.args.vm.now c.end_items.new.vm) c.as_slice-2.ensures.value c.in_ok-end_items.ensures.step in
     lists_none_fails c.args.app.now c.args.cells.now z c.args.listing.key (λ n. refl) s c.args.left p gone c.args.vm.now c.end_items.new.vm from c.in-Err.fault ended
     (λ n. ap₂ (λ w q. start w c.args.listing.other q c.args.left) (c.in_ok-sight.ensures n) c.in_ok-path.ensures) c.in-Err.ensures.fails

@@ -4,4 +4,4 @@ use Rattle.gl_nodes.proofs.tree.NodeTree.put_last.Goals as goal
 
 pub returns-clause-ok : goal.returns-clause-ok
 returns-clause-ok c =
-    on_ok c.insert_before.result (puts_last c.args.self.now c.insert_before.new.self c.args.parent c.args.node c.insert_before.ensures.sound (c.takes.ensures c.if-not-takes.false)) c.insert_before.ensures.flat
+    on_ok c.insert_before.result (puts_last c.args.self.now c.insert_before.new.self c.args.parent c.args.node c.insert_before.ensures.sound (c.can_put.ensures c.if-not-can_put.false).1) c.insert_before.ensures.flat

@@ -1,0 +1,4 @@
+pub mod Alike
+pub mod Heard
+pub mod Own
+pub mod Standing

@@ -1,0 +1,5 @@
+pub mod Going
+pub mod Logged
+pub mod CodeGoes
+pub mod NumberSets
+pub mod KeptRows

@@ -1,0 +1,73 @@
+-- What is told of an update: the lines of what stood there before it, and stands there no more.
+use Rattle.std.specs.Prelude.{◌≡◌, ◌⊎◌, List, [], map, filter, flat_map, not, Bool, if◌then◌else◌}
+use Rattle.std.specs.Ordering.{nat_cmp}
+use Rattle.std.specs.BTreeSet.{contains}
+use Rattle.gl_base.specs.Texts.{Text}
+use Rattle.gl_ast.specs.Template.{Body}
+use Rattle.gl_meaning.specs.Known.{Among}
+use Rattle.gl_meaning.specs.Manifest.{Manifest}
+use Rattle.gl_meaning.specs.Scope.{Source}
+use Rattle.gl_opc.specs.declared.app.App.{App}
+use Rattle.gl_plain.specs.Ids.{Id, instance_id, modifier_id}
+use Rattle.gl_plain.specs.Live.{Live}
+use Rattle.gl_machine.specs.Code.{live_of}
+use Rattle.gl_machine.specs.Gone.{Gone, gone_modifier, gone_instance, has_id, gone, gone_line}
+use Rattle.gl_machine.specs.Rows.{Role, a_modifier, an_instance, Row, page_rows, row_ids}
+use Rattle.gl_vm.specs.View.{state_of}
+use Rattle.gl_append.specs.CodeView.{seen_code}
+use Rattle.gl_append.specs.Stepping.{env_of}
+use Rattle.gl_append.specs.Tables.{tables_of}
+use Rattle.gl_append.specs.declared.page.Page.{Page}
+use Rattle.gl_gone.specs.View.{Lists}
+use Rattle.gl_gone.specs.Lines.{ending_line}
+use Rattle.gl_gone.specs.declared.endings.Ending.{Ending}
+use Rattle.gl_gone.specs.declared.endings.Ending.TheVariants as ending
+use Rattle.gl_gone.specs.declared.numbers.Numbers.{Numbers}
+
+abbrev pub id_of : Ending → Id
+id_of (ending.Modifier k node name) = modifier_id k
+id_of (ending.Instance k o) = instance_id k
+
+-- it stands in the list, by its number
+abbrev pub stands_in : List Ending → Ending → Bool
+stands_in xs x = has_id (id_of x) (map id_of xs)
+
+-- it has one of the numbers of its kind
+abbrev pub is_numbered : Numbers → Ending → Bool
+is_numbered s (ending.Modifier k node name) = contains nat_cmp s.modifiers k
+is_numbered s (ending.Instance k o) = contains nat_cmp s.instances k
+
+-- nothing for what has one of the numbers, and for all else its line
+abbrev pub gone_text : Numbers → Manifest → Ending → Text
+gone_text s m x = if is_numbered s x then [] else ending_line m x
+
+-- the lines of what stood there before and stands there no more
+abbrev pub destroyed_text : Manifest → List Ending → List Ending → Text
+destroyed_text m before after = flat_map (ending_line m) (filter (λ x. not (stands_in after x)) before)
+
+-- Words of the machine over trees
+
+abbrev pub gone_id : Gone → Id
+gone_id (gone_modifier k) = modifier_id k
+gone_id (gone_instance i) = instance_id i.id
+
+-- it stands in what was rendered
+abbrev pub stays_in : Live → Id → Bool
+stays_in l q = has_id q (row_ids (page_rows l))
+
+abbrev pub role_of : Gone → Role
+role_of (gone_modifier k) = a_modifier
+role_of (gone_instance i) = an_instance
+
+-- A test holds of a modifier or an instance of one rendering just where it stands in another.
+abbrev pub TellsWhatStays : (Id → Bool) → Live → Live → Type 0
+TellsWhatStays lives l l' = (x : Row) → Among x (page_rows l) → (x.role ≡ a_modifier) ⊎ (x.role ≡ an_instance) → lives x.id ≡ stays_in l' x.id
+
+-- Of two pages of which these are the lists, the text is the lines of what of the one page does not live on, where what lives on is what
+-- stands in the other. The lines are read off what the one page keeps, and the number of a node is its own.
+abbrev pub Logs : App → List Ending → List Ending → Text → Type 0
+Logs a before after t =
+    (old new : Page) → Lists old before → Lists new after → (templates : List Body) (touched : Source → Bool) (lives : Id → Bool)
+    → let env = env_of a templates in let n = tables_of env.manifest in let l = live_of (seen_code n old.code) in
+    TellsWhatStays lives l (live_of (seen_code n new.code))
+    → t ≡ flat_map (gone_line env.app (state_of n old.vm touched).look (λ k. k)) (gone lives l)

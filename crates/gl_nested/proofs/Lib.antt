@@ -1,0 +1,3 @@
+pub mod Parts
+pub mod Betweens
+pub mod CodeParts

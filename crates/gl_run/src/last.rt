@@ -1,0 +1,19 @@
+// What the last run left.
+ghost use Rattle.std.specs.Prelude.{◌≡◌, None};
+
+use gl_session::Session;
+
+/// What the last run left: the session that made its turns, if there was one.
+#[derive(Drop)]
+pub struct Last {
+    pub session: Option<Session>,
+}
+
+impl Last {
+    /// Before any run there is none. It takes no memory.
+    pub fn new() -> Last
+        ensures { result.session ≡ None }
+    {
+        Last { session: None }
+    }
+}

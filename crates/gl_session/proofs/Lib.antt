@@ -1,0 +1,9 @@
+mod Rules
+mod Words
+mod Lines
+mod Values
+mod Pages
+mod Laid
+mod Next
+mod Turns
+mod Counts

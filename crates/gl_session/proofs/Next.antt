@@ -1,0 +1,101 @@
+-- The turn of an event.
+use Rattle.std.proofs.Common.{◌≡◌, ℕ, List, [], map, Some, None, refl, sym, ap, ◌∙◌, subst, le_refl}
+use Rattle.gl_ast.specs.Template.{Body}
+use Rattle.gl_meaning.specs.App as m
+use Rattle.gl_meaning.specs.Order.{NamesRise}
+use Rattle.gl_meaning.specs.Session as session
+use Rattle.gl_meaning.specs.Session.{applied, step}
+use Rattle.gl_meaning.specs.View.{manifest_view}
+use Rattle.gl_opc.specs.IsApp.{IsAppWith}
+use Rattle.gl_opc.specs.declared.app.App.{App}
+use Rattle.gl_plain.specs.Ids.{instance_id}
+use Rattle.gl_plain.specs.State.{Names, Inst, instance_row, State}
+use Rattle.gl_plain.specs.Naming.{by_number}
+use Rattle.gl_plain.specs.Turns.{begin}
+use Rattle.gl_naming.specs.Exist.{FieldsDiffer}
+use Rattle.gl_machine.specs.Code.{Code as PlainCode, live_of}
+use Rattle.gl_machine.specs.Laws.{AllLowered}
+use Rattle.gl_machine.specs.Root.{renew_root_code_as}
+use Rattle.gl_machine.specs.Outcome.{Outcome, ok}
+use Rattle.gl_machine.specs.Step.{run_for_as}
+use Rattle.gl_vm.specs.View.{state_of}
+use Rattle.gl_vm.specs.Steps.{Follows}
+use Rattle.gl_vm.specs.declared.vm.Vm.{Vm}
+use Rattle.gl_follows.specs.Sets.{put_all, held_of, AreOwn}
+use Rattle.gl_append.specs.CodeView.{seen_code}
+use Rattle.gl_append.specs.Stepping.{env_of}
+use Rattle.gl_append.specs.Tables.{tables_of}
+use Rattle.gl_append.specs.declared.page.Page.{Page}
+use Rattle.gl_actions.specs.Found.{instance_in}
+use Rattle.gl_actions.specs.Sets as acts
+use Rattle.gl_actions.specs.World.{sets_in}
+use Rattle.gl_actions.specs.Own.{AreOwnSets}
+use Rattle.gl_fires.specs.Worlds.{world_of, puts_of}
+use Rattle.gl_fires.proofs.Own.{sets_are_own}
+use Rattle.gl_fires.proofs.Standing.{instance_is}
+use Rattle.gl_standing.specs.Standing.{StandsIn}
+use Rattle.gl_update.specs.Renewing.{Renews, RenewsDeep}
+use Rattle.gl_session.specs.Laying.{GivensFor, touch_of, touch_all}
+use Rattle.gl_session.specs.declared.laying.Given.{Given}
+use Rattle.gl_session.proofs.Laid.{laid_in}
+use Rattle.gl_session.proofs.Words.{Made, ended_lines, next_made, next_fails}
+
+-- an instance of the program is kept
+row_of : (a : App) (templates : List Body) (page : Page) (s : session.State) (x : StandsIn a templates page s) (k : ℕ) (i : Inst) (args : Names)
+    → instance_in k (live_of (seen_code (tables_of (manifest_view a.manifest)) page.code)) ≡ Some (i, args)
+    → (state_of (tables_of (manifest_view a.manifest)) page.vm x.touched).look (instance_id k) ≡ Some (instance_row i)
+row_of a templates page s x k i args e =
+    let y = instance_is a templates page s x k i args e in
+    subst (λ q. (state_of (tables_of (manifest_view a.manifest)) page.vm x.touched).look (instance_id q) ≡ Some (instance_row i)) y.id y.kept
+
+module _ (a : App) (templates : List Body) (rises : NamesRise (manifest_view a.manifest)) (lowered : IsAppWith (manifest_view a.manifest) templates a.programs)
+    (differ : FieldsDiffer (env_of a templates).app) (page : Page) (s : session.State) (x : StandsIn a templates page s)
+    (e : m.Event) (sets : List acts.Set) (givens : List Given) (same : sets_in (world_of a templates page s x) sets ≡ (applied (env_of a templates).app s (Some e)).sets)
+    (owned : AreOwnSets a page sets) (found : GivensFor (world_of a templates page s x) page sets givens) where
+  -- the state in which the update begins
+  abbrev pub laid : State
+  laid = touch_all (map touch_of givens) (begin (state_of (tables_of (manifest_view a.manifest)) page.vm x.touched))
+
+  is_lowered : AllLowered (env_of a templates)
+  is_lowered = (templates, refl, lowered)
+
+  laid_is : laid ≡ put_all (puts_of (world_of a templates page s x) sets) (begin (state_of (tables_of (manifest_view a.manifest)) page.vm x.touched))
+  laid_is = sym (laid_in (world_of a templates page s x) page sets givens found (begin (state_of (tables_of (manifest_view a.manifest)) page.vm x.touched)) (row_of a templates page s x))
+
+  own : AreOwn (env_of a templates).app x.follows.named.owner (live_of (seen_code (tables_of (manifest_view a.manifest)) page.code)) (puts_of (world_of a templates page s x) sets)
+  own = (sets_are_own a templates page s x sets owned).0
+
+  held : (applied (env_of a templates).app s (Some e)).sets ≡ map (held_of x.follows.named.owner) (puts_of (world_of a templates page s x) sets)
+  held = sym same ∙ sym (sets_are_own a templates page s x sets owned).1
+
+  -- what the update answers over the state in which it begins
+  abbrev Answers : ℕ → Outcome (PlainCode × State)
+  Answers k = renew_root_code_as by_number (env_of a templates).app.limit (run_for_as by_number (env_of a templates) [] k) (seen_code (tables_of (manifest_view a.manifest)) page.code) laid
+
+  made : (k : ℕ) (r : PlainCode × State) → Answers k ≡ ok r
+      → Made (env_of a templates) s (Some e) (ended_lines (env_of a templates).app (state_of (tables_of (manifest_view a.manifest)) page.vm x.touched) (live_of (seen_code (tables_of (manifest_view a.manifest)) page.code)) (live_of r.0)) r.0 r.1
+  made k r is =
+      next_made (env_of a templates) is_lowered differ s e x.reached (seen_code (tables_of (manifest_view a.manifest)) page.code) (state_of (tables_of (manifest_view a.manifest)) page.vm x.touched)
+      x.placed x.follows (puts_of (world_of a templates page s x) sets) own held k r
+      (ap (renew_root_code_as by_number (env_of a templates).app.limit (run_for_as by_number (env_of a templates) [] k) (seen_code (tables_of (manifest_view a.manifest)) page.code)) (sym laid_is) ∙ is)
+
+  module _ (mid : Vm) (begun : Follows (tables_of (manifest_view a.manifest)) laid mid) where
+    -- the update after which the page stands in the next state
+    pub renewed : (page' : Page) → Renews a [] (λ n run. renew_root_code_as by_number a.manifest.limit run (seen_code n page.code)) mid (λ n. seen_code n page'.code) page'.vm
+        → (r : State) × Follows (tables_of (manifest_view a.manifest)) r page'.vm
+        × Made (env_of a templates) s (Some e) (ended_lines (env_of a templates).app (state_of (tables_of (manifest_view a.manifest)) page.vm x.touched) (live_of (seen_code (tables_of (manifest_view a.manifest)) page.code)) (live_of (seen_code (tables_of (manifest_view a.manifest)) page'.code)))
+        (seen_code (tables_of (manifest_view a.manifest)) page'.code) r
+    renewed page' h =
+        let r = h templates rises laid.touched begun.agrees in (
+          r.state,
+          r.follows,
+          made r.steps (seen_code (tables_of (manifest_view a.manifest)) page'.code, r.state)
+              (ap (renew_root_code_as by_number (env_of a templates).app.limit (run_for_as by_number (env_of a templates) [] r.steps) (seen_code (tables_of (manifest_view a.manifest)) page.code)) (sym begun.state) ∙ r.is r.steps (le_refl r.steps)),
+        )
+
+    pub too_deep : RenewsDeep {A = PlainCode} a [] (λ n run. renew_root_code_as by_number a.manifest.limit run (seen_code n page.code)) mid → step (env_of a templates).app s (Some e) ≡ None
+    too_deep h =
+        let r = h templates rises laid.touched begun.agrees in
+        next_fails (env_of a templates) is_lowered differ s e x.reached (seen_code (tables_of (manifest_view a.manifest)) page.code) (state_of (tables_of (manifest_view a.manifest)) page.vm x.touched)
+        x.placed x.follows (puts_of (world_of a templates page s x) sets) own held r.0
+        (ap (renew_root_code_as by_number (env_of a templates).app.limit (run_for_as by_number (env_of a templates) [] r.0) (seen_code (tables_of (manifest_view a.manifest)) page.code)) (sym laid_is ∙ sym begun.state) ∙ r.1 r.0 (le_refl r.0))

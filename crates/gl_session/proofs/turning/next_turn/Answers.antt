@@ -1,0 +1,43 @@
+use Rattle.std.proofs.Common.{map, subst, ◌∙◌}
+use Rattle.std.specs.Prelude.{Some}
+use Rattle.gl_meaning.specs.View.{event_view, manifest_view}
+use Rattle.gl_plain.specs.Turns.{begin}
+use Rattle.gl_vm.specs.Steps.{empty, Does}
+use Rattle.gl_append.proofs.Taking.{does_then}
+use Rattle.gl_fires.specs.Worlds.{world_of}
+use Rattle.gl_fires.proofs.Standing.{has_world}
+use Rattle.gl_fires.proofs.Heard.{hears}
+use Rattle.gl_session.specs.Laying.{GivensFor, touch_of, touch_all}
+use Rattle.gl_session.proofs.Rules.{names_rise}
+use Rattle.gl_session.proofs.Turns.{next_goes, next_fault, goes_as}
+use Rattle.gl_session.proofs.turning.next_turn.Goals as goal
+
+pub returns-in-Ok-clause-ok : goal.returns-in-Ok-clause-ok
+returns-in-Ok-clause-ok c = λ templates s lowered x t.
+    let a = c.args.app.now in
+    let page = c.args.page.now in
+    let e = event_view c.args.event.now in
+    let w = world_of a templates page s x in
+    let reads = has_world a templates page s x in
+    let applied = c.in_ok-sets.ensures.sets w s.numbers reads (hears a templates page s x) in
+    let found = subst (λ zs. GivensFor w page zs c.in_ok-givens.givens.items) c.as_slice.ensures (c.in_ok-givens.ensures w reads) in
+    let did = does_then (λ n. begin) (λ n. touch_all (map touch_of c.in_ok-givens.givens.items)) page.vm c.begin_turn.new.vm c.lay.new.vm c.in_ok-begin_turn.ensures.step
+    (subst (λ gs. Does (λ n. touch_all (map touch_of gs)) c.begin_turn.new.vm c.lay.new.vm) c.as_slice-2.ensures.value c.in_ok-lay.ensures.step) in
+    let z = c.in_ok-next_text-in-Ok.ensures.ok in
+    goes_as a templates s (Some e) c.next_text.new.page c.renew.new.page c.in_ok-next_text-in-Ok.field-0 z.vm z.code
+    (next_goes a templates (names_rise (manifest_view a.manifest) c.keeps.ensures.rules) lowered page s x e c.in_ok-sets.field-0.sets c.in_ok-givens.givens.items applied.0 c.in_ok-sets.ensures.own found c.lay.new.vm did
+    c.renew.new.page c.in-Ok.ensures.ok c.in-Ok.ensures.nodes z.flat z.sound c.in_ok-before.before.list.items z.after c.in_ok-before.ensures z.lists z.destroyed z.logs empty c.args.turn c.as_slice-in-Ok.result.now
+    c.in_ok-next_text-in-Ok.field-0 t (c.as_slice-in-Ok.ensures.value ∙ applied.1) z.told)
+
+pub returns-clause-fails : goal.returns-clause-fails
+returns-clause-fails c = λ templates s lowered x.
+    let a = c.args.app.now in
+    let page = c.args.page.now in
+    let e = event_view c.args.event.now in
+    let w = world_of a templates page s x in
+    let reads = has_world a templates page s x in
+    let applied = c.in_ok-sets.ensures.sets w s.numbers reads (hears a templates page s x) in
+    let found = subst (λ zs. GivensFor w page zs c.in_ok-givens.givens.items) c.as_slice.ensures (c.in_ok-givens.ensures w reads) in
+    let did = does_then (λ n. begin) (λ n. touch_all (map touch_of c.in_ok-givens.givens.items)) page.vm c.begin_turn.new.vm c.lay.new.vm c.in_ok-begin_turn.ensures.step
+    (subst (λ gs. Does (λ n. touch_all (map touch_of gs)) c.begin_turn.new.vm c.lay.new.vm) c.as_slice-2.ensures.value c.in_ok-lay.ensures.step) in
+    next_fault a templates (names_rise (manifest_view a.manifest) c.keeps.ensures.rules) lowered page s x e c.in_ok-sets.field-0.sets c.in_ok-givens.givens.items applied.0 c.in_ok-sets.ensures.own found c.lay.new.vm did c.in-Err.fault c.in-Err.ensures.fails

@@ -1,0 +1,5 @@
+pub mod Faults
+pub mod Laying
+pub mod Standing
+pub mod Writing
+pub mod Telling

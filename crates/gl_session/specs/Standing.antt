@@ -1,0 +1,71 @@
+-- What a session stands for.
+use Rattle.std.specs.Prelude.{◌≡◌, List, Option, Some, None}
+use Rattle.gl_base.specs.Texts.{Text}
+use Rattle.gl_ast.specs.Template.{Body}
+use Rattle.gl_meaning.specs.App as m
+use Rattle.gl_meaning.specs.Manifest.{app_of}
+use Rattle.gl_meaning.specs.Session as session
+use Rattle.gl_meaning.specs.Session.{first_state, step}
+use Rattle.gl_meaning.specs.View.{manifest_view}
+use Rattle.gl_opc.specs.IsApp.{IsAppWith}
+use Rattle.gl_opc.specs.declared.app.App.{App}
+use Rattle.gl_vm.specs.View.{Calm}
+use Rattle.gl_append.specs.declared.fault.VmFault.{VmFault}
+use Rattle.gl_append.specs.declared.fault.VmFault.TheVariants as vm
+use Rattle.gl_append.specs.declared.page.Page.{Page}
+use Rattle.gl_standing.specs.Standing.{StandsIn}
+use Rattle.gl_session.specs.declared.fault.EventFault.{EventFault}
+use Rattle.gl_session.specs.declared.fault.EventFault.TheVariants as event
+use Rattle.gl_session.specs.declared.session.Session.{Session}
+
+-- the application with these templates, as the meaning has it
+abbrev pub app_with : App → List Body → m.App
+app_with a templates = app_of (manifest_view a.manifest) templates
+
+-- A session of an application, which has these templates, stands in a state of the meaning's session: its page does, the number of its next turn
+-- is the state's, and it has not stopped.
+pub record StandsAt (x : Session) (a : App) (templates : List Body) (s : session.State) : Type 0 where
+  pub app : x.app ≡ a
+  pub lowered : IsAppWith (manifest_view a.manifest) templates a.programs
+  pub page : StandsIn a templates x.page s
+  pub turn : x.turn ≡ s.turn
+  pub going : x.stopped ≡ None
+
+-- a session that was started may go on
+abbrev pub IsReady : Session → Type 0
+IsReady x = Calm x.page.vm
+
+-- The page stands in the state after this turn of the meaning's session, which has this text.
+pub record Goes (a : App) (templates : List Body) (s : session.State) (e : Option m.Event) (page : Page) (text : Text) : Type 0 where
+  pub turn : session.Turn
+  pub is : step (app_with a templates) s e ≡ Some turn
+  pub told : text ≡ turn.text
+  pub stands : StandsIn a templates page turn.state
+
+-- The session stands in the state after the first turn, which has this text.
+abbrev pub Starts : App → List Body → Session → Text → Type 0
+Starts a templates x text = (t : session.Turn) × (step (app_with a templates) first_state None ≡ Some t) × (text ≡ t.text) × StandsAt x a templates t.state
+
+-- The session stands in the state after the turn of the event, which has this text.
+abbrev pub Turns : App → List Body → session.State → m.Event → Session → Text → Type 0
+Turns a templates s e x text = (t : session.Turn) × (step (app_with a templates) s (Some e) ≡ Some t) × (text ≡ t.text) × StandsAt x a templates t.state
+
+-- a component would stand too deep: there is no such turn
+abbrev pub TurnFails : App → List Body → session.State → Option m.Event → VmFault → Type 0
+TurnFails a templates s e vm.NestingLimit = step (app_with a templates) s e ≡ None
+TurnFails a templates s e vm.Memory = Unit {0}
+
+abbrev pub StartFails : App → List Body → VmFault → Type 0
+StartFails a templates f = TurnFails a templates first_state None f
+
+-- A session that has not stopped is not told that it has.
+abbrev pub EventFails : App → List Body → session.State → m.Event → EventFault → Type 0
+EventFails a templates s e event.NestingLimit = step (app_with a templates) s (Some e) ≡ None
+EventFails a templates s e event.Memory = Unit {0}
+EventFails a templates s e (event.Stopped f) = ⊥
+
+-- What a fault leaves: a session that has stopped for it; one that had stopped before is as it was.
+abbrev pub Stops : Session → Session → EventFault → Type 0
+Stops old new event.NestingLimit = new.stopped ≡ Some vm.NestingLimit
+Stops old new event.Memory = new.stopped ≡ Some vm.Memory
+Stops old new (event.Stopped f) = (old.stopped ≡ Some f) × (new ≡ old)

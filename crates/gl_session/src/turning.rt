@@ -1,0 +1,134 @@
+// Turns of a page.
+ghost use Rattle.std.specs.Prelude.{◌≡◌, List, [], Some, None, IfOk, OnOk, IfErr};
+ghost use Rattle.gl_meaning.specs.Order.{NamesRise};
+ghost use Rattle.gl_append.specs.Page.{Appends};
+ghost use Rattle.gl_session.specs.Telling.{Tells};
+ghost use Rattle.gl_ast.specs.Template.{Body};
+ghost use Rattle.gl_meaning.specs.Session as session;
+ghost use Rattle.gl_meaning.specs.View.{event_view, manifest_view};
+ghost use Rattle.gl_opc.specs.IsApp.{IsAppWith};
+ghost use Rattle.gl_plain.specs.Naming.{by_number};
+ghost use Rattle.gl_machine.specs.Code.{Code as PlainCode, live_of};
+ghost use Rattle.gl_machine.specs.Root.{renew_root_code_as};
+ghost use Rattle.gl_machine.specs.Shape.{nest};
+ghost use Rattle.gl_vm.specs.View.{Calm};
+ghost use Rattle.gl_append.specs.CodeView.{seen_code};
+ghost use Rattle.gl_append.specs.Hung.{nest_of};
+ghost use Rattle.gl_update.specs.Renewing.{Renews, RenewFails};
+ghost use Rattle.gl_standing.specs.Standing.{StandsIn};
+ghost use Rattle.gl_session.specs.Standing.{Goes, TurnFails};
+
+use crate::laying::{begin_turn, givens_for, lay};
+use crate::writing::{front, push_committed};
+use gl_append::{Cells, Page, VmFault, append};
+use gl_events::{Applied, apply};
+use gl_gone::{Standing, push_destroyed, standing};
+use gl_meaning::Event;
+use gl_nested::stands;
+use gl_opc::App;
+use gl_update::update;
+use gl_value::Text;
+use std::alloc::{AllocError, Global};
+
+/// The page that is rendered first, and the text of that turn.
+pub(crate) fn first_turn(alloc: Global, app: &App) -> Result<(Page, Text), VmFault>
+    ensures ok { IfOk result (λ r. (templates : List Body) → IsAppWith (manifest_view app.now.manifest) templates app.now.programs → Goes app.now templates session.first_state None r.0 r.1) }
+    ensures fails { IfErr result (λ f. (templates : List Body) → IsAppWith (manifest_view app.now.manifest) templates app.now.programs → TurnFails app.now templates session.first_state None f) }
+    ensures calm { IfOk result (λ r. Calm r.0.vm) }
+{
+    app.keeps();
+    let cells = Cells::new(alloc);
+    match append(alloc, app, &cells) {
+        Ok(page) => Ok(first_text(alloc, app, page)?),
+        Err(fault) => Err(fault),
+    }
+}
+
+/// The text of the first turn of a page that was appended.
+fn first_text(alloc: Global, app: &App, page: Page) -> Result<(Page, Text), AllocError>
+    requires appended { Appends app.now [] page.vm page.code }
+    requires nodes { (n : _) → nest_of page.vm.tree.forest ≡ nest (live_of (seen_code n page.code)) }
+    requires calm { Calm page.vm }
+    ensures ok { IfOk result (λ r. (templates : List Body) → NamesRise (manifest_view app.now.manifest) → IsAppWith (manifest_view app.now.manifest) templates app.now.programs → Goes app.now templates session.first_state None r.0 r.1) }
+    ensures calm { IfOk result (λ r. Calm r.0.vm) }
+{
+    let mut page = page;
+    page.vm.tree.flat();
+    page.vm.mods.sound();
+    let mut text = front(alloc, &page.vm.tree, 0, None, &[])?;
+    push_committed(&mut text, alloc, app, &mut page.vm)?;
+    Ok((page, text))
+}
+
+/// Whether the nodes of a page stand in its tree as they were rendered: where they don't it answers as for want of memory.
+fn checked(page: &Page) -> Result<(), AllocError>
+    ensures { OnOk result ((n : _) → nest_of page.now.vm.tree.forest ≡ nest (live_of (seen_code n page.now.code))) }
+{
+    if stands(&page.vm.tree, &page.code) {
+        Ok(())
+    } else {
+        Err(AllocError)
+    }
+}
+
+/// A page that is updated, and whose nodes stand in the tree as they were rendered then.
+fn renew(alloc: Global, app: &App, page: &mut Page) -> Result<(), VmFault>
+    requires calm { Calm page.old.vm }
+    ensures ok { OnOk result (Renews app.now [] (λ n run. renew_root_code_as by_number app.now.manifest.limit run (seen_code n page.old.code)) page.old.vm (λ n. seen_code n page.new.code) page.new.vm) }
+    ensures nodes { OnOk result ((n : _) → nest_of page.new.vm.tree.forest ≡ nest (live_of (seen_code n page.new.code))) }
+    ensures fails { IfErr result (RenewFails {A = PlainCode} app.now [] (λ n run. renew_root_code_as by_number app.now.manifest.limit run (seen_code n page.old.code)) page.old.vm) }
+    ensures calm { Calm page.new.vm }
+{
+    let cells = Cells::new(alloc);
+    match update(alloc, app, &cells, page) {
+        Ok(()) => Ok(checked(page)?),
+        Err(fault) => Err(fault),
+    }
+}
+
+/// The text of a turn of a page that was updated, of which this is what stood in it before.
+fn next_text(
+    alloc: Global,
+    app: &App,
+    page: &mut Page,
+    turn: u128,
+    event: &Event,
+    missing: &[u64],
+    before: &Standing,
+) -> Result<Text, AllocError>
+    ensures ok { IfOk result (Tells app.now page.old before.now.list.items turn (event_view event.now) missing.now page.new) }
+    ensures calm { Calm page.old.vm → Calm page.new.vm }
+{
+    page.vm.tree.flat();
+    page.vm.mods.sound();
+    let mut text = front(alloc, &page.vm.tree, turn, Some(event), missing)?;
+    let after = standing(alloc, page)?;
+    push_destroyed(&mut text, alloc, before, &after, app)?;
+    push_committed(&mut text, alloc, app, &mut page.vm)?;
+    Ok(text)
+}
+
+/// A page after the turn of an event, and the text of that turn.
+pub(crate) fn next_turn(
+    alloc: Global,
+    app: &App,
+    page: &mut Page,
+    turn: u128,
+    event: &Event,
+) -> Result<Text, VmFault>
+    requires calm { Calm page.old.vm }
+    ensures ok { IfOk result (λ t. (templates : List Body) (s : session.State) → IsAppWith (manifest_view app.now.manifest) templates app.now.programs → StandsIn app.now templates page.old s → turn ≡ s.turn → Goes app.now templates s (Some (event_view event.now)) page.new t) }
+    ensures fails { IfErr result (λ f. (templates : List Body) (s : session.State) → IsAppWith (manifest_view app.now.manifest) templates app.now.programs → StandsIn app.now templates page.old s → TurnFails app.now templates s (Some (event_view event.now)) f) }
+    ensures calm { Calm page.new.vm }
+{
+    app.keeps();
+    let Applied { sets, missing } = apply(alloc, page, app, event)?;
+    let givens = givens_for(alloc, page, app, sets.as_slice())?;
+    let before = standing(alloc, page)?;
+    begin_turn(&mut page.vm)?;
+    lay(&mut page.vm, givens.as_slice())?;
+    match renew(alloc, app, page) {
+        Ok(()) => Ok(next_text(alloc, app, page, turn, event, missing.as_slice(), &before)?),
+        Err(fault) => Err(fault),
+    }
+}

@@ -1,0 +1,21 @@
+-- What a page that stands in a state shows.
+use Rattle.std.specs.Prelude.{◌≡◌, List}
+use Rattle.gl_ast.specs.Template.{Body}
+use Rattle.gl_meaning.specs.Session as session
+use Rattle.gl_opc.specs.declared.app.App.{App}
+use Rattle.gl_plain.specs.Drawn.{drawn_app}
+use Rattle.gl_naming.specs.Renamed.{there_with}
+use Rattle.gl_machine.specs.Code.{live_of}
+use Rattle.gl_vm.specs.View.{state_of}
+use Rattle.gl_append.specs.CodeView.{seen_code}
+use Rattle.gl_append.specs.Stepping.{env_of}
+use Rattle.gl_append.specs.Tables.{tables_of}
+use Rattle.gl_append.specs.declared.page.Page.{Page}
+use Rattle.gl_standing.specs.Standing.{StandsIn}
+
+-- With the names that it has of owners and sources it shows the state's rendering.
+abbrev pub StandingShows : Type 0
+StandingShows =
+    (a : App) (templates : List Body) (page : Page) (s : session.State) (x : StandsIn a templates page s)
+    → let n = tables_of (env_of a templates).manifest in
+    drawn_app (env_of a templates).app (λ q. there_with x.follows.named.owner x.follows.named.source ((state_of n page.vm x.touched).look q)) (live_of (seen_code n page.code)) ≡ s.rendering

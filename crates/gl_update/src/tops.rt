@@ -1,0 +1,97 @@
+// The first and the last node of what was rendered, of those that stand in no other of its nodes.
+use gl_append::{Code, Codes, ItemCode};
+use gl_nodes::NodeId;
+
+/// The first one of a body, or else its comment.
+#[cycle(first)]
+pub(crate) fn first_top(body: &Codes, comment: &Option<NodeId>) -> Option<NodeId> {
+    match first_of_body(body) {
+        Some(node) => Some(node),
+        None => *comment,
+    }
+}
+
+#[cycle(first)]
+fn first_of_body(body: &Codes) -> Option<NodeId> {
+    for code in body.list.as_slice() {
+        let node = first_of_code(code);
+        if node.is_some() {
+            return node;
+        }
+    }
+    None
+}
+
+#[cycle(first)]
+fn first_of_code(code: &Code) -> Option<NodeId> {
+    match code {
+        Code::Still { node } => Some(*node),
+        Code::Put { node, .. } => Some(*node),
+        Code::Element { node, .. } => Some(*node),
+        Code::Branch { comment, body, .. } => first_top(body, comment),
+        Code::Listed { items, .. } => first_of_items(items.as_slice()),
+        Code::Unlisted { comment, body, .. } => first_top(body, comment),
+        Code::Let { body, .. } => first_of_body(body),
+        Code::Component { body, .. } => first_of_body(body),
+        Code::Root { body, .. } => first_of_body(body),
+        Code::Yield { body, .. } => first_of_body(body),
+    }
+}
+
+#[cycle(first)]
+fn first_of_items(items: &[ItemCode]) -> Option<NodeId> {
+    for item in items {
+        let node = first_top(&item.body, &item.comment);
+        if node.is_some() {
+            return node;
+        }
+    }
+    None
+}
+
+/// The comment of a body, or else the last one of it.
+#[cycle(last)]
+pub(crate) fn last_top(body: &Codes, comment: &Option<NodeId>) -> Option<NodeId> {
+    match comment {
+        Some(node) => Some(*node),
+        None => last_of_body(body),
+    }
+}
+
+#[cycle(last)]
+fn last_of_body(body: &Codes) -> Option<NodeId> {
+    for code in body.list.as_slice().iter().rev() {
+        let node = last_of_code(code);
+        if node.is_some() {
+            return node;
+        }
+    }
+    None
+}
+
+#[cycle(last)]
+fn last_of_code(code: &Code) -> Option<NodeId> {
+    match code {
+        Code::Still { node } => Some(*node),
+        Code::Put { node, .. } => Some(*node),
+        Code::Element { node, .. } => Some(*node),
+        Code::Branch { comment, body, .. } => last_top(body, comment),
+        Code::Listed { items, .. } => last_of_items(items.as_slice()),
+        Code::Unlisted { comment, body, .. } => last_top(body, comment),
+        Code::Let { body, .. } => last_of_body(body),
+        Code::Component { body, .. } => last_of_body(body),
+        Code::Root { body, .. } => last_of_body(body),
+        Code::Yield { body, .. } => last_of_body(body),
+    }
+}
+
+#[cycle(last)]
+fn last_of_items(items: &[ItemCode]) -> Option<NodeId> {
+    for item in items.iter().rev() {
+        let node = last_top(&item.body, &item.comment);
+        if node.is_some() {
+            return node;
+        }
+    }
+    None
+}
