@@ -1,7 +1,6 @@
 -- Templates that are loaded one after another.
 use Rattle.std.proofs.Common.{◌≡◌, ◌+◌, ℕ, Some, drop, List, [], ◌∷◌, ◌++◌, Result, Ok, Err, inl, inr, refl, sym, ap, append_assoc, append-nil}
 use Rattle.std.specs.List.{slice_get}
-use Rattle.std.proofs.Math.Logic.{∥∥₁_elim, ∥∥₁_map, ∥∥₁_prop}
 use Rattle.std.proofs.lemmas.Option.{slice_get_within, get_or_from_slice_get}
 use Rattle.gl_base.specs.Texts.{Text}
 use Rattle.gl_base.proofs.Lists.{drop_item}
@@ -74,8 +73,3 @@ whole_script files manifest script n parts is h = behind n (app_fetched files ma
 -- what is left at the place of a template
 pub got_tree : (trees : List Body) (i : ℕ) (t : Body) → Some t ≡ slice_get trees i → drop i trees ≡ t ∷ drop (i + 1) trees
 got_tree trees i t e = drop_item trees i t (slice_get_within trees i t (sym e)) (sym (get_or_from_slice_get trees i t t (sym e)))
-
--- each is spelled by some bytes
-pub each_template : (ts : List Body) → ∥ Each IsTemplate ts ∥₁ → Each IsTemplate ts
-each_template [] h = tt
-each_template (t ∷ ts) h = (∥∥₁_elim h ∥∥₁_prop (λ all. all.0), each_template ts (∥∥₁_map h (λ all. all.1)))

@@ -1,27 +1,31 @@
-// Why a session is not played to its end.
+// Why an input is not played.
 ghost use Rattle.std.specs.Prelude.{◌≡◌};
+ghost use Rattle.gl_run.specs.declared.fault.FormFault.TheVariants.{Memory};
 
-use std::alloc::AllocError;
+use std::alloc::{AllocError, AllocFailed};
 use thiserror::Error;
 
-/// Why a session is not played to its end, or a text is not written.
+/// Why an application and its script are not played: they are not of the form that is built so far, or memory is wanting.
 #[derive(Clone, Copy, Debug, PartialEq, Eq, Error)]
-pub enum PlayFault {
-    /// A component would stand deeper than the application's limit says, in the turn of that number.
-    #[error("turn {turn}: nesting limit {limit}")]
-    NestingLimit { turn: u64, limit: u32 },
-    #[error("write fault")]
-    WriteFault,
+pub enum FormFault {
+    #[error("not built yet")]
+    NotBuilt,
     #[error("out of memory")]
     Memory,
 }
 
-impl From<AllocError> for PlayFault {
-    ghost use Rattle.gl_run.specs.declared.fault.PlayFault.TheVariants.{Memory};
-
+impl From<AllocError> for FormFault {
     ghost from_gives = { λ _ e. e ≡ Memory };
 
     fn from(_: AllocError) -> Self {
-        PlayFault::Memory
+        FormFault::Memory
+    }
+}
+
+impl<T: Drop> From<AllocFailed<T>> for FormFault {
+    ghost from_gives = { λ _ e. e ≡ Memory };
+
+    fn from(_: AllocFailed<T>) -> Self {
+        FormFault::Memory
     }
 }

@@ -4,17 +4,17 @@
 mod command;
 mod ending;
 mod fault;
-mod last;
+mod form;
 mod line;
 mod load;
-mod playing;
-mod sample;
+mod page;
+mod session;
 mod show;
 mod status;
 mod top;
 
 pub use ending::RunFault;
-pub use fault::PlayFault;
-pub use last::Last;
+pub use fault::FormFault;
+pub use session::PlayFault;
 pub use status::Status;
-pub use top::run;
+pub use top::{Last, run};

