@@ -1,5 +1,5 @@
 -- Laws of the tokens up to where none stands: a step over white space, a step over a token, and the stop.
-use Rattle.std.proofs.Common.{◌≡◌, ◌<◌, ◌+◌, ◌-◌, ℕ, zero, suc, List, [], ◌∷◌, ◌++◌, Bool, true, false, Option, Some, None, Result, Ok, Err, length, drop, refl, sym, ap, subst, ◌∙◌, arith, add-zero, append_assoc}
+use Rattle.std.proofs.Common.{◌≡◌, ◌<◌, ◌+◌, ◌-◌, ℕ, zero, suc, List, [], ◌∷◌, ◌++◌, Bool, true, false, Option, Some, None, length, drop, refl, sym, ap, ◌∙◌, arith, add-zero, append_assoc}
 use Rattle.std.specs.Prelude.{if◌then◌else◌}
 use Rattle.gl_base.specs.Answers.{◌>>=◌}
 use Rattle.gl_ast.specs.Modes.{Found, token, spaced}

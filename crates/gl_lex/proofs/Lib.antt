@@ -1,4 +1,8 @@
+pub mod Beginnings
 pub mod Cleared
+pub mod Completed
+pub mod Continued
+pub mod EndTags
 pub mod Fronted
 pub mod Fronts
 pub mod Steps

@@ -1,14 +1,12 @@
 -- The reading forward stops just where the text lacks a token.
 use Rattle.std.proofs.Common.{◌≡◌, ◌≤◌, ◌<◌, ◌+◌, ℕ, zero, suc, List, [], ◌∷◌, Bool, true, false, Option, Some, None, Result, Ok, Err, length, length-append, refl, sym, ap, subst, ◌∙◌, arith}
-use Rattle.std.specs.Prelude.{IfErr, IfSome, if◌then◌else◌}
+use Rattle.std.specs.Prelude.{IfErr, if◌then◌else◌}
 use Rattle.gl_base.specs.Answers.{Gives}
-use Rattle.gl_base.specs.Names.{or_else}
 use Rattle.gl_ast.specs.Modes.{Found, first_found, token, spaced}
-use Rattle.gl_ast.specs.TokenReading.{width, token_at, read_from, stands_white}
+use Rattle.gl_ast.specs.TokenReading.{width, token_at, stands_white}
 use Rattle.gl_ast.specs.Tokens.{forms}
 use Rattle.gl_ast.specs.declared.mode.Mode.{Mode}
 use Rattle.gl_ast.specs.declared.token.Token.{Token}
-use Rattle.gl_ast.proofs.Forward.{Steps}
 use Rattle.gl_ast.proofs.Progress.{token_steps}
 use Rattle.gl_ast.proofs.Readings.{token_is, token_longest, longest_token}
 use Rattle.gl_lex.specs.Begun.{is_begun}

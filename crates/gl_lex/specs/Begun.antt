@@ -1,7 +1,7 @@
 -- Whether bytes at which no token stands would be a token with more bytes after them, by cases.
 use Rattle.std.specs.Prelude.{ℕ, List, [], ◌∷◌, Bool, true, false, ◌||◌, codes, Option, Some, None}
-use Rattle.gl_ast.specs.Marks.{is_white, is_small, in_tag}
-use Rattle.gl_ast.specs.Scans.{after, begins, after_all, after_word}
+use Rattle.gl_ast.specs.Marks.{is_white}
+use Rattle.gl_ast.specs.Scans.{after, begins, after_all}
 use Rattle.gl_ast.specs.Words.{after_element_name, after_tag}
 use Rattle.gl_ast.specs.declared.mode.Mode.{Mode}
 use Rattle.gl_ast.specs.declared.mode.Mode.TheVariants as m

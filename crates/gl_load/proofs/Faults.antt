@@ -3,19 +3,19 @@ use Rattle.std.proofs.Common.{◌≡◌, ℕ, List, [], ◌∷◌, ◌++◌, Res
 use Rattle.std.specs.Prelude.{⊤}
 use Rattle.gl_base.specs.Texts.{Text}
 use Rattle.gl_load.specs.Refusal.{Cause, Refusal, ◌>>=◌, in_file}
-use Rattle.gl_load.specs.Loads.{Stops, StopsIn, IsFaultIn, HasCause, IsAmong, FailsAmong}
+use Rattle.gl_load.specs.Loads.{Stops, refusal, IsFaultIn, HasCause, IsAmong, FailsAmong}
 use Rattle.gl_load.specs.Names.{IsTold, IsToldIn}
 use Rattle.gl_load.specs.declared.fault.LoadCause.{LoadCause}
 use Rattle.gl_load.specs.declared.fault.LoadCause.TheVariants as v
 use Rattle.gl_load.specs.declared.fault.LoadFault.{LoadFault}
 
-stops_in : {X : Type 0} (name : Text) (cause : LoadCause) (out : Result X Cause) → Stops cause out → StopsIn name cause (in_file name out)
+stops_in : {X : Type 0} (name : Text) (cause : LoadCause) (out : Result X Cause) → Stops (λ c. c) cause out → Stops (refusal name) cause (in_file name out)
 stops_in name v.Absent out h = rw h refl
 stops_in name (v.TooLong taken) out h = rw h.0 (refl, h.1)
 stops_in name v.BadJson out h = rw h refl
 stops_in name (v.BadShape pointer) out h = rw h refl
 stops_in name (v.BadExpression pointer) out h = rw h refl
-stops_in name (v.NotInGrammar offset) out h = rw h.1 (h.0, refl, h.2)
+stops_in name (v.NotInGrammar offset) out h = rw h refl
 stops_in name (v.UnknownName kind unknown) out h = rw h refl
 stops_in name (v.GetterCycle class getter) out h = rw h refl
 stops_in name (v.UnknownField index field) out h = rw h refl
@@ -23,7 +23,7 @@ stops_in name v.ReadFault out h = tt
 stops_in name v.Memory out h = tt
 
 -- the fault of a file stops where the file does
-pub fault_stops : {X : Type 0} (name : Text) (cause : LoadCause) (f : LoadFault) (out : Result X Cause) → IsFaultIn name cause f → Stops cause out → StopsIn f.file f.cause (in_file name out)
+pub fault_stops : {X : Type 0} (name : Text) (cause : LoadCause) (f : LoadFault) (out : Result X Cause) → IsFaultIn name cause f → Stops (λ c. c) cause out → Stops (refusal f.file) f.cause (in_file name out)
 fault_stops name cause f out (inl e) h = rw (e.0, e.1) (stops_in name cause out h)
 fault_stops name cause f out (inr e) h = rw e tt
 
@@ -49,13 +49,13 @@ fault_among name cause f (inl e) = rw (e.0, e.1) (among_one cause name)
 fault_among name cause f (inr e) = rw e tt
 
 -- what is stopped goes no further
-pub stops_then : {X Y : Type 0} (name : Text) (cause : LoadCause) (out : Result X Refusal) (then : X → Result Y Refusal) → StopsIn name cause out → StopsIn name cause (out >>= then)
+pub stops_then : {X Y : Type 0} (name : Text) (cause : LoadCause) (out : Result X Refusal) (then : X → Result Y Refusal) → Stops (refusal name) cause out → Stops (refusal name) cause (out >>= then)
 stops_then name v.Absent out then h = rw h refl
 stops_then name (v.TooLong taken) out then h = rw h.0 (refl, h.1)
 stops_then name v.BadJson out then h = rw h refl
 stops_then name (v.BadShape pointer) out then h = rw h refl
 stops_then name (v.BadExpression pointer) out then h = rw h refl
-stops_then name (v.NotInGrammar offset) out then h = rw h.1 (h.0, refl, h.2)
+stops_then name (v.NotInGrammar offset) out then h = rw h refl
 stops_then name (v.UnknownName kind unknown) out then h = rw h refl
 stops_then name (v.GetterCycle class getter) out then h = rw h refl
 stops_then name (v.UnknownField index field) out then h = rw h refl

@@ -4,6 +4,7 @@ use Rattle.std.specs.Prelude.{if◌then◌else◌, nat_le, ⊤}
 use Rattle.gl_base.specs.Texts.{Text, bytes_of}
 use Rattle.gl_ast.specs.Template.{Body, Plain}
 use Rattle.gl_outside.specs.Shelf.{Entry, file_of}
+use Rattle.gl_parse.specs.FaultPlace.{template_place}
 use Rattle.gl_parse.specs.ReadStmt.{template_of, expression_of}
 use Rattle.gl_parse.proofs.SpellsRead.{read_spells, spells_read}
 use Rattle.gl_cycles.specs.Through.{cycle_of}
@@ -63,13 +64,13 @@ spelled_gave n (Some t) tree e = ap Some (ok_same t tree e)
 template_gave : (files : List Entry) (name : Text) (tree : Body) → template_in files name ≡ Ok tree → IsTemplateFile files name tree
 unfolding template_in
 template_gave files name tree e =
-    let g = gave (small_file files name) (λ bytes. spelled (length bytes) (template_of bytes)) tree e in
-    (g.0, file_gave files name g.0 g.1, read_spells g.0 tree (spelled_gave (length g.0) (template_of g.0) tree g.2))
+    let g = gave (small_file files name) (λ bytes. spelled (template_place bytes) (template_of bytes)) tree e in
+    (g.0, file_gave files name g.0 g.1, read_spells g.0 tree (spelled_gave (template_place g.0) (template_of g.0) tree g.2))
 
 template_goes : (files : List Entry) (name : Text) (tree : Body) → IsTemplateFile files name tree → template_in files name ≡ Ok tree
 unfolding template_in
 template_goes files name tree (bytes, file, spells) =
-    goes (small_file files name) (λ bytes. spelled (length bytes) (template_of bytes)) bytes tree (file_goes files name bytes file) (ap (spelled (length bytes)) (spells_read bytes tree spells))
+    goes (small_file files name) (λ bytes. spelled (template_place bytes) (template_of bytes)) bytes tree (file_goes files name bytes file) (ap (spelled (template_place bytes)) (spells_read bytes tree spells))
 
 templates_gave : (files : List Entry) (cs : List ClassEntry) (ts : List Body) → templates_in files cs ≡ Ok ts → AreTemplates files cs ts
 unfolding templates_in

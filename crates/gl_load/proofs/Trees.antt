@@ -1,6 +1,7 @@
 -- Templates that are loaded one after another.
 use Rattle.std.proofs.Common.{◌≡◌, ◌+◌, ℕ, Some, drop, List, [], ◌∷◌, ◌++◌, Result, Ok, Err, inl, inr, refl, sym, ap, append_assoc, append-nil}
 use Rattle.std.specs.List.{slice_get}
+use Rattle.std.proofs.Math.Logic.{∥∥₁_elim, ∥∥₁_map, ∥∥₁_prop}
 use Rattle.std.proofs.lemmas.Option.{slice_get_within, get_or_from_slice_get}
 use Rattle.gl_base.specs.Texts.{Text}
 use Rattle.gl_base.proofs.Lists.{drop_item}
@@ -11,7 +12,7 @@ use Rattle.gl_outside.specs.Shelf.{Entry}
 use Rattle.gl_meaning.specs.Manifest.{ClassEntry, Manifest}
 use Rattle.gl_meaning.specs.ManifestRules.{Each}
 use Rattle.gl_load.specs.Load.{Parts, manifest_in, template_in, templates_in, templates_fetched, app_in, app_fetched, after_ok, whole_fetched}
-use Rattle.gl_load.specs.Loads.{StopsIn, IsAmong}
+use Rattle.gl_load.specs.Loads.{Stops, refusal, IsAmong}
 use Rattle.gl_load.specs.Refusal.{Cause, Refusal, ◌>>=◌, in_file}
 use Rattle.gl_load.specs.Trees.{seen_templates, after_trees}
 use Rattle.gl_load.specs.declared.fault.LoadFault.{LoadFault}
@@ -25,7 +26,7 @@ pub templates_step : (files : List Entry) (front : List Body) (c : ClassEntry) (
 unfolding templates_in
 templates_step files front c cs t is = rw is (one_more front t (templates_in files cs))
 
-pub templates_stop : (files : List Entry) (front : List Body) (c : ClassEntry) (cs : List ClassEntry) (f : LoadFault) → StopsIn f.file f.cause (in_file c.file (template_in files c.file)) → StopsIn f.file f.cause (after_trees front (templates_in files (c ∷ cs)))
+pub templates_stop : (files : List Entry) (front : List Body) (c : ClassEntry) (cs : List ClassEntry) (f : LoadFault) → Stops (refusal f.file) f.cause (in_file c.file (template_in files c.file)) → Stops (refusal f.file) f.cause (after_trees front (templates_in files (c ∷ cs)))
 unfolding templates_in
 templates_stop files front c cs f h = stops_then f.file f.cause _ _ (stops_then f.file f.cause _ _ h)
 
@@ -73,3 +74,8 @@ whole_script files manifest script n parts is h = behind n (app_fetched files ma
 -- what is left at the place of a template
 pub got_tree : (trees : List Body) (i : ℕ) (t : Body) → Some t ≡ slice_get trees i → drop i trees ≡ t ∷ drop (i + 1) trees
 got_tree trees i t e = drop_item trees i t (slice_get_within trees i t (sym e)) (sym (get_or_from_slice_get trees i t t (sym e)))
+
+-- each is spelled by some bytes
+pub each_template : (ts : List Body) → ∥ Each IsTemplate ts ∥₁ → Each IsTemplate ts
+each_template [] h = tt
+each_template (t ∷ ts) h = (∥∥₁_elim h ∥∥₁_prop (λ all. all.0), each_template ts (∥∥₁_map h (λ all. all.1)))

@@ -5,6 +5,7 @@ use Rattle.std.specs.Str.{bytes_eq}
 use Rattle.gl_base.specs.Texts.{Text, bytes_of}
 use Rattle.gl_ast.specs.Template.{Plain, Body}
 use Rattle.gl_outside.specs.Shelf.{Entry, file_of}
+use Rattle.gl_parse.specs.FaultPlace.{template_place}
 use Rattle.gl_parse.specs.ReadStmt.{template_of, expression_of}
 use Rattle.gl_cycles.specs.Through.{cycle_of}
 use Rattle.gl_meaning.specs.App.{Event}
@@ -28,14 +29,14 @@ kept limit (Some bytes) = if nat_le (length bytes) limit then Ok bytes else Err 
 unfoldable pub small_file : List Entry → Text → Result (List ℕ) Cause
 small_file files name = kept most (file_of files (bytes_of name))
 
--- the tree that the bytes of a template spell
+-- the tree that the bytes of a template spell, or the place at which they leave the grammar
 abbrev pub spelled : ℕ → Option Body → Result Body Cause
-spelled size None = Err (not_in_grammar size)
-spelled size (Some tree) = Ok tree
+spelled place None = Err (not_in_grammar place)
+spelled place (Some tree) = Ok tree
 
 -- the tree that the file of a template spells
 unfoldable pub template_in : List Entry → Text → Result Body Cause
-template_in files name = small_file files name >>= λ bytes. spelled (length bytes) (template_of bytes)
+template_in files name = small_file files name >>= λ bytes. spelled (template_place bytes) (template_of bytes)
 
 -- the templates of these classes, one after another
 unfoldable pub templates_in : List Entry → List ClassEntry → Result (List Body) Refusal

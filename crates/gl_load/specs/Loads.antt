@@ -11,47 +11,33 @@ use Rattle.gl_load.specs.declared.fault.LoadFault.{LoadFault}
 abbrev pub one_too_many : ℕ
 one_too_many = 16777217
 
--- The cause is that of the file; the place in a template that is not in the grammar is within it. Want of memory and a
--- read fault may come at any point.
-abbrev pub Stops : {X : Type 0} → LoadCause → Result X Cause → Type 0
-Stops v.Absent out = out ≡ Err absent
-Stops (v.TooLong taken) out = (out ≡ Err too_long) × (taken ≡ one_too_many)
-Stops v.BadJson out = out ≡ Err not_json
-Stops (v.BadShape pointer) out = out ≡ Err (bad_shape pointer)
-Stops (v.BadExpression pointer) out = out ≡ Err (bad_expression pointer)
-Stops (v.NotInGrammar offset) out = (size : ℕ) × (out ≡ Err (not_in_grammar size)) × (offset ≤ size)
-Stops (v.UnknownName kind name) out = out ≡ Err (unknown_name (kind_view kind) name)
-Stops (v.GetterCycle class getter) out = out ≡ Err (getter_cycle class getter)
-Stops (v.UnknownField index name) out = out ≡ Err (unknown_field index name)
-Stops v.ReadFault out = Unit {0}
-Stops v.Memory out = Unit {0}
+-- The cause is that of the file, said as `told` says it, alone or with the name of the file. Want of memory and a read fault may come at
+-- any point.
+abbrev pub Stops : {X E : Type 0} → (Cause → E) → LoadCause → Result X E → Type 0
+Stops told v.Absent out = out ≡ Err (told absent)
+Stops told (v.TooLong taken) out = (out ≡ Err (told too_long)) × (taken ≡ one_too_many)
+Stops told v.BadJson out = out ≡ Err (told not_json)
+Stops told (v.BadShape pointer) out = out ≡ Err (told (bad_shape pointer))
+Stops told (v.BadExpression pointer) out = out ≡ Err (told (bad_expression pointer))
+Stops told (v.NotInGrammar offset) out = out ≡ Err (told (not_in_grammar offset))
+Stops told (v.UnknownName kind name) out = out ≡ Err (told (unknown_name (kind_view kind) name))
+Stops told (v.GetterCycle class getter) out = out ≡ Err (told (getter_cycle class getter))
+Stops told (v.UnknownField index name) out = out ≡ Err (told (unknown_field index name))
+Stops told v.ReadFault out = Unit {0}
+Stops told v.Memory out = Unit {0}
 
 -- What a call gave of a file, seen by view, is what the file gives.
 abbrev pub Gives : {X Y : Type 0} → (X → Y) → Result X LoadCause → Result Y Cause → Type 0
 Gives view (Ok x) out = out ≡ Ok (view x)
-Gives view (Err cause) out = Stops cause out
+Gives view (Err cause) out = Stops (λ c. c) cause out
 
 abbrev pub refusal : Text → Cause → Refusal
 refusal name cause = record { file = name; cause = cause }
 
--- the same of a file with its name
-abbrev pub StopsIn : {X : Type 0} → Text → LoadCause → Result X Refusal → Type 0
-StopsIn name v.Absent out = out ≡ Err (refusal name absent)
-StopsIn name (v.TooLong taken) out = (out ≡ Err (refusal name too_long)) × (taken ≡ one_too_many)
-StopsIn name v.BadJson out = out ≡ Err (refusal name not_json)
-StopsIn name (v.BadShape pointer) out = out ≡ Err (refusal name (bad_shape pointer))
-StopsIn name (v.BadExpression pointer) out = out ≡ Err (refusal name (bad_expression pointer))
-StopsIn name (v.NotInGrammar offset) out = (size : ℕ) × (out ≡ Err (refusal name (not_in_grammar size))) × (offset ≤ size)
-StopsIn name (v.UnknownName kind unknown) out = out ≡ Err (refusal name (unknown_name (kind_view kind) unknown))
-StopsIn name (v.GetterCycle class getter) out = out ≡ Err (refusal name (getter_cycle class getter))
-StopsIn name (v.UnknownField index field) out = out ≡ Err (refusal name (unknown_field index field))
-StopsIn name v.ReadFault out = Unit {0}
-StopsIn name v.Memory out = Unit {0}
-
 -- What a call loaded, seen by view, is what the files give.
 abbrev pub Loads : {X Y : Type 0} → (X → Y) → Result X LoadFault → Result Y Refusal → Type 0
 Loads view (Ok x) out = out ≡ Ok (view x)
-Loads view (Err fault) out = StopsIn fault.file fault.cause out
+Loads view (Err fault) out = Stops (refusal fault.file) fault.cause out
 
 -- the fault has the cause, and the file has the name; or memory is wanting
 abbrev pub IsFaultIn : Text → LoadCause → LoadFault → Type 0

@@ -12,7 +12,7 @@ pub data Cause : Type 0 where
   bad_shape : Text → Cause
   -- the pointer of the first text that spells no expression
   bad_expression : Text → Cause
-  -- a template of so many bytes, which no grammar has
+  -- the place at which a template leaves the grammar
   not_in_grammar : ℕ → Cause
   -- what was to have the name, and the name, which is not known
   unknown_name : Kind → Text → Cause

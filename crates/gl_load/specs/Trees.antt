@@ -1,5 +1,5 @@
 -- The trees of templates.
-use Rattle.std.specs.Prelude.{List, [], ◌∷◌, map, ◌++◌, Option, Some, None, Result, Ok}
+use Rattle.std.specs.Prelude.{List, map, ◌++◌, Result, Ok}
 use Rattle.gl_ast.specs.Template.{Body, body_of}
 use Rattle.gl_ast.specs.declared.template.Template.{Template}
 use Rattle.gl_load.specs.Refusal.{Refusal, ◌>>=◌}
@@ -13,8 +13,3 @@ seen_templates ts = map tree_of ts
 -- the templates that are loaded, and then those that are left
 abbrev pub after_trees : List Body → Result (List Body) Refusal → Result (List Body) Refusal
 after_trees front rest = rest >>= λ trees. Ok (front ++ trees)
-
--- the template that is alone
-abbrev pub lone_tree : List Body → Option Body
-lone_tree (tree ∷ []) = Some tree
-lone_tree _ = None

@@ -17,7 +17,7 @@ ghost use Rattle.gl_load.specs.Loads.{Gives, Loads, HasCause, FailsAmong};
 ghost use Rattle.gl_load.specs.Refusal.{in_file};
 ghost use Rattle.gl_load.specs.Spelled.{IsSpelledManifest};
 ghost use Rattle.gl_load.specs.View.{app_view};
-ghost use Rattle.gl_opc.specs.Programs.{LowersApp};
+ghost use Rattle.gl_opc.specs.IsApp.{IsAppWith};
 ghost use Rattle.gl_load.specs.declared.fault.LoadCause.TheVariants.{ReadFault};
 
 use crate::classes::templates_in;
@@ -137,7 +137,7 @@ fn checked(
     ensures told { Loads app_view result (checked (chars name.now) (manifest_view manifest) templates) }
     ensures causes { IfErr result (λ f. (misses misses_now faults faults_now : ℕ) → HasCause f.cause misses misses_now faults faults_now) }
     ensures named { IfErr result (λ f. (names : List Text) → FailsAmong f.cause f.file names) }
-    ensures lowered { IfOk result (λ a. LowersApp (manifest_view a.app.manifest) a.templates a.app.programs) }
+    ensures made { IfOk result (λ a. IsAppWith (manifest_view a.app.manifest) a.templates a.app.programs) }
 {
     let programs = programs_of(alloc, name, &manifest, &templates)?;
     no_cycle(alloc, name, &manifest)?;
@@ -159,7 +159,7 @@ pub fn load_app<S: Shelf>(
 ) -> Result<Application, LoadFault>
     ensures keeps { S.holds shelf.new ≡ S.holds shelf.old }
     ensures told { (files : List Entry) → S.holds shelf.old ≡ Some files → Loads app_view result (app_in files (chars manifest.now)) }
-    ensures lowered { IfOk result (λ a. LowersApp (manifest_view a.app.manifest) a.templates a.app.programs) }
+    ensures made { IfOk result (λ a. IsAppWith (manifest_view a.app.manifest) a.templates a.app.programs) }
     ensures causes { IfErr result (λ f. HasCause f.cause (S.misses shelf.old) (S.misses shelf.new) (S.faults shelf.old) (S.faults shelf.new)) }
     ensures named { (files : List Entry) → S.holds shelf.old ≡ Some files
         → IfErr result (λ f. FailsAmong f.cause f.file (app_fetched files (chars manifest.now))) }

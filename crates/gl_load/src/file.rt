@@ -6,6 +6,7 @@ ghost use Rattle.gl_ast.specs.Template.{body_of};
 ghost use Rattle.gl_outside.specs.Shelf.{Entry};
 ghost use Rattle.gl_parse.specs.ReadStmt.{template_of};
 ghost use Rattle.gl_load.specs.Load.{small_file, spelled, template_in};
+ghost use Rattle.gl_parse.specs.FaultPlace.{template_place};
 ghost use Rattle.gl_load.specs.Loads.{Gives, HasCause};
 
 use crate::LoadCause;
@@ -43,7 +44,7 @@ pub fn fetch_small<S: Shelf>(alloc: Global, shelf: &mut S, name: &str) -> Result
 
 // The template that the bytes spell.
 fn spelled(alloc: Global, bytes: &[u8]) -> Result<Template, LoadCause>
-    ensures told { Gives (λ t. body_of t.body) result (spelled (length bytes.now) (template_of bytes.now)) }
+    ensures told { Gives (λ t. body_of t.body) result (spelled (template_place bytes.now) (template_of bytes.now)) }
     ensures causes { IfErr result (λ e. (misses misses_now faults faults_now : ℕ) → HasCause e misses misses_now faults faults_now) }
 {
     match template(alloc, bytes) {

@@ -2,7 +2,7 @@
 ghost use Rattle.std.specs.Prelude.{◌≡◌, ◌↔◌, [], ◌∷◌, ◌++◌, IsTrue, OnOk, OnErr, length, option_map, slice_get};
 ghost use Rattle.gl_ast.specs.Grammar.{IsTemplate};
 ghost use Rattle.gl_meaning.specs.ManifestRules.{Each};
-ghost use Rattle.gl_load.specs.Trees.{tree_of, seen_templates, lone_tree};
+ghost use Rattle.gl_load.specs.Trees.{tree_of, seen_templates};
 
 use gl_ast::Template;
 use std::alloc::{AllocError, Global};
@@ -83,13 +83,5 @@ impl Templates {
         ensures { ∥ Each IsTemplate self.now ∥₁ }
     {
         let _ = &self.list;
-    }
-
-    /// The template that is alone in the list. It takes no memory.
-    pub fn into_only(self) -> Option<Template>
-        ensures { option_map tree_of result ≡ lone_tree self }
-    {
-        let mut list = self.list;
-        if list.len() == 1 { list.pop() } else { None }
     }
 }

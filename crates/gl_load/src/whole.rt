@@ -3,7 +3,7 @@ ghost use Rattle.std.specs.Prelude.{◌≡◌, ◌≤◌, List, Some, IfOk, IfEr
 ghost use Rattle.std.specs.Str.{chars};
 ghost use Rattle.gl_outside.specs.Shelf.{Entry};
 ghost use Rattle.gl_meaning.specs.View.{manifest_view, class_view, script_view};
-ghost use Rattle.gl_opc.specs.Programs.{LowersApp};
+ghost use Rattle.gl_opc.specs.IsApp.{IsAppWith};
 ghost use Rattle.gl_script.specs.ScriptOver.{IsScriptOver};
 ghost use Rattle.gl_load.specs.Load.{class_named, root_fields, whole_in, whole_fetched};
 ghost use Rattle.gl_load.specs.Loads.{Loads, HasCause, FailsAmong};
@@ -48,7 +48,7 @@ pub fn load<S: Shelf>(
     ensures keeps { S.holds shelf.new ≡ S.holds shelf.old }
     ensures told { (files : List Entry) → S.holds shelf.old ≡ Some files
         → Loads whole_view result (whole_in files (chars manifest.now) (chars script.now)) }
-    ensures lowered { IfOk result (λ a. LowersApp (manifest_view a.app.manifest) a.templates a.app.programs) }
+    ensures made { IfOk result (λ a. IsAppWith (manifest_view a.app.manifest) a.templates a.app.programs) }
     ensures over { IfOk result (λ a. IsScriptOver (root_fields (manifest_view a.app.manifest)) (script_view a.script)) }
     ensures causes { IfErr result (λ f. HasCause f.cause (S.misses shelf.old) (S.misses shelf.new) (S.faults shelf.old) (S.faults shelf.new)) }
     ensures named { (files : List Entry) → S.holds shelf.old ≡ Some files

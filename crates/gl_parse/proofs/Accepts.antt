@@ -1,5 +1,5 @@
 -- Tokens that meet what is due are just those that a reader reads.
-use Rattle.std.proofs.Common.{◌≡◌, ◌≤◌, ◌<◌, ◌-◌, ℕ, zero, suc, List, [], ◌∷◌, ◌++◌, Bool, true, false, not, ◌&&◌, ◌||◌, Option, Some, None, length, drop, refl, sym, ap, ◌∙◌, subst, append_assoc, arith}
+use Rattle.std.proofs.Common.{◌≡◌, ◌≤◌, ◌-◌, ℕ, zero, suc, List, [], ◌∷◌, ◌++◌, Bool, true, false, not, ◌&&◌, ◌||◌, Option, Some, None, length, refl, sym, ap, ◌∙◌, append_assoc, arith}
 use Rattle.std.specs.Prelude.{if◌then◌else◌, option_map, unwrap_or, is_some, ◌==◌}
 use Rattle.std.proofs.lemmas.Bool.Decides.{nat_tests}
 use Rattle.gl_base.specs.Answers.{◌>>=◌}
@@ -9,14 +9,14 @@ use Rattle.gl_ast.specs.Template.{Expr, bare, exprs_of, named_of, call}
 use Rattle.gl_ast.specs.declared.token.Token.{Token}
 use Rattle.gl_ast.specs.declared.token.TokenKind.{TokenKind}
 use Rattle.gl_ast.specs.declared.token.TokenKind.TheVariants as k
-use Rattle.gl_exprs.specs.ReadExpr.{token_expr, read_token, read_name, read_pair, read_exprs, read_named, read_arguments, read_call, read_expr, starts_expr, stands_name, stands_named, is_lone, path_expr}
+use Rattle.gl_exprs.specs.ReadExpr.{token_expr, read_token, read_name, read_pair, read_exprs, read_named, read_arguments, read_call, read_expr, starts_expr, stands_name, stands_named, is_lone}
 use Rattle.gl_parse.specs.ReadStmt.{whole, nothing_left, read_lone}
 use Rattle.gl_exprs.specs.Take.{Taken, same_kind, stands, take_kind, read_many}
-use Rattle.gl_exprs.proofs.Firsts.{same_kind-is, same_kind-self, is_other}
+use Rattle.gl_exprs.proofs.Firsts.{same_kind-is, is_other}
 use Rattle.gl_exprs.proofs.ExprLaws.{reads_expr}
 use Rattle.gl_exprs.proofs.NameLaws.{read_name_is}
 use Rattle.gl_exprs.proofs.Shorter.{kind_shorter, expr_shorter}
-use Rattle.gl_parse.specs.Due.{Due, Dues, kind, word, expr, called, arguments, after_name, named, and_then, step, is_done, due_after, starts_one, starts_arguments, starts_after_name, starts_called, starts_named, is_lone_path, is_operand, after_paren, expression_due}
+use Rattle.gl_parse.specs.Due.{Due, Dues, kind, expr, called, arguments, after_name, named, and_then, step, is_done, due_after, starts_one, starts_arguments, starts_after_name, starts_called, starts_named, is_lone_path, after_paren, expression_due}
 
 -- the tokens are all that is due, and nothing more
 abbrev pub accepts : List Due → List Token → Bool
@@ -98,7 +98,7 @@ after_named calls end n ts = rest (read_many stands_name (read_pair (read_expr c
 pub after_arguments : ℕ → TokenKind → ℕ → List Token → Option (List Token)
 after_arguments calls end n ts = rest (read_many starts_expr (read_expr calls) n ts) >>= λ us. after_named calls end (length us) us
 
-pub read_to : ℕ → TokenKind → List Token → Option (List Token)
+unfoldable pub read_to : ℕ → TokenKind → List Token → Option (List Token)
 read_to calls end ts = rest (read_arguments (read_expr calls) ts) >>= λ us. rest (take_kind end us)
 
 assoc : (o : Option (List Token)) (f g : List Token → Option (List Token)) → ((o >>= f) >>= g) ≡ (o >>= λ us. (f us >>= g))
@@ -128,6 +128,9 @@ paren_last = record { path = refl; number = refl; string = refl; opening = refl 
 pub mustache_last : IsLast k.CloseMustache
 mustache_last = record { path = refl; number = refl; string = refl; opening = refl }
 
+pub parameters_last : IsLast k.Parameters
+parameters_last = record { path = refl; number = refl; string = refl; opening = refl }
+
 -- named arguments
 abbrev EatsNamed : ℕ → TokenKind → Type 0
 EatsNamed calls end = (n : ℕ) (ds : List Due) (ts : List Token) → length ts ≤ n → accepts (named calls end ∷ ds) ts ≡ goes ds (after_named calls end n ts)
@@ -150,7 +153,7 @@ lone_both t e = by_kind (same_kind t.kind k.Path) (is_lone t.text) e where
   by_kind true b f = (refl, f)
   by_kind false b f = let r : ⊥ = cc in absurd r
 
-name_rest : (t : Token) (ts : List Token) → is_lone_path t ≡ true → rest (read_name (t ∷ ts)) ≡ Some ts
+pub name_rest : (t : Token) (ts : List Token) → is_lone_path t ≡ true → rest (read_name (t ∷ ts)) ≡ Some ts
 unfolding read_name take_kind
 name_rest t ts e = let b = lone_both t e in rw (b.0, b.1) refl
 
@@ -162,7 +165,7 @@ name_none t ts e = by_kind (same_kind t.kind k.Path) (is_lone t.text) refl refl 
   by_kind true false f g h = rw (f, g) refl
   by_kind false b f g h = rw f refl
 
-stands_is : (t : Token) (ts : List Token) → stands_name (t ∷ ts) ≡ is_lone_path t
+pub stands_is : (t : Token) (ts : List Token) → stands_name (t ∷ ts) ≡ is_lone_path t
 unfolding stands_name
 stands_is t ts = refl
 
@@ -368,6 +371,14 @@ eats_arguments calls end last one (suc n) ds (t ∷ ts) h =
           fed_then (arguments calls end) (starts_one calls t) ds ts ∙ sym (accepts_step (expr calls) (arguments calls end ∷ ds) t ts) ∙ one (arguments calls end ∷ ds) (t ∷ ts)
           ∙ by_start (starts_expr (t ∷ ts)) e f refl more
 
+-- arguments up to a token that ends them
+pub eats_to : (calls : ℕ) (end : TokenKind) → IsLast end → EatsExpr calls → Eats (arguments calls end) (read_to calls end)
+eats_to calls end last one ds ts = let h : length ts ≤ length ts = omega arith in eats_arguments calls end last one (length ts) ds ts h ∙ ap (goes ds) (sym (read_to_is calls end ts))
+
+-- a token that ends arguments begins no expression
+pub no_expr_at : (calls : ℕ) (end : TokenKind) (t : Token) (ts : List Token) → IsLast end → same_kind t.kind end ≡ true → rest (read_expr calls (t ∷ ts)) ≡ None
+no_expr_at calls end t ts last e = no_start_none calls t ts (end_no_name end t last e) (end_no_start end t ts last e)
+
 name_nothing : rest (read_name []) ≡ None
 unfolding read_name take_kind
 name_nothing = refl
@@ -377,9 +388,7 @@ unfolding due_after starts_called
 eats_called calls end last one ds [] = ap (λ o. goes ds (o >>= read_to calls end)) (sym name_nothing)
 eats_called calls end last one ds (t ∷ ts) = accepts_step (called calls end) ds t ts ∙ by_name (is_lone_path t) refl where
   by_name : (b : Bool) → is_lone_path t ≡ b → fed (if b then Some (arguments calls end ∷ []) else None) ds ts ≡ goes ds (rest (read_name (t ∷ ts)) >>= read_to calls end)
-  by_name true e =
-      let h : length ts ≤ length ts = omega arith in
-      eats_arguments calls end last one (length ts) ds ts h ∙ ap (goes ds) (sym (read_to_is calls end ts)) ∙ ap (λ o. goes ds (o >>= read_to calls end)) (sym (name_rest t ts e))
+  by_name true e = eats_to calls end last one ds ts ∙ ap (λ o. goes ds (o >>= read_to calls end)) (sym (name_rest t ts e))
   by_name false e = ap (λ o. goes ds (o >>= read_to calls end)) (sym (name_none t ts e))
 
 call_rest : (calls : ℕ) (ts : List Token) → rest (read_call (read_expr calls) ts) ≡ (rest (take_kind k.OpenParen ts) >>= λ us. (rest (read_name us) >>= read_to calls k.CloseParen))
@@ -423,6 +432,12 @@ suc_fed true calls t ds ts e one =
     rw (stands_first k.OpenParen t ts ∙ e) (ap (λ o. fed o ds ts) (paren_starts (suc calls) t e) ∙ some_calls calls ds ts ∙ eats_called calls k.CloseParen paren_last one ds ts
     ∙ ap (goes ds) (sym (call_rest calls (t ∷ ts) ∙ ap (λ o. o >>= λ us. (rest (read_name us) >>= read_to calls k.CloseParen)) (end_rest k.OpenParen t ts ∙ ap (λ x. if x then Some ts else None) e))))
 suc_fed false calls t ds ts e one = rw (stands_first k.OpenParen t ts ∙ e) (other_fed (suc calls) t ds ts e)
+
+-- no tokens are no expression
+pub no_expr_left : (calls : ℕ) → rest (read_expr calls []) ≡ None
+unfolding read_expr
+no_expr_left zero = token_nothing
+no_expr_left (suc calls) = paren_nothing calls
 
 -- an expression
 pub eats_expr : (calls : ℕ) → EatsExpr calls

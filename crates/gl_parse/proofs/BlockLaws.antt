@@ -33,10 +33,10 @@ SoundHead depth chained = (ts : List Token) (p : Stmt × List Token) → chained
 abbrev pub SoundElse : ℕ → Reader Body → Type 0
 SoundElse depth otherwise = (ts : List Token) (p : Body × List Token) → otherwise ts ≡ Some p → IsOtherwise depth ts p.0 p.1
 
-at_most : (a b : ℕ) → nat_le a b ≡ true → a ≤ b
+pub at_most : (a b : ℕ) → nat_le a b ≡ true → a ≤ b
 at_most a b e = grind (arith, nat_tests)
 
-within : (a b : ℕ) → a ≤ b → nat_le a b ≡ true
+pub within : (a b : ℕ) → a ≤ b → nat_le a b ≡ true
 within a b e = grind (arith, nat_tests)
 
 no_path_no_word : (w : Text) (ts : List Token) → stands k.Path ts ≡ false → stands_word w ts ≡ false
@@ -327,16 +327,16 @@ is_block (each e key ns b c) = true
 is_block (let_stmt es ns b) = true
 is_block s = false
 
-abbrev IsBlock : ℕ → List Token → Stmt → List Token → Type 0
+abbrev pub IsBlock : ℕ → List Token → Stmt → List Token → Type 0
 IsBlock depth ts s us = (vs ws : List Token) × Mark k.OpenBlock ts vs × IsHead (suc depth) vs s ws × IsClosing ws (word_of s) us
 
-block_stmt : (depth : ℕ) (ts : List Token) (s : Stmt) (us : List Token) → IsBlock depth ts s us → IsStmt (suc depth) ts s us
+pub block_stmt : (depth : ℕ) (ts : List Token) (s : Stmt) (us : List Token) → IsBlock depth ts s us → IsStmt (suc depth) ts s us
 block_stmt depth ts (if_stmt e unless b c) us h = h
 block_stmt depth ts (each e key ns b c) us h = h
 block_stmt depth ts (let_stmt es ns b) us h = h
 block_stmt depth ts s us h = absurd (h.3)
 
-stmt_block : (depth : ℕ) (ts : List Token) (s : Stmt) (us : List Token) → is_block s ≡ true → IsStmt (suc depth) ts s us → IsBlock depth ts s us
+pub stmt_block : (depth : ℕ) (ts : List Token) (s : Stmt) (us : List Token) → is_block s ≡ true → IsStmt (suc depth) ts s us → IsBlock depth ts s us
 stmt_block depth ts (if_stmt e unless b c) us f h = h
 stmt_block depth ts (each e key ns b c) us f h = h
 stmt_block depth ts (let_stmt es ns b) us f h = h

@@ -76,7 +76,7 @@ yield_none : (o t : Token) (us : List Token) → o.kind ≡ k.OpenMustache → t
 unfolding read_mustache read_inner read_called read_expr read_token token_expr path_expr stands_name take_kind stands constant_of
 yield_none o t us a b c = rw (a, b, c) refl
 
-never_true : (b : Bool) → (b ≡ true → ⊥) → b ≡ false
+pub never_true : (b : Bool) → (b ≡ true → ⊥) → b ≡ false
 never_true true h = absurd (h refl)
 never_true false h = refl
 

@@ -8,7 +8,6 @@ use Rattle.gl_base.specs.Answers.{◌>>=◌}
 use Rattle.gl_base.specs.Texts.{bytes_of}
 use Rattle.gl_ast.specs.Modes.{Found, token, spaced}
 use Rattle.gl_ast.specs.Settling.{settled, settle_from, settled_token, within_tag, edge_after, is_text, kept, next_edge}
-use Rattle.gl_ast.specs.Template.{Body, Expr}
 use Rattle.gl_ast.specs.TokenReading.{width, token_at, stands_white, template_tokens, lone_tokens, read_from}
 use Rattle.gl_ast.specs.declared.edge.Edge.{Edge}
 use Rattle.gl_ast.specs.declared.edge.Edge.TheVariants.{Keep}

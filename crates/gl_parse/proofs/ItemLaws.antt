@@ -1,5 +1,5 @@
 -- The items of a tag are read exactly where they stand.
-use Rattle.std.proofs.Common.{◌≡◌, inl, inr, ◌≤◌, ℕ, List, [], ◌∷◌, Bool, true, false, Some, length, map, drop, refl, ap, ◌∙◌, subst, arith}
+use Rattle.std.proofs.Common.{◌≡◌, inl, inr, ◌≤◌, ◌<◌, ℕ, List, [], ◌∷◌, Bool, true, false, Some, length, map, drop, refl, sym, ap, ◌∙◌, subst, arith}
 use Rattle.std.specs.Prelude.{if◌then◌else◌, ◌&&◌, ◌||◌, ◌==◌}
 use Rattle.std.proofs.lemmas.Bool.Decides.{nat_tests}
 use Rattle.std.proofs.lemmas.Option.{cond_some, option_and_then_some, same_Some}
@@ -29,6 +29,10 @@ abbrev pub IsAllowed : Bool → Item → Type 0
 IsAllowed component (part_item p) = Unit {0}
 IsAllowed component (argument_item n v) = component ≡ true
 
+abbrev pub AreAllowed : Bool → List Item → Type 0
+AreAllowed component [] = Unit {0}
+AreAllowed component (i ∷ is) = IsAllowed component i × AreAllowed component is
+
 -- an item, which may stand there
 abbrev IsFound : Bool → List Token → Item → List Token → Type 0
 IsFound component ts i us = IsItem ts i us × IsAllowed component i
@@ -40,7 +44,7 @@ attribute_is component ts x e = option_and_then_some _ _ x e (λ name p e1. opti
     subst (λ (y : Item × List Token). IsFound component ts y.0 y.1) (same_Some {A = Item × List Token} (part_item (attribute name.0 value.0), value.1) x last)
     ((name.1, (f.token, f.here, f.is_kind, f.is_text), read_given_is name.1 value q), tt)))
 
-at_sign : (n : Text) → leads (λ c. c == 64) n ≡ true → n ≡ 64 ∷ drop 1 n
+pub at_sign : (n : Text) → leads (λ c. c == 64) n ≡ true → n ≡ 64 ∷ drop 1 n
 at_sign [] e = absurd cc
 at_sign (c ∷ cs) e = let same : c ≡ 64 = grind (arith, nat_tests) in ap (λ x. x ∷ cs) same
 
@@ -93,7 +97,7 @@ item_is component ts x s e = item_case (stands k.Attribute ts) (stands k.OpenMus
 
 -- What stands there as an item is read.
 
-abbrev Follow : List Token → Type 0
+abbrev pub Follow : List Token → Type 0
 Follow us = stands k.Equals us ≡ false
 
 reads_attribute : (ts : List Token) (n : Text) (x : AttrValue) (us : List Token) → IsItem ts (part_item (attribute n x)) us → Follow us → read_attribute ts ≡ Some (part_item (attribute n x), us)
@@ -175,6 +179,12 @@ before_comments (t ∷ ts) f = by_kind (is_comment t.kind) refl f where
   by_kind true e g = comment_kind t.kind e
   by_kind false e g = g
 
+-- no `=` stands before items where none stands after them
+pub items_follow : (component : Bool) (ts : List Token) (is : List Item) (us : List Token) → AreItems ts is us → AreAllowed component is → Follow us → Follow ts
+items_follow component ts [] us h a f = before_comments ts (subst Follow (sym h) f)
+items_follow component ts (i ∷ is) us h a f =
+    before_comments ts (reads_item component (after_comments ts) i h.0 a.0 h.1 (items_follow component h.0 is us h.2 a.1 f)).other
+
 next_read : (component : Bool) (ts : List Token) (i : Item) (us : List Token) → IsNext component ts i us → Follow us → IsRead (starts_next component) read_next Follow ts i us
 next_read component ts i us h f =
     let r = reads_item component (after_comments ts) i us h.1 h.0 f in
@@ -189,14 +199,14 @@ given_leave ts x us (inr h) =
     let g = value_shorter h.0 (x, us) (reads_value h.0 x us h.2) in
     omega arith
 
-item_leaves : (ts : List Token) (i : Item) (us : List Token) → IsItem ts i us → length us ≤ length ts
-item_leaves ts (part_item (attribute n x)) us h =
+pub item_falls : (ts : List Token) (i : Item) (us : List Token) → IsItem ts i us → length us < length ts
+item_falls ts (part_item (attribute n x)) us h =
     let f : length ts ≡ length (h.1.0 ∷ h.0) = ap length h.1.1 in
     let g = given_leave h.0 x us h.2 in
     omega arith
-item_leaves ts (part_item (modifier n es ns)) us h = let f = modifier_shorter ts (part_item (modifier n es ns), us) (reads_modifier ts h.0 h.1 us n es ns h.2 h.3 h.4) in omega arith
-item_leaves ts (part_item spread) us h = let f : length ts ≡ length (h.0 ∷ us) = ap length h.1 in omega arith
-item_leaves ts (argument_item n x) us h =
+item_falls ts (part_item (modifier n es ns)) us h = let f = modifier_shorter ts (part_item (modifier n es ns), us) (reads_modifier ts h.0 h.1 us n es ns h.2 h.3 h.4) in omega arith
+item_falls ts (part_item spread) us h = let f : length ts ≡ length (h.0 ∷ us) = ap length h.1 in omega arith
+item_falls ts (argument_item n x) us h =
     let f : length ts ≡ length (h.1.0 ∷ h.0) = ap length h.1.1 in
     let g = given_leave h.0 x us h.2 in
     omega arith
@@ -205,15 +215,11 @@ pub items_leave : (ts : List Token) (is : List Item) (us : List Token) → AreIt
 items_leave ts [] us h = let f = comments_leave ts in let g : length (after_comments ts) ≡ length us = ap length h in omega arith
 items_leave ts (i ∷ is) us h =
     let f = comments_leave ts in
-    let g = item_leaves (after_comments ts) i h.0 h.1 in
+    let g = item_falls (after_comments ts) i h.0 h.1 in
     let j = items_leave h.0 is us h.2 in
     omega arith
 
 -- Items, as a chain and the comments after it.
-
-abbrev pub AreAllowed : Bool → List Item → Type 0
-AreAllowed component [] = Unit {0}
-AreAllowed component (i ∷ is) = IsAllowed component i × AreAllowed component is
 
 items_chain : (component : Bool) (ts : List Token) (is : List Item) (us : List Token) → AreItems ts is us → AreAllowed component is → (ws : List Token) × Chain (IsNext component) ts is ws × (after_comments ws ≡ us)
 items_chain component ts [] us h a = (ts, refl, h)

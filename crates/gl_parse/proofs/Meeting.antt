@@ -1,5 +1,5 @@
 -- Laws of what tokens leave due.
-use Rattle.std.proofs.Common.{◌≡◌, List, [], ◌∷◌, ◌++◌, Bool, true, false, Option, Some, None, Result, Ok, Err, length, map, refl, sym, ap, ◌∙◌, append_assoc, append-nil, arith, rules}
+use Rattle.std.proofs.Common.{◌≡◌, List, [], ◌∷◌, ◌++◌, Bool, true, false, Some, None, Result, Ok, Err, length, map, refl, sym, ap, ◌∙◌, append_assoc, arith}
 use Rattle.std.specs.Prelude.{IfOk, if◌then◌else◌, reverse, option_map}
 use Rattle.std.proofs.lemmas.List.{map-append, reverse-append}
 use Rattle.gl_parse.specs.Due as d

@@ -1,25 +1,30 @@
--- The place that is told of an expression is its place.
-use Rattle.std.proofs.Common.{◌≡◌, ◌-◌, ℕ, List, [], ◌∷◌, ◌++◌, Bool, true, false, inl, inr, Option, Some, None, length, refl, sym, ap, ◌∙◌, subst, append_assoc, append-nil}
-use Rattle.std.specs.Prelude.{if◌then◌else◌, option_map, unwrap_or, is_some, codes, ◌==◌}
+-- The places that are told of a template and of an expression are their places.
+use Rattle.std.proofs.Common.{◌≡◌, ◌⊎◌, ℕ, List, [], ◌∷◌, ◌++◌, Bool, true, false, inl, inr, Some, None, length, refl, sym, ap, ◌∙◌, subst, append_assoc, append-nil}
+use Rattle.std.specs.Prelude.{if◌then◌else◌, option_map, unwrap_or, is_some}
+use Rattle.std.specs.Str.{is_utf8}
+use Rattle.std.specs.Str.Lossy.{utf8_valid_len}
 use Rattle.gl_base.specs.Answers.{◌>>=◌}
-use Rattle.gl_base.specs.Texts.{Text}
-use Rattle.gl_ast.specs.Grammar.{deepest_calls, IsExpr}
+use Rattle.gl_ast.specs.Grammar.{deepest_calls, deepest_nesting, IsExpr, AreStmts}
+use Rattle.gl_ast.specs.Settling.{settled}
 use Rattle.gl_ast.specs.Template.{Expr}
 use Rattle.gl_ast.specs.declared.mode.Mode.TheVariants as m
 use Rattle.gl_ast.specs.declared.token.Token.{Token}
-use Rattle.gl_ast.specs.declared.token.TokenKind.{TokenKind}
-use Rattle.gl_ast.specs.declared.token.TokenKind.TheVariants as k
 use Rattle.gl_lex.specs.Front.{front_from}
-use Rattle.gl_exprs.specs.ReadExpr.{token_expr, read_expr}
-use Rattle.gl_exprs.specs.Take.{same_kind}
-use Rattle.gl_exprs.proofs.Firsts.{same_kind-self}
-use Rattle.gl_parse.specs.Due.{Due, Dues, kind, word, expr, called, arguments, after_name, named, and_then, step, run, refused, place_of, due_after, starts_one, starts_arguments, starts_after_name, starts_called, starts_named, is_lone_path, is_operand, after_paren, expression_due}
-use Rattle.gl_parse.specs.FaultPlace.{stop_of, expression_place}
-use Rattle.gl_parse.specs.Place.{BeginsExpression, IsFaulty, IsPlaceAmong, IsExpressionPlace}
-use Rattle.gl_parse.specs.ReadStmt.{read_lone, whole}
-use Rattle.gl_parse.proofs.Accepts.{accepts, fed, accepts_step, IsLast, paren_last, accepts_expression}
+use Rattle.gl_lex.proofs.Continued.{some_of}
+use Rattle.gl_exprs.specs.ReadExpr.{read_expr}
+use Rattle.gl_parse.specs.Due.{Due, Dues, whole, step, run, refused, place_of, template_due, expression_due}
+use Rattle.gl_parse.specs.FaultPlace.{stop_of, text_place, template_place, expression_place}
+use Rattle.gl_parse.specs.Place.{BeginsTemplate, BeginsExpression, IsFaulty, IsPlaceAmong, IsTemplatePlace, IsExpressionPlace}
+use Rattle.gl_parse.specs.ReadStmt.{read_lone}
+use Rattle.gl_parse.proofs.Accepts.{accepts, accepts_expression}
+use Rattle.gl_parse.proofs.ContentFinds.{Content, finds_body}
+use Rattle.gl_parse.proofs.ContentWays.{passes_body}
 use Rattle.gl_parse.proofs.Lower.{read_expr_is, reads_expr}
 use Rattle.gl_parse.proofs.SpellsRead.{whole_is, is_whole}
+use Rattle.gl_parse.proofs.Stays.{AreIn, InIf, run_in, all_met, WholeIf, run_whole, whole_met}
+use Rattle.gl_parse.proofs.TagNames.{AreGood, front_good, settled_good}
+
+-- The first token that is refused.
 
 abbrev IsStuck : List Due → List Token → Type 0
 IsStuck ds [] = Unit {0}
@@ -56,127 +61,44 @@ accepts_run ds (t ∷ front) l ts e = by_step (step ds t) e (λ x f. accepts_run
 accepts_stuck : (ds : List Due) (t : Token) (ts : List Token) → step ds t ≡ None → accepts ds (t ∷ ts) ≡ false
 accepts_stuck ds t ts e = rw e refl
 
--- what is due in an expression
-abbrev IsEnd : TokenKind → Type 0
-IsEnd end = same_kind end k.Equals ≡ false
+-- tokens that were taken, then one that is refused, are not accepted
+refused_next : (ds front_due : List Due) (front : List Token) (t : Token) (rest : List Token) → run ds front ≡ Some front_due → step front_due t ≡ None → accepts ds ((front ++ t ∷ []) ++ rest) ≡ true → ⊥
+refused_next ds l front t rest runs stuck all =
+    let differs : accepts ds (front ++ t ∷ rest) ≡ false = accepts_run ds front l (t ∷ rest) runs ∙ accepts_stuck l t rest stuck in
+    let both : true ≡ false = sym all ∙ ap (accepts ds) (append_assoc front (t ∷ []) rest) ∙ differs in
+    cc
 
-abbrev InExpr : Due → Type 0
-InExpr (kind wanted) = Unit {0}
-InExpr (expr calls) = Unit {0}
-InExpr (called calls end) = IsEnd end
-InExpr (arguments calls end) = IsEnd end
-InExpr (after_name calls end) = IsEnd end
-InExpr (named calls end) = IsEnd end
-InExpr _ = ⊥
+good_front : (front left : List Token) → AreGood (front ++ left) → AreGood front
+good_front [] left good = tt
+good_front (t ∷ front) left good = (good.0, good_front front left good.1)
 
-abbrev AllIn : List Due → Type 0
-AllIn [] = Unit {0}
-AllIn (d ∷ ds) = InExpr d × AllIn ds
+-- What begins so, with what is due at first, has this place.
+record Begun (Begins : List Token → Type 0) (first : List Due) : Type 0 where
+  begins : (front : List Token) (l : List Due) → AreGood front → run first front ≡ Some l → Begins front
+  stops : (front : List Token) (l : List Due) (t : Token) → run first front ≡ Some l → step l t ≡ None → Begins (front ++ t ∷ []) → ⊥
 
-abbrev IsIn : Dues → Type 0
-IsIn None = Unit {0}
-IsIn (Some ds) = AllIn ds
+place_among : (Begins : List Token → Type 0) (first : List Due) → Begun Begins first → (list : List Token) (end : ℕ) → AreGood list → IsPlaceAmong Begins list end (place_of end (refused first list))
+place_among Begins first begun list end good = by_left (split first list) where
+  by_left : (s : Split first list) → IsPlaceAmong Begins list end (place_of end (refused first list))
+  by_left s = by_case s.left refl where
+    good_here : AreGood s.front
+    good_here = good_front s.front s.left (subst AreGood s.here good)
 
-if_in : (b : Bool) (x y : Dues) → IsIn x → IsIn y → IsIn (if b then x else y)
-if_in true x y p q = p
-if_in false x y p q = q
+    by_case : (us : List Token) → s.left ≡ us → IsPlaceAmong Begins list end (place_of end (refused first list))
+    by_case [] e =
+        let all : s.front ≡ list = sym (append-nil s.front) ∙ ap (λ us. s.front ++ us) (sym e) ∙ sym s.here in
+        inr (subst Begins all (begun.begins s.front s.due good_here s.runs), ap (place_of end) (s.is_left ∙ e))
+    by_case (t ∷ us) e = inl (record {
+      front = s.front;
+      token = t;
+      rest = us;
+      here = s.here ∙ ap (λ vs. s.front ++ vs) e;
+      begins = begun.begins s.front s.due good_here s.runs;
+      stops = begun.stops s.front s.due t s.runs (subst (IsStuck s.due) e s.stuck);
+      place = ap (place_of end) (s.is_left ∙ e);
+    })
 
-all_more : (ds es : List Due) → AllIn ds → AllIn es → AllIn (ds ++ es)
-all_more [] es p q = q
-all_more (d ∷ ds) es p q = (p.0, all_more ds es p.1 q)
-
-then_in : (d : Due) (o : Dues) → InExpr d → IsIn o → IsIn (and_then d o)
-then_in d None p q = tt
-then_in d (Some ds) p q = all_more ds (d ∷ []) q (p, tt)
-
-one_in : (calls : ℕ) (t : Token) → IsIn (starts_one calls t)
-unfolding starts_one
-one_in calls t =
-    if_in (same_kind t.kind k.OpenParen) (after_paren calls) (if is_operand t then Some [] else None)
-    (if_in (calls == 0) None (Some (called (calls - 1) k.CloseParen ∷ [])) tt (refl, tt)) (if_in (is_operand t) (Some []) None tt tt)
-
-arguments_in : (calls : ℕ) (end : TokenKind) (t : Token) → IsEnd end → IsIn (starts_arguments calls end t)
-unfolding starts_arguments
-arguments_in calls end t e =
-    if_in (same_kind t.kind end) (Some []) (if is_lone_path t then Some (after_name calls end ∷ []) else and_then (arguments calls end) (starts_one calls t)) tt
-    (if_in (is_lone_path t) (Some (after_name calls end ∷ [])) (and_then (arguments calls end) (starts_one calls t)) (e, tt) (then_in (arguments calls end) (starts_one calls t) e (one_in calls t)))
-
-after_in : (d : Due) (t : Token) → InExpr d → IsIn (due_after d t)
-unfolding due_after starts_after_name starts_called starts_named
-after_in (kind wanted) t e = if_in (same_kind t.kind wanted) (Some []) None tt tt
-after_in (expr calls) t e = one_in calls t
-after_in (called calls end) t e = if_in (is_lone_path t) (Some (arguments calls end ∷ [])) None (e, tt) tt
-after_in (arguments calls end) t e = arguments_in calls end t e
-after_in (after_name calls end) t e = if_in (same_kind t.kind k.Equals) (Some (expr calls ∷ named calls end ∷ [])) (starts_arguments calls end t) (tt, (e, tt)) (arguments_in calls end t e)
-after_in (named calls end) t e =
-    if_in (same_kind t.kind end) (Some []) (if is_lone_path t then Some (kind k.Equals ∷ expr calls ∷ named calls end ∷ []) else None) tt
-    (if_in (is_lone_path t) (Some (kind k.Equals ∷ expr calls ∷ named calls end ∷ [])) None (tt, (tt, (e, tt))) tt)
-after_in _ t e = absurd e
-
-step_in : (ds : List Due) (t : Token) → AllIn ds → IsIn (step ds t)
-step_in [] t p = tt
-step_in (d ∷ ds) t p = by_after (due_after d t) (after_in d t p.0) where
-  by_after : (o : Dues) → IsIn o → IsIn (option_map (λ l. l ++ ds) o)
-  by_after None q = tt
-  by_after (Some l) q = all_more l ds q p.1
-
-run_in : (ds : List Due) (ts : List Token) → AllIn ds → IsIn (run ds ts)
-run_in ds [] p = p
-run_in ds (t ∷ ts) p = by_step (step ds t) (step_in ds t p) (λ l. run_in l ts) where
-  by_step : (o : Dues) → IsIn o → ((l : List Due) → AllIn l → IsIn (run l ts)) → IsIn (o >>= λ l. run l ts)
-  by_step None q more = tt
-  by_step (Some l) q more = more l q
-
-abbrev token_of : TokenKind → Text → Token
-token_of wanted text = record { kind = wanted; start = 0; end = 0; text = text }
-
--- each can be met
-abbrev IsMet : Due → List Token → Type 0
-IsMet d ws = (ds : List Due) (ts : List Token) → accepts (d ∷ ds) (ws ++ ts) ≡ accepts ds ts
-
-met_kind : (wanted : TokenKind) → IsMet (kind wanted) (token_of wanted [] ∷ [])
-unfolding due_after
-met_kind wanted ds ts = accepts_step (kind wanted) ds (token_of wanted []) ts ∙ rw (same_kind-self wanted) refl
-
-met_expr : (calls : ℕ) → IsMet (expr calls) (token_of k.Number (codes "1") ∷ [])
-unfolding due_after starts_one token_expr
-met_expr calls ds ts = accepts_step (expr calls) ds (token_of k.Number (codes "1")) ts ∙ refl
-
-met_arguments : (calls : ℕ) (end : TokenKind) → IsMet (arguments calls end) (token_of end [] ∷ [])
-unfolding due_after starts_arguments
-met_arguments calls end ds ts = accepts_step (arguments calls end) ds (token_of end []) ts ∙ rw (same_kind-self end) refl
-
-met_called : (calls : ℕ) (end : TokenKind) → IsMet (called calls end) (token_of k.Path (codes "f") ∷ token_of end [] ∷ [])
-unfolding due_after starts_called
-met_called calls end ds ts = accepts_step (called calls end) ds (token_of k.Path (codes "f")) (token_of end [] ∷ ts) ∙ met_arguments calls end ds ts
-
-met_after_name : (calls : ℕ) (end : TokenKind) → IsEnd end → IsMet (after_name calls end) (token_of end [] ∷ [])
-unfolding due_after starts_after_name starts_arguments
-met_after_name calls end e ds ts = accepts_step (after_name calls end) ds (token_of end []) ts ∙ rw (e, same_kind-self end) refl
-
-met_named : (calls : ℕ) (end : TokenKind) → IsMet (named calls end) (token_of end [] ∷ [])
-unfolding due_after starts_named
-met_named calls end ds ts = accepts_step (named calls end) ds (token_of end []) ts ∙ rw (same_kind-self end) refl
-
-met : (d : Due) → InExpr d → (ws : List Token) × IsMet d ws
-met (kind wanted) e = (token_of wanted [] ∷ [], met_kind wanted)
-met (expr calls) e = (token_of k.Number (codes "1") ∷ [], met_expr calls)
-met (called calls end) e = (token_of k.Path (codes "f") ∷ token_of end [] ∷ [], met_called calls end)
-met (arguments calls end) e = (token_of end [] ∷ [], met_arguments calls end)
-met (after_name calls end) e = (token_of end [] ∷ [], met_after_name calls end e)
-met (named calls end) e = (token_of end [] ∷ [], met_named calls end)
-met _ e = absurd e
-
-all_met : (ds : List Due) → AllIn ds → (ws : List Token) × (accepts ds ws ≡ true)
-all_met [] p = ([], refl)
-all_met (d ∷ ds) p =
-    let w = met d p.0 in
-    let ws = all_met ds p.1 in
-    (w.0 ++ ws.0, w.1 ds ws.0 ∙ ws.1)
-
-some_of : {A : Type 0} (o : Option A) → is_some o ≡ true → (x : A) × (o ≡ Some x)
-some_of None e = let r : ⊥ = cc in absurd r
-some_of (Some x) e = (x, refl)
+-- Expressions.
 
 lone_is : (ts : List Token) (e : Expr) → read_lone ts ≡ Some e → IsExpr deepest_calls ts e []
 unfolding read_lone
@@ -186,40 +108,105 @@ lone_read : (ts : List Token) (e : Expr) → IsExpr deepest_calls ts e [] → re
 unfolding read_lone
 lone_read ts e h = is_whole (read_expr deepest_calls ts) e (reads_expr deepest_calls ts e [] h)
 
-begins : (front : List Token) (l : List Due) → run expression_due front ≡ Some l → BeginsExpression front
-begins front l runs =
-    let in_l : AllIn l = subst IsIn runs (run_in expression_due front (tt, tt)) in
+expression_begins : (front : List Token) (l : List Due) → AreGood front → run expression_due front ≡ Some l → BeginsExpression front
+expression_begins front l good runs =
+    let in_l : AreIn l = subst InIf runs (run_in expression_due front good (tt, tt)) in
     let w = all_met l in_l in
     let e = some_of (read_lone (front ++ w.0)) (sym (accepts_expression (front ++ w.0)) ∙ accepts_run expression_due front l w.0 runs ∙ w.1) in
     (w.0, e.0, lone_is (front ++ w.0) e.0 e.1)
 
-stops : (front : List Token) (l : List Due) (t : Token) → run expression_due front ≡ Some l → step l t ≡ None → BeginsExpression (front ++ t ∷ []) → ⊥
-stops front l t runs stuck (rest, e, is) =
-    let all : (front ++ t ∷ []) ++ rest ≡ front ++ t ∷ rest = append_assoc front (t ∷ []) rest in
-    let read = lone_read (front ++ t ∷ rest) e (subst (λ (ts : List Token). IsExpr deepest_calls ts e []) all is) in
-    let yes : is_some (read_lone (front ++ t ∷ rest)) ≡ true = ap is_some read in
-    let no = sym (accepts_expression (front ++ t ∷ rest)) ∙ accepts_run expression_due front l (t ∷ rest) runs ∙ accepts_stuck l t rest stuck in
-    let both : true ≡ false = sym yes ∙ no in
-    cc
+expression_stops : (front : List Token) (l : List Due) (t : Token) → run expression_due front ≡ Some l → step l t ≡ None → BeginsExpression (front ++ t ∷ []) → ⊥
+expression_stops front l t runs stuck (rest, e, is) =
+    refused_next expression_due l front t rest runs stuck (accepts_expression ((front ++ t ∷ []) ++ rest) ∙ ap is_some (lone_read ((front ++ t ∷ []) ++ rest) e is))
 
-place_among : (list : List Token) (end : ℕ) → IsPlaceAmong BeginsExpression list end (place_of end (refused expression_due list))
-place_among list end = by_left (split expression_due list) where
-  by_left : (s : Split expression_due list) → IsPlaceAmong BeginsExpression list end (place_of end (refused expression_due list))
-  by_left s = by_case s.left refl where
-    by_case : (us : List Token) → s.left ≡ us → IsPlaceAmong BeginsExpression list end (place_of end (refused expression_due list))
-    by_case [] e =
-        let all : s.front ≡ list = sym (append-nil s.front) ∙ ap (λ us. s.front ++ us) (sym e) ∙ sym s.here in
-        inr (subst BeginsExpression all (begins s.front s.due s.runs), ap (place_of end) (s.is_left ∙ e))
-    by_case (t ∷ us) e = inl (record {
-      front = s.front;
-      token = t;
-      rest = us;
-      here = s.here ∙ ap (λ vs. s.front ++ vs) e;
-      begins = begins s.front s.due s.runs;
-      stops = stops s.front s.due t s.runs (subst (IsStuck s.due) e s.stuck);
-      place = ap (place_of end) (s.is_left ∙ e);
-    })
+expression_begun : Begun BeginsExpression expression_due
+expression_begun = record { begins = expression_begins; stops = expression_stops }
 
 pub expression_place_is : (text : List ℕ) → IsExpressionPlace text (expression_place text)
 unfolding expression_place
-expression_place_is text = place_among (front_from m.Expression 0 0 text).0 (stop_of (length text) (front_from m.Expression 0 0 text).1)
+expression_place_is text =
+    place_among BeginsExpression expression_due expression_begun (front_from m.Expression 0 0 text).0 (stop_of (length text) (front_from m.Expression 0 0 text).1) (front_good m.Expression 0 0 text)
+
+-- Templates.
+
+template_begins : (front : List Token) (l : List Due) → AreGood front → run template_due front ≡ Some l → BeginsTemplate front
+template_begins front l good runs = by_content (finds_body deepest_nesting whole [] (front ++ w.0) (accepts_run template_due front l w.0 runs ∙ w.1)) where
+  w : (ws : List Token) × (accepts l ws ≡ true)
+  w = whole_met l (subst WholeIf runs (run_whole template_due front good tt))
+
+  by_content : Content deepest_nesting whole [] (front ++ w.0) → BeginsTemplate front
+  by_content (tree, (us, are, e)) = (w.0, tree, subst (AreStmts deepest_nesting (front ++ w.0) tree) e are)
+
+template_stops : (front : List Token) (l : List Due) (t : Token) → run template_due front ≡ Some l → step l t ≡ None → BeginsTemplate (front ++ t ∷ []) → ⊥
+template_stops front l t runs stuck (rest, tree, are) = refused_next template_due l front t rest runs stuck (passes_body deepest_nesting whole [] ((front ++ t ∷ []) ++ rest) tree [] are)
+
+template_begun : Begun BeginsTemplate template_due
+template_begun = record { begins = template_begins; stops = template_stops }
+
+text_place_is : (text : List ℕ) → IsPlaceAmong BeginsTemplate (settled text (front_from m.Content 0 0 text).0) (stop_of (length text) (front_from m.Content 0 0 text).1) (text_place text)
+unfolding text_place
+text_place_is text =
+    place_among BeginsTemplate template_due template_begun (settled text (front_from m.Content 0 0 text).0) (stop_of (length text) (front_from m.Content 0 0 text).1)
+    (settled_good text (front_from m.Content 0 0 text).0 (front_good m.Content 0 0 text))
+
+pub template_place_is : (bytes : List ℕ) → IsTemplatePlace bytes (template_place bytes)
+unfolding template_place
+template_place_is bytes = by_text (is_utf8 bytes) refl where
+  by_text : (b : Bool) → is_utf8 bytes ≡ b → IsTemplatePlace bytes (if b then text_place bytes else utf8_valid_len bytes)
+  by_text false e = inl (e, refl)
+  by_text true e = inr (e, text_place_is bytes)
+
+-- There is one place.
+
+-- what begins with more begins with less
+abbrev IsFrontwise : (List Token → Type 0) → Type 0
+IsFrontwise Begins = (front more : List Token) → Begins (front ++ more) → Begins front
+
+template_front : IsFrontwise BeginsTemplate
+template_front front more (rest, tree, are) = (more ++ rest, tree, subst (λ ts. AreStmts deepest_nesting ts tree []) (append_assoc front more rest) are)
+
+expression_front : IsFrontwise BeginsExpression
+expression_front front more (rest, e, is) = (more ++ rest, e, subst (λ ts. IsExpr deepest_calls ts e []) (append_assoc front more rest) is)
+
+-- of two tokens of a list, one comes first, if they are not the same
+abbrev Apart : List Token → Token → List Token → Token → Type 0
+Apart xs x ys y = (x ≡ y) ⊎ (((more : List Token) × (ys ≡ (xs ++ x ∷ []) ++ more)) ⊎ ((more : List Token) × (xs ≡ (ys ++ y ∷ []) ++ more)))
+
+apart : (xs : List Token) (x : Token) (us : List Token) (ys : List Token) (y : Token) (vs : List Token) → xs ++ x ∷ us ≡ ys ++ y ∷ vs → Apart xs x ys y
+apart [] x us [] y vs e = inl cc
+apart [] x us (z ∷ ys) y vs e = let same : z ≡ x = cc in inr (inl (ys, ap (λ t. t ∷ ys) same))
+apart (z ∷ xs) x us [] y vs e = let same : z ≡ y = cc in inr (inr (xs, ap (λ t. t ∷ xs) same))
+apart (z ∷ xs) x us (w ∷ ys) y vs e =
+    let head : z ≡ w = cc in
+    let tail : xs ++ x ∷ us ≡ ys ++ y ∷ vs = cc in
+    elim (apart xs x us ys y vs tail) [
+      | inl same ↦ inl same
+      | inr (inl p) ↦ inr (inl (p.0, ap (λ t. t ∷ ys) (sym head) ∙ ap (λ l. z ∷ l) p.1))
+      | inr (inr p) ↦ inr (inr (p.0, ap (λ t. t ∷ xs) head ∙ ap (λ l. w ∷ l) p.1))
+    ]
+
+one_faulty : (Begins : List Token → Type 0) → IsFrontwise Begins → (list : List Token) (n o : ℕ) → IsFaulty Begins list n → IsFaulty Begins list o → n ≡ o
+one_faulty Begins frontwise list n o p q = elim (apart p.front p.token p.rest q.front q.token q.rest (sym p.here ∙ q.here)) [
+  | inl same ↦ p.place ∙ ap (λ t. t.start) same ∙ sym q.place
+  | inr (inl r) ↦ absurd (p.stops (frontwise (p.front ++ p.token ∷ []) r.0 (subst Begins r.1 q.begins)))
+  | inr (inr r) ↦ absurd (q.stops (frontwise (q.front ++ q.token ∷ []) r.0 (subst Begins r.1 p.begins)))
+]
+
+-- all tokens begin something, or some is faulty
+never_both : (Begins : List Token → Type 0) → IsFrontwise Begins → (list : List Token) (n : ℕ) → IsFaulty Begins list n → Begins list → ⊥
+never_both Begins frontwise list n p all = p.stops (frontwise (p.front ++ p.token ∷ []) p.rest (subst Begins (p.here ∙ sym (append_assoc p.front (p.token ∷ []) p.rest)) all))
+
+one_among : (Begins : List Token → Type 0) → IsFrontwise Begins → (list : List Token) (end n o : ℕ) → IsPlaceAmong Begins list end n → IsPlaceAmong Begins list end o → n ≡ o
+one_among Begins frontwise list end n o (inl p) (inl q) = one_faulty Begins frontwise list n o p q
+one_among Begins frontwise list end n o (inl p) (inr (all, e)) = absurd (never_both Begins frontwise list n p all)
+one_among Begins frontwise list end n o (inr (all, e)) (inl q) = absurd (never_both Begins frontwise list o q all)
+one_among Begins frontwise list end n o (inr (all, e)) (inr (also, f)) = e ∙ sym f
+
+pub one_expression_place : (text : List ℕ) (n o : ℕ) → IsExpressionPlace text n → IsExpressionPlace text o → n ≡ o
+one_expression_place text n o p q = one_among BeginsExpression expression_front (front_from m.Expression 0 0 text).0 (stop_of (length text) (front_from m.Expression 0 0 text).1) n o p q
+
+pub one_template_place : (bytes : List ℕ) (n o : ℕ) → IsTemplatePlace bytes n → IsTemplatePlace bytes o → n ≡ o
+one_template_place bytes n o (inl (e, p)) (inl (f, q)) = p ∙ sym q
+one_template_place bytes n o (inl (e, p)) (inr (f, q)) = let r : true ≡ false = sym f ∙ e in absurd cc
+one_template_place bytes n o (inr (e, p)) (inl (f, q)) = let r : true ≡ false = sym e ∙ f in absurd cc
+one_template_place bytes n o (inr (e, p)) (inr (f, q)) = one_among BeginsTemplate template_front (settled bytes (front_from m.Content 0 0 bytes).0) (stop_of (length bytes) (front_from m.Content 0 0 bytes).1) n o p q

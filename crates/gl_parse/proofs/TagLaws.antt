@@ -113,7 +113,7 @@ opened_name_is (c ∷ cs) n e =
 capital_or_small : (b : ℕ) → is_small b ≡ true → is_capital b ≡ false
 capital_or_small b e = grind (arith, nat_tests)
 
-not_capital : (n : Text) → leads is_small n ≡ true → leads is_capital n ≡ false
+pub not_capital : (n : Text) → leads is_small n ≡ true → leads is_capital n ≡ false
 not_capital [] e = refl
 not_capital (c ∷ cs) e = capital_or_small c e
 

@@ -46,7 +46,7 @@ text_is ts x e = made (λ (t : Text × List Token). literal (v.text (decoded t.0
     subst (λ (y : Expr × List Token). IsQuotedText ts y.0 y.1) same (f.token, f.here, f.is_kind, ap decoded f.is_text))
 
 -- such a text is a token of text
-text_first : (ts : List Token) (e : Expr) (us : List Token) → IsQuotedText ts e us → (s : Text) × (e ≡ literal (v.text s)) × IsFixed k.Text ts s us
+pub text_first : (ts : List Token) (e : Expr) (us : List Token) → IsQuotedText ts e us → (s : Text) × (e ≡ literal (v.text s)) × IsFixed k.Text ts s us
 text_first ts (literal (v.text s)) us h = (s, refl, h)
 text_first ts _ us h = absurd h
 
@@ -223,7 +223,7 @@ quote_is ts x e = option_and_then_some _ _ x e (λ front p e1. option_and_then_s
     subst (λ (y : AttrValue × List Token). IsValue ts y.0 y.1) (same_Some {A = AttrValue × List Token} (value.0, back.1) x last)
     (between_value ts front.1 value.1 back.1 value.0 (f.token, f.here, f.is_kind) (between_is front.1 value q) (g.token, g.here, g.is_kind)))))
 
-live_value : (ts : List Token) (e : Expr) (us : List Token) → IsMustache ts e us → IsValue ts (live e) us
+pub live_value : (ts : List Token) (e : Expr) (us : List Token) → IsMustache ts e us → IsValue ts (live e) us
 live_value ts (literal c) us h = h
 live_value ts (this n ns) us h = h
 live_value ts (argument n ns) us h = h

@@ -1,6 +1,6 @@
 -- What a template is still to have after the tokens that were read, as a list: at each token the first of it is taken
 -- off, and what this token leaves due takes its place.
-use Rattle.std.specs.Prelude.{ℕ, List, [], ◌∷◌, ◌++◌, ◌-◌, Bool, true, false, not, ◌&&◌, ◌||◌, nat_le, codes, length, drop, if◌then◌else◌, Option, Some, None, option_map, is_some, unwrap_or, ◌==◌}
+use Rattle.std.specs.Prelude.{ℕ, List, [], ◌∷◌, ◌++◌, ◌-◌, Bool, true, false, not, ◌&&◌, ◌||◌, nat_le, codes, length, if◌then◌else◌, Option, Some, None, option_map, is_some, unwrap_or, ◌==◌}
 use Rattle.std.specs.Str.{bytes_eq}
 use Rattle.gl_base.specs.Answers.{◌>>=◌}
 use Rattle.gl_base.specs.Texts.{Text}

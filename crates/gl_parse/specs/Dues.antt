@@ -1,5 +1,5 @@
 -- What the code's list of what is due stands for.
-use Rattle.std.specs.Prelude.{◌≡◌, List, ◌++◌, Bool, true, false, codes, drop, map, reverse, Option, Some, None, Result, Ok, Err}
+use Rattle.std.specs.Prelude.{◌≡◌, List, ◌++◌, Bool, true, false, codes, drop, map, reverse, Some, None, Result, Ok, Err}
 use Rattle.gl_base.specs.Texts.{Text}
 use Rattle.gl_parse.specs.Due as d
 use Rattle.gl_parse.specs.declared.due.Due.{Due}

@@ -1,5 +1,5 @@
 -- The place of a fault: that of the first token which no template, or no expression, has after the tokens before it.
-use Rattle.std.specs.Prelude.{◌≡◌, ◌⊎◌, ℕ, List, [], ◌∷◌, ◌++◌, true, false, length}
+use Rattle.std.specs.Prelude.{◌≡◌, ◌⊎◌, ℕ, List, [], ◌∷◌, ◌++◌, true, false, length, Result, Ok, Err}
 use Rattle.std.specs.Str.{is_utf8}
 use Rattle.std.specs.Str.Lossy.{utf8_valid_len}
 use Rattle.gl_ast.specs.Grammar.{deepest_nesting, deepest_calls, AreStmts, IsExpr}
@@ -7,7 +7,9 @@ use Rattle.gl_ast.specs.Settling.{settled}
 use Rattle.gl_ast.specs.Template.{Body, Expr}
 use Rattle.gl_ast.specs.declared.mode.Mode.TheVariants as m
 use Rattle.gl_ast.specs.declared.token.Token.{Token}
-use Rattle.gl_lex.specs.Front.{Front, front_from}
+use Rattle.gl_exprs.specs.declared.fault.ParseFault.{ParseFault}
+use Rattle.gl_exprs.specs.declared.fault.ParseFault.TheVariants as v
+use Rattle.gl_lex.specs.Front.{front_from}
 use Rattle.gl_parse.specs.FaultPlace.{stop_of}
 
 -- some template begins with these tokens
@@ -43,3 +45,10 @@ IsTemplatePlace bytes n =
 abbrev pub IsExpressionPlace : List ℕ → ℕ → Type 0
 IsExpressionPlace text n =
     IsPlaceAmong BeginsExpression (front_from m.Expression 0 0 text).0 (stop_of (length text) (front_from m.Expression 0 0 text).1) n
+
+-- The answer tells all: it is the tree that is spelled; where the fault is that the input is not in the grammar, nothing
+-- is spelled, and the offset is the place of the fault.
+abbrev pub Answers : {X T : Type 0} → (X → T) → (T → Type 0) → (ℕ → Type 0) → Result X ParseFault → Type 0
+Answers view IsSpelled IsPlace (Ok x) = IsSpelled (view x)
+Answers view IsSpelled IsPlace (Err (v.NotInGrammar offset)) = ((tree : _) → IsSpelled tree → ⊥) × IsPlace offset
+Answers view IsSpelled IsPlace (Err v.Memory) = Unit {0}

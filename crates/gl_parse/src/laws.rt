@@ -3,8 +3,8 @@ ghost use Rattle.std.specs.Prelude.{ℕ, List, Some, true, ◌≡◌};
 ghost use Rattle.std.specs.Str.{is_utf8};
 ghost use Rattle.gl_ast.specs.Grammar.{Spells, SpellsExpr};
 ghost use Rattle.gl_ast.specs.Template.{Body, Expr};
-ghost use Rattle.gl_parse.specs.FaultPlace.{expression_place};
-ghost use Rattle.gl_parse.specs.Place.{IsExpressionPlace};
+ghost use Rattle.gl_parse.specs.FaultPlace.{template_place, expression_place};
+ghost use Rattle.gl_parse.specs.Place.{IsTemplatePlace, IsExpressionPlace};
 ghost use Rattle.gl_parse.specs.ReadStmt.{template_of, expression_of};
 
 /// No bytes spell two templates.
@@ -26,8 +26,19 @@ pub fn read_as_spelled()
     ensures spelled_expression { (text : List ℕ) (expr : Expr) → SpellsExpr text expr → expression_of text ≡ Some expr }
 {}
 
-/// The place that a refused expression is told with is that of the first token which no expression has after those before
-/// it, or else that at which its tokens end.
+/// The place that a refused template is told with is that of the first token which no template has after those before it,
+/// or else that at which its tokens end; of bytes that are not UTF-8 it is that of the first that isn't.
+pub fn place_of_template()
+    ensures { (bytes : List ℕ) → IsTemplatePlace bytes (template_place bytes) }
+{}
+
+/// The same of an expression.
 pub fn place_of_expression()
     ensures { (text : List ℕ) → IsExpressionPlace text (expression_place text) }
+{}
+
+/// There is no other such place.
+pub fn one_place()
+    ensures template { (bytes : List ℕ) (place other : ℕ) → IsTemplatePlace bytes place → IsTemplatePlace bytes other → place ≡ other }
+    ensures expression { (text : List ℕ) (place other : ℕ) → IsExpressionPlace text place → IsExpressionPlace text other → place ≡ other }
 {}

@@ -10,6 +10,7 @@ ghost use Rattle.gl_exprs.specs.Fault.{Fails, IsWithin, Names, Refuses, Tells};
 ghost use Rattle.gl_parse.specs.Due.{refused, place_of, template_due, expression_due};
 ghost use Rattle.gl_parse.specs.Dues.{due_view};
 ghost use Rattle.gl_parse.specs.FaultPlace.{text_place, template_place, expression_place};
+ghost use Rattle.gl_parse.specs.Place.{Answers, IsTemplatePlace, IsExpressionPlace};
 ghost use Rattle.gl_parse.specs.ReadStmt.{nothing_left, read_template, read_lone, text_tree, template_of, expression_of};
 
 use crate::body::{DEEPEST_NESTING, body};
@@ -152,10 +153,11 @@ fn tree(alloc: Global, bytes: &[u8]) -> Result<Body, ParseFault>
 }
 
 /// The template that the bytes spell; there is at most one. `NotInGrammar` exactly where they spell none, as where they
-/// are not UTF-8. Its offset counts bytes: it is that of the first token that can't stand where it does; where there is
-/// none it is that of the first place where no token stands, or their number where the tokens end too early, or where
-/// they end within a token; of bytes that are not UTF-8 it is that of the first that isn't.
+/// are not UTF-8. Its offset counts bytes: it is that of the first token which no template has after the tokens before
+/// it; where there is none it is that of the first place where no token stands, or their number where the tokens end too
+/// early, or where they end within a token; of bytes that are not UTF-8 it is that of the first that isn't.
 pub fn template(alloc: Global, bytes: &[u8]) -> Result<Template, ParseFault>
+    ensures answer { Answers (λ t. body_of t.body) (Spells bytes.now) (IsTemplatePlace bytes.now) result }
     ensures tree { Tells (λ t. body_of t.body) (Spells bytes.now) result }
     ensures place { IfErr result (Names (template_place bytes.now)) }
     ensures within { IfErr result (IsWithin (length bytes.now)) }
@@ -169,6 +171,7 @@ pub fn template(alloc: Global, bytes: &[u8]) -> Result<Template, ParseFault>
 /// The expression that the text spells, with white space round it or not; there is at most one. `NotInGrammar` exactly
 /// where it spells none; its offset as for a template.
 pub fn expression(alloc: Global, text: &str) -> Result<Expr, ParseFault>
+    ensures answer { Answers expr_view (SpellsExpr text.now) (IsExpressionPlace text.now) result }
     ensures tree { Tells expr_view (SpellsExpr text.now) result }
     ensures place { IfErr result (Names (expression_place text.now)) }
     ensures within { IfErr result (IsWithin (length text.now)) }

@@ -1,49 +1,82 @@
 -- What a played session, and what the words, put out.
-use Rattle.std.proofs.Common.{◌≡◌, inl, inr, ℕ, List, Some, None, Ok, Err, Result, Option, refl}
-use Rattle.gl_base.specs.Texts.{Text, bytes_of, joined}
-use Rattle.gl_base.specs.Taking.{Takes}
+use Rattle.std.proofs.Common.{◌≡◌, ◌<◌, inl, inr, ℕ, List, [], ◌∷◌, Some, None, Ok, Err, Result, Option, refl, sym, subst, append-nil}
+use Rattle.std.specs.Prelude.{OnOk, OnErr, IsErrOf}
+use Rattle.gl_base.specs.Texts.{Text, bytes_of}
+use Rattle.gl_base.specs.Taking.{Takes, TakesFront, TakesSome}
+use Rattle.gl_base.proofs.Taken.{some_nothing}
 use Rattle.gl_outside.specs.Shelf.{Entry}
+use Rattle.gl_load.specs.Loads.{Loads, FailsAmong}
+use Rattle.gl_load.specs.Refusal.{Refusal, ◌>>=◌}
+use Rattle.gl_load.specs.declared.fault.LoadFault.{LoadFault}
+use Rattle.gl_load.proofs.Faults.{stops_then}
 use Rattle.gl_run.specs.Command.{Command, command_of}
-use Rattle.gl_load.specs.Refusal.{◌>>=◌}
-use Rattle.gl_run.specs.Load.{Refusal}
-use Rattle.gl_run.specs.Session.{App, session}
-use Rattle.gl_run.specs.Page.{pages}
-use Rattle.gl_run.specs.Plays.{Plays}
-use Rattle.gl_run.specs.Output.{Output, texts_of, texts_output, command_output, output_of, Answers}
-use Rattle.gl_run.specs.Loads.{Loads, FailsAmong}
-use Rattle.gl_run.specs.Run.{status_of, fetched_by, play_ending, Completes, Tells}
-use Rattle.gl_run.specs.declared.ending.RunFault.{RunFault}
+use Rattle.gl_run.specs.Plays.{Puts, Plays, PlayFails}
+use Rattle.gl_run.specs.Output.{Output, message_line, stopped_at, written, outcome_of, output_or, command_output, output_of, Writes, Answers}
+use Rattle.gl_run.specs.Run.{Ending, status_of, fetched_by, play_ending, Completes, Tells, HasCause, Untouched}
 use Rattle.gl_run.specs.declared.ending.RunFault.TheVariants as run
-use Rattle.gl_run.specs.declared.session.PlayFault.{PlayFault}
-use Rattle.gl_run.specs.declared.session.PlayFault.TheVariants as play
+use Rattle.gl_run.specs.declared.fault.PlayFault.{PlayFault}
+use Rattle.gl_run.specs.declared.fault.PlayFault.TheVariants as play
 use Rattle.gl_run.specs.declared.status.Status.{Status}
 use Rattle.gl_run.specs.declared.status.Status.TheVariants as status
-use Rattle.gl_base.proofs.Taken.{takes_nothing, some_nothing}
-use Rattle.gl_run.proofs.Files.{stops_then, stopped, stop_tells}
-use Rattle.gl_run.proofs.Sessions.{session-pages}
+use Rattle.gl_run.proofs.Files.{stopped, stop_tells, file_is_not_done}
 
--- the texts are all written
-pub all_written : (old new : Option (List ℕ)) (texts : List Text) (out : Result (List Text) Refusal) → out ≡ Ok texts → Takes old new (bytes_of (joined texts)) → Answers status.Done old new (texts_output out)
-all_written old new texts out is p = rw is (refl, p)
+-- a session that is played writes, stopped or not
+pub played_writes : (limit : ℕ) (o : Option ℕ) (texts : List Text) → Writes (stopped_at limit o texts).status
+played_writes limit None texts = tt
+played_writes limit (Some turn) texts = tt
 
-written_on : (e : PlayFault) (old new : Option (List ℕ)) (texts : List Text) → Plays (Err e) old new texts → Answers (status_of (Err (play_ending e))) old new (texts_output (Ok texts))
-written_on play.WriteFault old new texts p = (refl, p)
-written_on play.Memory old new texts p = p
+-- one that goes to its end says nothing on `err`
+pub done_silent : (limit : ℕ) (o : Option ℕ) (texts : List Text) → (stopped_at limit o texts).status ≡ status.Done → [] ≡ message_line (stopped_at limit o texts).message
+done_silent limit None texts is = refl
+done_silent limit (Some turn) texts is = absurd cc
 
--- a part of them is
-pub part_written : (e : PlayFault) (old new : Option (List ℕ)) (texts : List Text) (out : Result (List Text) Refusal) → out ≡ Ok texts → Plays (Err e) old new texts → Answers (status_of (Err (play_ending e))) old new (texts_output out)
-part_written e old new texts out is p = rw is (written_on e old new texts p)
+-- what is left of an output whose play ended early
+pub part_written : (e : PlayFault) (old new : Option (List ℕ)) (o : Output) → Writes o.status → PlayFails e old new o → Answers (status_of (Err (play_ending e))) old new o
+part_written (play.NestingLimit turn limit) old new o w p = (p.0, p.2)
+part_written play.WriteFault old new o w p = (w, p)
+part_written play.Memory old new o w p = p
 
--- the pages of an app are its session
-pub paged : (app : App) (loaded : Result App Refusal) → loaded ≡ Ok app → (loaded >>= λ a. Ok (session a)) ≡ Ok (pages app.cells app.body app.events)
-paged app loaded is = rw (is, session-pages app.body app.cells app.events) refl
+-- and its line
+pub part_tells : (e : PlayFault) (old new : Option (List ℕ)) (o : Output) (names : List Text) → PlayFails e old new o → Tells (Err (play_ending e)) o names
+part_tells (play.NestingLimit turn limit) old new o names p = rw p.1 refl
+part_tells play.WriteFault old new o names p = tt
+part_tells play.Memory old new o names p = tt
+
+-- and its cause
+pub part_causes : (e : PlayFault) (misses faults writes writes_now : ℕ) → (e ≡ play.WriteFault → writes < writes_now) → HasCause (Err (play_ending e)) misses misses faults faults writes writes_now
+part_causes (play.NestingLimit turn limit) misses faults writes writes_now h = tt
+part_causes play.WriteFault misses faults writes writes_now h = h refl
+part_causes play.Memory misses faults writes writes_now h = tt
+
+pub part_untouched : (e : PlayFault) (old new : Option (List ℕ)) → Untouched (Err (play_ending e)) old new
+part_untouched (play.NestingLimit turn limit) old new = tt
+part_untouched play.WriteFault old new = tt
+part_untouched play.Memory old new = tt
+
+pub part_of_command : (e : PlayFault) → IsErrOf {T = Unit {0}} (Err (play_ending e)) run.Usage → ⊥
+part_of_command (play.NestingLimit turn limit) is = cc
+part_of_command play.WriteFault is = cc
+part_of_command play.Memory is = cc
+
+-- a text that is written is no session
+pub never_deep : (e : PlayFault) (old new : Option (List ℕ)) (texts : List Text) → PlayFails e old new (written texts) → status_of (Err (play_ending e)) ≡ status.NestingLimit → ⊥
+never_deep (play.NestingLimit turn limit) old new texts p is = let differs = p.0 in cc
+never_deep play.WriteFault old new texts p is = cc
+never_deep play.Memory old new texts p is = cc
+
+-- one text, in one put
+pub puts_one : {X : Type 0} (r : Result X PlayFault) (old new : Option (List ℕ)) (t : Text) → Puts r old new t → Plays r old new (written (t ∷ []))
+puts_one (Ok x) old new t p = (refl, subst (λ z. Takes old new (bytes_of z)) (sym (append-nil t)) p)
+puts_one (Err (play.NestingLimit turn limit)) old new t p = absurd p
+puts_one (Err play.WriteFault) old new t p = subst (λ z. TakesFront old new (bytes_of z)) (sym (append-nil t)) p
+puts_one (Err play.Memory) old new t p = subst (λ z. TakesSome old z (t ∷ [])) (sym p) (some_nothing old (t ∷ []))
 
 -- what is done with what is loaded
-pub loaded_then : {A B : Type 0} (f : A → B) (x : A) (loaded : Result A Refusal) → loaded ≡ Ok x → (loaded >>= λ y. Ok (f y)) ≡ Ok (f x)
+pub loaded_then : {A : Type 0} (f : A → Output) (x : A) (loaded : Result A Refusal) → loaded ≡ Ok x → output_or (loaded >>= λ y. Ok (f y)) ≡ f x
 loaded_then f x loaded is = rw is refl
 
 -- the words are a command, or none
-pub command_says : (words : List Text) (files : List Entry) (c : Command) → command_of words ≡ Some c → output_of words files ≡ texts_output (texts_of c files)
+pub command_says : (words : List Text) (files : List Entry) (c : Command) → command_of words ≡ Some c → output_of words files ≡ output_or (outcome_of c files)
 unfolding output_of
 command_says words files c e = rw e refl
 
@@ -65,17 +98,33 @@ completes status.WriteFault old new o p read write = absurd (write refl)
 completes status.NoMemory old new o p read write = inl refl
 
 -- a load that fails is told by its line
-pub load_tells : {X Y : Type 0} (view : X → Y) (e : RunFault) (loaded : Result Y Refusal) (f : Y → List Text) (names : List Text) → Loads view (Err e) loaded → FailsAmong e names → Tells (Err e) (texts_output (loaded >>= λ y. Ok (f y))) names
-load_tells view (run.Load fault) loaded f names is among = stop_tells fault.file fault.cause _ names (stops_then fault.file fault.cause loaded (λ y. Ok (f y)) is) among
-load_tells view run.NotBuilt loaded f names is among = rw is refl
-load_tells view run.Memory loaded f names is among = tt
-load_tells view run.Usage loaded f names is among = absurd is
-load_tells view run.WriteFault loaded f names is among = absurd is
+pub load_tells : {X Y : Type 0} (view : X → Y) (f : LoadFault) (loaded : Result Y Refusal) (g : Y → Output) (names : List Text) → Loads view (Err f) loaded → FailsAmong f.cause f.file names → Tells (Err (run.Load f)) (output_or (loaded >>= λ y. Ok (g y))) names
+load_tells view f loaded g names is among = stop_tells f.file f.cause _ names (stops_then f.file f.cause loaded (λ y. Ok (g y)) is) among
 
 -- and nothing is written
-pub load_stops : {X Y : Type 0} (view : X → Y) (e : RunFault) (loaded : Result Y Refusal) (f : Y → List Text) (took : Option (List ℕ)) → Loads view (Err e) loaded → Answers (status_of (Err e)) took took (texts_output (loaded >>= λ y. Ok (f y)))
-load_stops view (run.Load fault) loaded f took is = stopped fault.file fault.cause _ took (stops_then fault.file fault.cause loaded (λ y. Ok (f y)) is)
-load_stops view run.NotBuilt loaded f took is = rw is (refl, takes_nothing took)
-load_stops view run.Memory loaded f took is = some_nothing took (texts_output (loaded >>= λ y. Ok (f y))).texts
-load_stops view run.Usage loaded f took is = absurd is
-load_stops view run.WriteFault loaded f took is = absurd is
+pub load_stops : {X Y : Type 0} (view : X → Y) (f : LoadFault) (loaded : Result Y Refusal) (g : Y → Output) (took : Option (List ℕ)) → Loads view (Err f) loaded → Answers (status_of (Err (run.Load f))) took took (output_or (loaded >>= λ y. Ok (g y)))
+load_stops view f loaded g took is = stopped f.file f.cause _ took (stops_then f.file f.cause loaded (λ y. Ok (g y)) is)
+
+-- only a whole run is done
+pub done_is_whole : (e : Ending) → status_of e ≡ status.Done → e ≡ Ok tt
+done_is_whole (Ok x) is = refl
+done_is_whole (Err run.Usage) is = absurd cc
+done_is_whole (Err (run.Load fault)) is = absurd (file_is_not_done fault.cause is)
+done_is_whole (Err (run.NestingLimit turn limit)) is = absurd cc
+done_is_whole (Err run.WriteFault) is = absurd cc
+done_is_whole (Err run.Memory) is = absurd cc
+
+pub unless_done : {A : Type 0} (e : Ending) → OnErr e A → (status_of e ≡ status.Done → ⊥) → A
+unless_done (Ok x) h never = absurd (never refl)
+unless_done (Err f) h never = h
+
+pub where_done : {A : Type 0} (e : Ending) → OnOk e A → status_of e ≡ status.Done → A
+where_done e h is = rw (done_is_whole e is) at h
+
+pub nothing_held : (e : Ending) → OnOk e (Unit {0})
+nothing_held (Ok x) = tt
+nothing_held (Err f) = tt
+
+pub left_alone : {A : Type 0} (e : Ending) → A → OnErr e A
+left_alone (Ok x) h = tt
+left_alone (Err f) h = h

@@ -1,6 +1,7 @@
 -- The commands, and the words that give them.
-use Rattle.std.specs.Prelude.{List, [], ◌∷◌, codes, Option, Some, None, if◌then◌else◌}
+use Rattle.std.specs.Prelude.{◌≤◌, ◌+◌, ℕ, zero, suc, List, [], ◌∷◌, codes, Option, Some, None, option_map, if◌then◌else◌}
 use Rattle.std.specs.Str.{bytes_eq, chars}
+use Rattle.std.specs.Fmt.{decimal}
 use Rattle.gl_base.specs.Texts.{Text}
 use Rattle.gl_run.specs.declared.command.Command as code
 use Rattle.gl_run.specs.declared.command.Command.TheVariants as v
@@ -14,15 +15,33 @@ pub data Command : Type 0 where
   wire_command : Text → Command
   -- checks the application of a manifest
   check_command : Text → Command
+  -- plays the session of the sample application of so many rows, and writes how much it is
+  sample_command : ℕ → Command
 
--- the commands of one file
+-- the command plays a session
+abbrev pub IsPlay : Option Command → Type 0
+IsPlay (Some (run_command manifest script)) = Unit {0}
+IsPlay (Some (sample_command rows)) = Unit {0}
+IsPlay _ = ⊥
+
+-- the number that a text writes in decimal, of so many numbers from this one on
+unfoldable pub number_among : Text → ℕ → ℕ → Option ℕ
+number_among text zero first = None
+number_among text (suc count) first = if bytes_eq text (decimal first) then Some first else number_among text count (first + 1)
+
+-- how many rows a text asks for: a number from 1 to 10000 in decimal, with no leading zero and no sign
+unfoldable pub rows_in : Text → Option ℕ
+rows_in text = number_among text 10000 1
+
+-- the commands of one file, and that of a number of rows
 abbrev pub file_command : Text → Text → Option Command
 file_command word file =
     if bytes_eq word (codes "show") then Some (show_command file)
     else (if bytes_eq word (codes "wire") then Some (wire_command file)
-    else (if bytes_eq word (codes "check") then Some (check_command file) else None))
+    else (if bytes_eq word (codes "check") then Some (check_command file)
+    else (if bytes_eq word (codes "sample") then option_map sample_command (rows_in file) else None)))
 
--- A command stands at the first place, and its files at the next ones.
+-- A command stands at the first place, and its files or its number at the next ones.
 unfoldable pub command_of : List Text → Option Command
 command_of (word ∷ file ∷ []) = file_command word file
 command_of (word ∷ manifest ∷ script ∷ []) = if bytes_eq word (codes "run") then Some (run_command manifest script) else None
@@ -34,3 +53,9 @@ seen_command (v.Run manifest script) = run_command (chars manifest.now) (chars s
 seen_command (v.Show template) = show_command (chars template.now)
 seen_command (v.Wire template) = wire_command (chars template.now)
 seen_command (v.Check manifest) = check_command (chars manifest.now)
+seen_command (v.Sample rows) = sample_command rows
+
+-- a sample that is asked for has so many rows as there may be
+abbrev pub IsSized : Option code.Command → Type 0
+IsSized (Some (v.Sample rows)) = (1 ≤ rows) × (rows ≤ 10000)
+IsSized _ = Unit {0}

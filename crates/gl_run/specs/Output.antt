@@ -1,5 +1,5 @@
 -- What the program writes, and how it ends.
-use Rattle.std.specs.Prelude.{◌≡◌, ◌≤◌, ℕ, List, [], ◌∷◌, ◌++◌, codes, decimal, length, Option, Some, None, Result, Ok, Err}
+use Rattle.std.specs.Prelude.{◌≡◌, ℕ, List, [], ◌∷◌, ◌++◌, codes, decimal, length, map, Option, Some, None, Result, Ok, Err}
 use Rattle.gl_base.specs.Texts.{Text, bytes_of, joined}
 use Rattle.gl_base.specs.Taking.{Takes, TakesFront, TakesSome}
 use Rattle.gl_value.specs.Quote.{quoted}
@@ -8,20 +8,25 @@ use Rattle.gl_wire.specs.Json.{wire_text}
 use Rattle.gl_wire.specs.WireOf.{wire_of}
 use Rattle.gl_ast.specs.Canon.{canonical}
 use Rattle.gl_ast.specs.Template.{Body}
-use Rattle.gl_run.specs.Command.{Command, run_command, show_command, wire_command, check_command, command_of}
-use Rattle.gl_load.specs.Refusal.{Cause, absent, too_long, not_json, bad_shape, bad_expression, not_in_grammar, unknown_name, getter_cycle, unknown_field, ◌>>=◌}
+use Rattle.gl_run.specs.Command.{Command, run_command, show_command, wire_command, check_command, sample_command, command_of}
+use Rattle.gl_load.specs.Refusal.{Cause, absent, too_long, not_json, bad_shape, bad_expression, not_in_grammar, unknown_name, getter_cycle, unknown_field, Refusal, ◌>>=◌}
 use Rattle.gl_meaning.specs.Known.{Kind, component_kind, helper_kind, modifier_kind, member_kind, local_kind, field_kind}
-use Rattle.gl_load.specs.Load.{Parts}
-use Rattle.gl_run.specs.Load.{Refusal, refused_file, not_built, load_of, tree_in, parts_in}
-use Rattle.gl_run.specs.Session.{session}
+use Rattle.gl_meaning.specs.Manifest.{app_of}
+use Rattle.gl_meaning.specs.App.{App, Event}
+use Rattle.gl_meaning.specs.Session.{Turn, Session, session}
+use Rattle.gl_load.specs.Load.{Parts, Whole, app_in, whole_in}
+use Rattle.gl_run.specs.Load.{tree_in}
+use Rattle.gl_run.specs.Sample.{sample_whole, sample_line}
 use Rattle.gl_run.specs.declared.status.Status.{Status}
 use Rattle.gl_run.specs.declared.status.Status.TheVariants as status
 
--- what the line on `err` tells: nothing, that the words are no command, or a refusal
+-- what the line on `err` tells: nothing, that the words are no command, a refusal, or the turn that components nest too deep for,
+-- with the limit
 pub data Message : Type 0 where
   no_message : Message
   no_command : Message
   refused : Refusal → Message
+  too_deep : ℕ → ℕ → Message
 
 -- the texts that `out` gets, what the line on `err` tells, and the status
 pub record Output : Type 0 where
@@ -43,8 +48,9 @@ too_long_line file = file_line file (codes ": longer than 16777216 bytes\n")
 abbrev pub grammar_line : Text → ℕ → Text
 grammar_line file byte = file_line file (codes ": not in the grammar at byte " ++ (decimal byte ++ codes "\n"))
 
-abbrev pub not_built_line : Text
-not_built_line = codes "not built yet\n"
+-- turns are counted from 0
+abbrev pub limit_line : ℕ → ℕ → Text
+limit_line turn limit = codes "turn " ++ (decimal turn ++ (codes ": nesting limit " ++ (decimal limit ++ codes "\n")))
 
 abbrev pub usage_line : Text
 usage_line = codes "bad command line\n"
@@ -77,24 +83,24 @@ cycle_line file class getter = (quoted file ++ codes ": getter cycle through ") 
 abbrev pub field_line : Text → ℕ → Text → Text
 field_line file index name = (quoted file ++ codes ": event ") ++ (decimal index ++ (codes ": unknown field " ++ (quoted name ++ codes "\n")))
 
--- The line of a file that is refused. A template that is not in the grammar is faulty at a place within it or at its end.
-abbrev pub IsFileLine : Text → Cause → Text → Type 0
-IsFileLine file absent line = line ≡ absent_line file
-IsFileLine file too_long line = line ≡ too_long_line file
-IsFileLine file not_json line = line ≡ file_line file (codes ": not JSON\n")
-IsFileLine file (bad_shape pointer) line = line ≡ shape_line file pointer
-IsFileLine file (bad_expression pointer) line = line ≡ expression_line file pointer
-IsFileLine file (not_in_grammar size) line = (byte : ℕ) × (byte ≤ size) × (line ≡ grammar_line file byte)
-IsFileLine file (unknown_name kind name) line = line ≡ unknown_line file kind name
-IsFileLine file (getter_cycle class getter) line = line ≡ cycle_line file class getter
-IsFileLine file (unknown_field index name) line = line ≡ field_line file index name
+-- the line of a file that is refused
+abbrev pub refusal_line : Text → Cause → Text
+refusal_line file absent = absent_line file
+refusal_line file too_long = too_long_line file
+refusal_line file not_json = file_line file (codes ": not JSON\n")
+refusal_line file (bad_shape pointer) = shape_line file pointer
+refusal_line file (bad_expression pointer) = expression_line file pointer
+refusal_line file (not_in_grammar byte) = grammar_line file byte
+refusal_line file (unknown_name kind name) = unknown_line file kind name
+refusal_line file (getter_cycle class getter) = cycle_line file class getter
+refusal_line file (unknown_field index name) = field_line file index name
 
 -- the line of a message
-abbrev pub IsLine : Message → Text → Type 0
-IsLine no_message line = line ≡ []
-IsLine no_command line = line ≡ usage_line
-IsLine (refused (refused_file r)) line = IsFileLine r.file r.cause line
-IsLine (refused not_built) line = line ≡ not_built_line
+abbrev pub message_line : Message → Text
+message_line no_message = []
+message_line no_command = usage_line
+message_line (refused r) = refusal_line r.file r.cause
+message_line (too_deep turn limit) = limit_line turn limit
 
 -- the canonical spelling and a line feed
 abbrev pub shown_text : Body → Text
@@ -108,31 +114,74 @@ wire_line tree = wire_text (wire_of tree) ++ codes "\n"
 abbrev pub classes_line : Parts → Text
 classes_line parts = codes "classes " ++ (decimal (length parts.manifest.classes) ++ codes "\n")
 
--- What a command writes, where nothing is refused: `run` the texts of all turns, the others one text. `check` loads no script.
-abbrev pub texts_of : Command → List Entry → Result (List Text) Refusal
-texts_of (run_command manifest script) files = load_of files manifest script >>= λ app. Ok (session app)
-texts_of (show_command template) files = tree_in files template >>= λ tree. Ok (shown_text tree ∷ [])
-texts_of (wire_command template) files = tree_in files template >>= λ tree. Ok (wire_line tree ∷ [])
-texts_of (check_command manifest) files = parts_in files manifest >>= λ parts. Ok (classes_line parts ∷ [])
+-- all is written
+abbrev pub written : List Text → Output
+written texts = record { texts = texts; message = no_message; status = status.Done }
+
+-- the texts, and where the session stopped at a turn its line
+abbrev pub stopped_at : ℕ → Option ℕ → List Text → Output
+stopped_at limit None texts = written texts
+stopped_at limit (Some turn) texts = record { texts = texts; message = too_deep turn limit; status = status.NestingLimit }
+
+abbrev pub turn_texts : List Turn → List Text
+turn_texts turns = map (λ t. t.text) turns
+
+-- a session that is played: the texts of its turns
+abbrev pub played : ℕ → Session → Output
+played limit s = stopped_at limit s.stopped (turn_texts s.turns)
+
+-- the session of an application over some events
+abbrev pub played_app : App → List Event → Output
+played_app app events = played app.limit (session app events)
+
+-- the texts in one line; where the session stopped at a turn nothing but its line on `err`
+abbrev pub summed_at : ℕ → Option ℕ → List Text → Output
+summed_at limit None texts = written (sample_line texts ∷ [])
+summed_at limit (Some turn) texts = record { texts = []; message = too_deep turn limit; status = status.NestingLimit }
+
+-- a session that is played, of which the sums are written
+abbrev pub summed : ℕ → Session → Output
+summed limit s = summed_at limit s.stopped (turn_texts s.turns)
+
+abbrev pub summed_app : App → List Event → Output
+summed_app app events = summed app.limit (session app events)
+
+abbrev pub app_in_whole : Whole → App
+app_in_whole whole = app_of whole.parts.manifest whole.parts.templates
+
+-- What a command gives, where nothing is refused: `run` the texts of the turns, the others one text. `check` loads no script, and
+-- `sample` looks at no file but its own.
+abbrev pub outcome_of : Command → List Entry → Result Output Refusal
+outcome_of (run_command manifest script) files = whole_in files manifest script >>= λ whole. Ok (played_app (app_in_whole whole) whole.events)
+outcome_of (show_command template) files = tree_in files template >>= λ tree. Ok (written (shown_text tree ∷ []))
+outcome_of (wire_command template) files = tree_in files template >>= λ tree. Ok (written (wire_line tree ∷ []))
+outcome_of (check_command manifest) files = app_in files manifest >>= λ parts. Ok (written (classes_line parts ∷ []))
+outcome_of (sample_command rows) files = sample_whole rows >>= λ whole. Ok (summed_app (app_in_whole whole) whole.events)
 
 -- where a command is refused, nothing is written
-abbrev pub texts_output : Result (List Text) Refusal → Output
-texts_output (Err r) = record { texts = []; message = refused r; status = status.Refused }
-texts_output (Ok texts) = record { texts = texts; message = no_message; status = status.Done }
+abbrev pub output_or : Result Output Refusal → Output
+output_or (Err r) = record { texts = []; message = refused r; status = status.Refused }
+output_or (Ok o) = o
 
 abbrev pub command_output : Option Command → List Entry → Output
 command_output None files = record { texts = []; message = no_command; status = status.Usage }
-command_output (Some c) files = texts_output (texts_of c files)
+command_output (Some c) files = output_or (outcome_of c files)
 
 -- The output of the words over the files: where they are no command nothing is written, and else what the command says.
 unfoldable pub output_of : List Text → List Entry → Output
 output_of words files = command_output (command_of words) files
 
+-- nothing is refused, so that something is written
+abbrev pub Writes : Status → Type 0
+Writes status.Done = Unit {0}
+Writes status.NestingLimit = Unit {0}
+Writes _ = ⊥
+
 -- What a call that ended with this status left in `out`, where o is the output of its words over its files. With a status that
--- no fault made, it is o's, and all of o's texts were taken; after a write fault a front of them, after want of memory
--- some of the first texts, each whole; after a read fault nothing.
+-- no fault made, it is o's, and all of o's texts were taken; at the nesting limit these are the texts of the turns before. After a
+-- write fault a front of them was taken, after want of memory some of the first texts, each whole; after a read fault nothing.
 abbrev pub Answers : Status → Option (List ℕ) → Option (List ℕ) → Output → Type 0
 Answers status.ReadFault old new o = new ≡ old
-Answers status.WriteFault old new o = (o.status ≡ status.Done) × TakesFront old new (bytes_of (joined o.texts))
+Answers status.WriteFault old new o = Writes o.status × TakesFront old new (bytes_of (joined o.texts))
 Answers status.NoMemory old new o = TakesSome old new o.texts
 Answers s old new o = (o.status ≡ s) × Takes old new (bytes_of (joined o.texts))

@@ -1,19 +1,76 @@
--- What was written of the texts of a session.
-use Rattle.std.specs.Prelude.{◌≡◌, ℕ, List, Option, Result, Ok, Err}
+-- What a play left.
+use Rattle.std.specs.Prelude.{◌≡◌, ◌⊎◌, ℕ, List, Option, Some, None, Result, Ok, Err}
 use Rattle.gl_base.specs.Texts.{Text, bytes_of, joined}
 use Rattle.gl_base.specs.Taking.{Takes, TakesFront, TakesSome}
-use Rattle.gl_run.specs.declared.session.PlayFault.{PlayFault}
-use Rattle.gl_run.specs.declared.session.PlayFault.TheVariants as v
+use Rattle.gl_ast.specs.Template.{Body}
+use Rattle.gl_meaning.specs.App.{Event}
+use Rattle.gl_meaning.specs.Manifest.{app_of}
+use Rattle.gl_meaning.specs.Session.{State, first_state, step}
+use Rattle.gl_meaning.specs.View.{manifest_view}
+use Rattle.gl_opc.specs.IsApp.{IsAppWith}
+use Rattle.gl_opc.specs.declared.app.App.{App}
+use Rattle.gl_session.specs.Standing.{StandsAt, Starts, Turns}
+use Rattle.gl_session.specs.declared.session.Session.{Session}
+use Rattle.gl_run.specs.Output.{Output, too_deep}
+use Rattle.gl_run.specs.declared.fault.PlayFault.{PlayFault}
+use Rattle.gl_run.specs.declared.fault.PlayFault.TheVariants as v
+use Rattle.gl_run.specs.declared.status.Status.TheVariants as status
 
--- what one put leaves: the whole text, a front of it, or nothing
+-- what a put that failed leaves: a front of the text, or nothing
+abbrev pub PutFails : PlayFault → Option (List ℕ) → Option (List ℕ) → Text → Type 0
+PutFails (v.NestingLimit turn limit) old new text = ⊥
+PutFails v.WriteFault old new text = TakesFront old new (bytes_of text)
+PutFails v.Memory old new text = new ≡ old
+
+-- what one put leaves: the whole text, or less
 abbrev pub Puts : {X : Type 0} → Result X PlayFault → Option (List ℕ) → Option (List ℕ) → Text → Type 0
 Puts (Ok x) old new text = Takes old new (bytes_of text)
-Puts (Err v.WriteFault) old new text = TakesFront old new (bytes_of text)
-Puts (Err v.Memory) old new text = new ≡ old
+Puts (Err f) old new text = PutFails f old new text
 
--- All texts, where the play went to its end; a front of them, where a write failed; some of the first, each whole, where
--- memory was wanting.
-abbrev pub Plays : Result (Unit {0}) PlayFault → Option (List ℕ) → Option (List ℕ) → List Text → Type 0
-Plays (Ok x) old new texts = Takes old new (bytes_of (joined texts))
-Plays (Err v.WriteFault) old new texts = TakesFront old new (bytes_of (joined texts))
-Plays (Err v.Memory) old new texts = TakesSome old new texts
+-- What a play that does not go to its end leaves: all texts of the output, where it came to the turn that components nest too deep
+-- for; a front of them, where a write failed; some of the first, each whole, where memory was wanting.
+abbrev pub PlayFails : PlayFault → Option (List ℕ) → Option (List ℕ) → Output → Type 0
+PlayFails (v.NestingLimit turn limit) old new o =
+    (o.status ≡ status.NestingLimit) × (o.message ≡ too_deep turn limit) × Takes old new (bytes_of (joined o.texts))
+PlayFails v.WriteFault old new o = TakesFront old new (bytes_of (joined o.texts))
+PlayFails v.Memory old new o = TakesSome old new o.texts
+
+-- what a play leaves: all texts of the output, where it goes to its end
+abbrev pub Plays : {X : Type 0} → Result X PlayFault → Option (List ℕ) → Option (List ℕ) → Output → Type 0
+Plays (Ok x) old new o = (o.status ≡ status.Done) × Takes old new (bytes_of (joined o.texts))
+Plays (Err f) old new o = PlayFails f old new o
+
+-- Why an application gives no turn 0: its page nests too deep, with whichever templates it is an application; or memory is wanting.
+abbrev pub StartStops : App → PlayFault → Type 0
+StartStops app (v.NestingLimit turn limit) =
+    (turn ≡ 0) × (limit ≡ app.manifest.limit)
+    × ((templates : List Body) → IsAppWith (manifest_view app.manifest) templates app.programs → step (app_of (manifest_view app.manifest) templates) first_state None ≡ None)
+StartStops app v.WriteFault = ⊥
+StartStops app v.Memory = Unit {0}
+
+-- Why an event gives no turn: the page nests too deep in it, wherever the session stands; or memory is wanting.
+abbrev pub TurnStops : Session → Event → ℕ → ℕ → PlayFault → Type 0
+TurnStops session e turn most (v.NestingLimit number limit) =
+    (number ≡ turn) × (limit ≡ most)
+    × ((app : App) (templates : List Body) (s : State) → StandsAt session app templates s → step (app_of (manifest_view app.manifest) templates) s (Some e) ≡ None)
+TurnStops session e turn most v.WriteFault = ⊥
+TurnStops session e turn most v.Memory = Unit {0}
+
+-- the session of an application, with whichever templates it is one, stands after turn 0, which has this text
+abbrev pub IsStart : App → Session → Text → Type 0
+IsStart app held text = (templates : List Body) → IsAppWith (manifest_view app.manifest) templates app.programs → Starts app templates held text
+
+-- wherever the session stood, it now stands after the turn of the event, which has this text
+abbrev pub IsTurn : Session → Event → Session → Text → Type 0
+IsTurn held e new text = (app : App) (templates : List Body) (s : State) → StandsAt held app templates s → Turns app templates s e new text
+
+-- What is left where a session was to be started and the text of turn 0 put: both was done; or there is no such turn; or the put failed.
+abbrev pub Opens : App → Result Session PlayFault → Option (List ℕ) → Option (List ℕ) → Type 0
+Opens app (Ok held) old new = (text : Text) × IsStart app held text × Takes old new (bytes_of text)
+Opens app (Err f) old new = (StartStops app f × (new ≡ old)) ⊎ ((held : Session) × (text : Text) × IsStart app held text × PutFails f old new text)
+
+-- the same of the turn of an event, which has this number
+abbrev pub GoesOn : {X : Type 0} → Result X PlayFault → Session → Session → Event → ℕ → ℕ → Option (List ℕ) → Option (List ℕ) → Type 0
+GoesOn (Ok x) held new_held e turn most old new = (text : Text) × IsTurn held e new_held text × Takes old new (bytes_of text)
+GoesOn (Err f) held new_held e turn most old new =
+    (TurnStops held e turn most f × (new ≡ old)) ⊎ ((text : Text) × IsTurn held e new_held text × PutFails f old new text)

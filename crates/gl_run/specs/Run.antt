@@ -3,20 +3,18 @@ use Rattle.std.specs.Prelude.{◌≡◌, ◌<◌, ◌⊎◌, ℕ, List, [], ◌�
 use Rattle.gl_base.specs.Texts.{Text, bytes_of, joined}
 use Rattle.gl_base.specs.Taking.{Takes}
 use Rattle.gl_outside.specs.Shelf.{Entry}
-use Rattle.gl_run.specs.Command.{Command, run_command, show_command, wire_command, check_command}
+use Rattle.gl_run.specs.Command.{Command, run_command, show_command, wire_command, check_command, sample_command}
 use Rattle.gl_meaning.specs.View.{kind_view}
 use Rattle.gl_load.specs.Load.{app_fetched, whole_fetched}
 use Rattle.gl_load.specs.Loads as l
 use Rattle.gl_load.specs.Loads.{IsAmong}
 use Rattle.gl_load.specs.declared.fault.LoadCause.{LoadCause}
 use Rattle.gl_load.specs.declared.fault.LoadCause.TheVariants as cause
-use Rattle.gl_run.specs.Output.{Output, IsLine, file_line, absent_line, too_long_line, shape_line, expression_line, grammar_line, unknown_line, cycle_line, field_line, not_built_line, usage_line}
+use Rattle.gl_run.specs.Output.{Output, message_line, file_line, absent_line, too_long_line, shape_line, expression_line, grammar_line, unknown_line, cycle_line, field_line, limit_line, usage_line}
 use Rattle.gl_run.specs.declared.status.Status.{Status}
 use Rattle.gl_run.specs.declared.status.Status.TheVariants as status
-use Rattle.gl_run.specs.declared.fault.FormFault.{FormFault}
-use Rattle.gl_run.specs.declared.fault.FormFault.TheVariants as form
-use Rattle.gl_run.specs.declared.session.PlayFault.{PlayFault}
-use Rattle.gl_run.specs.declared.session.PlayFault.TheVariants as play
+use Rattle.gl_run.specs.declared.fault.PlayFault.{PlayFault}
+use Rattle.gl_run.specs.declared.fault.PlayFault.TheVariants as play
 use Rattle.gl_run.specs.declared.ending.RunFault.{RunFault}
 use Rattle.gl_run.specs.declared.ending.RunFault.TheVariants as v
 
@@ -34,7 +32,7 @@ abbrev pub status_of : Ending → Status
 status_of (Ok x) = status.Done
 status_of (Err v.Usage) = status.Usage
 status_of (Err (v.Load fault)) = file_status fault.cause
-status_of (Err v.NotBuilt) = status.Refused
+status_of (Err (v.NestingLimit turn limit)) = status.NestingLimit
 status_of (Err v.WriteFault) = status.WriteFault
 status_of (Err v.Memory) = status.NoMemory
 
@@ -60,7 +58,7 @@ abbrev pub line_of : Ending → Text
 line_of (Ok x) = []
 line_of (Err v.Usage) = usage_line
 line_of (Err (v.Load fault)) = cause_line fault.file fault.cause
-line_of (Err v.NotBuilt) = not_built_line
+line_of (Err (v.NestingLimit turn limit)) = limit_line turn limit
 line_of (Err v.WriteFault) = codes "write fault\n"
 line_of (Err v.Memory) = memory_line
 
@@ -71,38 +69,36 @@ HasCause (Err (v.Load fault)) misses misses_now faults faults_now writes writes_
 HasCause (Err v.WriteFault) misses misses_now faults faults_now writes writes_now = writes < writes_now
 HasCause ending misses misses_now faults faults_now writes writes_now = Unit {0}
 
--- the files that a command has fetched, in order
+-- the files that a command has fetched, in order; a sample has its own files
 abbrev pub fetched_by : Option Command → List Entry → List Text
 fetched_by None files = []
 fetched_by (Some (run_command manifest script)) files = whole_fetched files manifest script
 fetched_by (Some (show_command template)) files = template ∷ []
 fetched_by (Some (wire_command template)) files = template ∷ []
 fetched_by (Some (check_command manifest)) files = app_fetched files manifest
+fetched_by (Some (sample_command rows)) files = []
 
 -- Over a shelf that tells its files: the line on a file is the output's, where no device and no memory failed; a file that
 -- can't be read is one that is fetched, where no step before it refuses.
 abbrev pub TellsFile : LoadCause → Text → Output → List Text → Type 0
 TellsFile cause.ReadFault file o names = IsAmong file names
 TellsFile cause.Memory file o names = Unit {0}
-TellsFile c file o names = IsLine o.message (cause_line file c)
+TellsFile c file o names = cause_line file c ≡ message_line o.message
 
 -- the same of each ending
 abbrev pub Tells : Ending → Output → List Text → Type 0
 Tells (Err (v.Load fault)) o names = TellsFile fault.cause fault.file o names
 Tells (Err v.WriteFault) o names = Unit {0}
 Tells (Err v.Memory) o names = Unit {0}
-Tells ending o names = IsLine o.message (line_of ending)
+Tells ending o names = line_of ending ≡ message_line o.message
 
 -- where no device failed, all is as the output says, but for want of memory
 abbrev pub Completes : Status → Option (List ℕ) → Option (List ℕ) → Output → Type 0
 Completes s old new o = (s ≡ status.NoMemory) ⊎ ((o.status ≡ s) × Takes old new (bytes_of (joined o.texts)))
 
--- the ending of a run that is not of the form, or whose play failed
-abbrev pub form_ending : FormFault → RunFault
-form_ending form.NotBuilt = v.NotBuilt
-form_ending form.Memory = v.Memory
-
+-- the ending of a run whose play ended before all was written
 abbrev pub play_ending : PlayFault → RunFault
+play_ending (play.NestingLimit turn limit) = v.NestingLimit turn limit
 play_ending play.WriteFault = v.WriteFault
 play_ending play.Memory = v.Memory
 
@@ -110,5 +106,4 @@ play_ending play.Memory = v.Memory
 abbrev pub Untouched : Ending → Option (List ℕ) → Option (List ℕ) → Type 0
 Untouched (Err v.Usage) old new = new ≡ old
 Untouched (Err (v.Load fault)) old new = new ≡ old
-Untouched (Err v.NotBuilt) old new = new ≡ old
 Untouched ending old new = Unit {0}

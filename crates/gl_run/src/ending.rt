@@ -4,16 +4,16 @@ ghost use Rattle.gl_base.specs.Texts.{is_ascii_text};
 ghost use Rattle.gl_value.specs.Quote.{quoted};
 ghost use Rattle.gl_meaning.specs.View.{kind_view};
 ghost use Rattle.gl_run.specs.Lines.{Says, SaysOn};
-ghost use Rattle.gl_run.specs.Output.{grammar_line, unknown_matter, cycle_line, field_line};
+ghost use Rattle.gl_run.specs.Output.{grammar_line, unknown_matter, cycle_line, field_line, limit_line};
 ghost use Rattle.gl_run.specs.Run.{file_status, status_of, cause_line, line_of};
 
 use crate::line::{say, say_ascii, say_number, say_quoted};
-use crate::session::PlayFault;
-use crate::{FormFault, Status};
+use crate::{PlayFault, Status};
 use gl_load::{LoadCause, LoadFault};
 use gl_meaning::Kind;
 use gl_outside::Sink;
 use gl_value::Text;
+use std::alloc::AllocError;
 use thiserror::Error;
 
 /// Why a run ends before all was written.
@@ -24,8 +24,9 @@ pub enum RunFault {
     /// A file is refused or can't be read, or memory is wanting.
     #[error("{0}")]
     Load(LoadFault),
-    #[error("not built yet")]
-    NotBuilt,
+    /// A component would stand deeper than the application's limit says, in the turn of that number.
+    #[error("turn {turn}: nesting limit {limit}")]
+    NestingLimit { turn: u64, limit: u32 },
     #[error("write fault")]
     WriteFault,
     #[error("out of memory")]
@@ -42,16 +43,13 @@ impl From<LoadFault> for RunFault {
     }
 }
 
-impl From<FormFault> for RunFault {
-    ghost use Rattle.gl_run.specs.Run.{form_ending};
+impl From<AllocError> for RunFault {
+    ghost use Rattle.gl_run.specs.declared.ending.RunFault.TheVariants.{Memory};
 
-    ghost from_gives = { λ fault e. e ≡ form_ending fault };
+    ghost from_gives = { λ _ e. e ≡ Memory };
 
-    fn from(fault: FormFault) -> Self {
-        match fault {
-            FormFault::NotBuilt => RunFault::NotBuilt,
-            FormFault::Memory => RunFault::Memory,
-        }
+    fn from(_: AllocError) -> Self {
+        RunFault::Memory
     }
 }
 
@@ -62,6 +60,7 @@ impl From<PlayFault> for RunFault {
 
     fn from(fault: PlayFault) -> Self {
         match fault {
+            PlayFault::NestingLimit { turn, limit } => RunFault::NestingLimit { turn, limit },
             PlayFault::WriteFault => RunFault::WriteFault,
             PlayFault::Memory => RunFault::Memory,
         }
@@ -87,7 +86,7 @@ pub fn status_of(ending: &Result<(), RunFault>) -> Status
         Ok(()) => Status::Done,
         Err(RunFault::Usage) => Status::Usage,
         Err(RunFault::Load(fault)) => status_of_file(&fault.cause),
-        Err(RunFault::NotBuilt) => Status::Refused,
+        Err(RunFault::NestingLimit { .. }) => Status::NestingLimit,
         Err(RunFault::WriteFault) => Status::WriteFault,
         Err(RunFault::Memory) => Status::NoMemory,
     }
@@ -186,6 +185,17 @@ fn say_cause<E: Sink>(err: &mut E, file: &Text, cause: &LoadCause) -> bool
     }
 }
 
+// Says the turn that components nest too deep for, and the limit.
+fn say_limit<E: Sink>(err: &mut E, turn: u64, limit: u32) -> bool
+    ensures { SaysOn true result (E.took err.old) (E.took err.new) (E.faults err.old) (E.faults err.new) (E.wants err.old) (E.wants err.new) (limit_line turn limit) }
+{
+    let whole = say_ascii(err, true, "turn ");
+    let whole = say_number(err, whole, turn);
+    let whole = say_ascii(err, whole, ": nesting limit ");
+    let whole = say_number(err, whole, limit as u64);
+    say_ascii(err, whole, "\n")
+}
+
 // Says the line of a run that ended so, which is none where all was written, and tells whether all was taken.
 fn say_ending<E: Sink>(err: &mut E, ending: &Result<(), RunFault>) -> bool
     ensures { SaysOn true result (E.took err.old) (E.took err.new) (E.faults err.old) (E.faults err.new) (E.wants err.old) (E.wants err.new) (line_of ending.now) }
@@ -194,7 +204,7 @@ fn say_ending<E: Sink>(err: &mut E, ending: &Result<(), RunFault>) -> bool
         Ok(()) => true,
         Err(RunFault::Usage) => say_ascii(err, true, "bad command line\n"),
         Err(RunFault::Load(fault)) => say_cause(err, &fault.file, &fault.cause),
-        Err(RunFault::NotBuilt) => say_ascii(err, true, "not built yet\n"),
+        Err(RunFault::NestingLimit { turn, limit }) => say_limit(err, *turn, *limit),
         Err(RunFault::WriteFault) => say_ascii(err, true, "write fault\n"),
         Err(RunFault::Memory) => say_ascii(err, true, "out of memory\n"),
     }

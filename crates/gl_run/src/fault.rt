@@ -1,31 +1,27 @@
-// Why an input is not played.
+// Why a session is not played to its end.
 ghost use Rattle.std.specs.Prelude.{◌≡◌};
-ghost use Rattle.gl_run.specs.declared.fault.FormFault.TheVariants.{Memory};
 
-use std::alloc::{AllocError, AllocFailed};
+use std::alloc::AllocError;
 use thiserror::Error;
 
-/// Why an application and its script are not played: they are not of the form that is built so far, or memory is wanting.
+/// Why a session is not played to its end, or a text is not written.
 #[derive(Clone, Copy, Debug, PartialEq, Eq, Error)]
-pub enum FormFault {
-    #[error("not built yet")]
-    NotBuilt,
+pub enum PlayFault {
+    /// A component would stand deeper than the application's limit says, in the turn of that number.
+    #[error("turn {turn}: nesting limit {limit}")]
+    NestingLimit { turn: u64, limit: u32 },
+    #[error("write fault")]
+    WriteFault,
     #[error("out of memory")]
     Memory,
 }
 
-impl From<AllocError> for FormFault {
+impl From<AllocError> for PlayFault {
+    ghost use Rattle.gl_run.specs.declared.fault.PlayFault.TheVariants.{Memory};
+
     ghost from_gives = { λ _ e. e ≡ Memory };
 
     fn from(_: AllocError) -> Self {
-        FormFault::Memory
-    }
-}
-
-impl<T: Drop> From<AllocFailed<T>> for FormFault {
-    ghost from_gives = { λ _ e. e ≡ Memory };
-
-    fn from(_: AllocFailed<T>) -> Self {
-        FormFault::Memory
+        PlayFault::Memory
     }
 }

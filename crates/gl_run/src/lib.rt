@@ -4,17 +4,17 @@
 mod command;
 mod ending;
 mod fault;
-mod form;
+mod last;
 mod line;
 mod load;
-mod page;
-mod session;
+mod playing;
+mod sample;
 mod show;
 mod status;
 mod top;
 
 pub use ending::RunFault;
-pub use fault::FormFault;
-pub use session::PlayFault;
+pub use fault::PlayFault;
+pub use last::Last;
 pub use status::Status;
-pub use top::{Last, run};
+pub use top::run;

@@ -2,10 +2,11 @@
 ghost use Rattle.std.specs.Prelude.{◌≡◌, ◌<◌, ◌∷◌, [], IfOk, IsErrOf};
 ghost use Rattle.gl_ast.specs.Template.{body_of};
 ghost use Rattle.gl_load.specs.View.{app_view};
-ghost use Rattle.gl_run.specs.Output.{shown_text, wire_line, classes_line};
+ghost use Rattle.gl_run.specs.Output.{shown_text, wire_line, classes_line, written};
 ghost use Rattle.gl_run.specs.Plays.{Plays};
 
-use crate::session::{PlayFault, put_text};
+use crate::PlayFault;
+use crate::playing::put_text;
 use gl_ast::{Body, Template};
 use gl_load::Application;
 use gl_outside::Sink;
@@ -26,7 +27,7 @@ fn shown_text(alloc: Global, tree: &Body) -> Result<Text, AllocError>
 
 /// Writes the canonical spelling of a tree and a line feed, in one put.
 pub fn write_shown<K: Sink>(alloc: Global, tree: &Body, out: &mut K) -> Result<(), PlayFault>
-    ensures plays { Plays result (K.took out.old) (K.took out.new) (shown_text (body_of tree.now) ∷ []) }
+    ensures plays { Plays result (K.took out.old) (K.took out.new) (written (shown_text (body_of tree.now) ∷ [])) }
     ensures failed { IsErrOf result PlayFault.WriteFault → K.faults out.old < K.faults out.new }
 {
     let text = shown_text(alloc, tree)?;
@@ -45,7 +46,7 @@ fn wire_line(alloc: Global, template: &Template) -> Result<Text, AllocError>
 
 /// Writes the text of a template's wire and a line feed, in one put.
 pub fn write_wire<K: Sink>(alloc: Global, template: &Template, out: &mut K) -> Result<(), PlayFault>
-    ensures plays { Plays result (K.took out.old) (K.took out.new) (wire_line (body_of template.now.body) ∷ []) }
+    ensures plays { Plays result (K.took out.old) (K.took out.new) (written (wire_line (body_of template.now.body) ∷ [])) }
     ensures failed { IsErrOf result PlayFault.WriteFault → K.faults out.old < K.faults out.new }
 {
     let text = wire_line(alloc, template)?;
@@ -69,7 +70,7 @@ pub fn write_classes<K: Sink>(
     application: &Application,
     out: &mut K,
 ) -> Result<(), PlayFault>
-    ensures plays { Plays result (K.took out.old) (K.took out.new) (classes_line (app_view application.now) ∷ []) }
+    ensures plays { Plays result (K.took out.old) (K.took out.new) (written (classes_line (app_view application.now) ∷ [])) }
     ensures failed { IsErrOf result PlayFault.WriteFault → K.faults out.old < K.faults out.new }
 {
     let text = classes_line(alloc, application)?;

@@ -1,51 +1,49 @@
 // The top call: what the program does.
-ghost use Rattle.std.specs.Prelude.{◌≡◌, ◌<◌, ◌↔◌, ◌∷◌, [], List, Some, None, Err, IsErrOf, map};
+ghost use Rattle.std.specs.Prelude.{◌≡◌, ◌<◌, ◌≤◌, ◌↔◌, ℕ, ◌∷◌, [], List, Some, None, Err, OnOk, OnErr, IsErrOf, map};
 ghost use Rattle.std.specs.Str.{chars};
 ghost use Rattle.gl_outside.specs.Shelf.{Entry};
 ghost use Rattle.gl_run.specs.Lines.{Says};
-ghost use Rattle.gl_run.specs.Command.{run_command, show_command, wire_command, check_command, command_of};
-ghost use Rattle.gl_load.specs.Load.{app_fetched, whole_fetched};
-ghost use Rattle.gl_run.specs.Output.{texts_of, texts_output, output_of, Answers};
+ghost use Rattle.gl_run.specs.Command.{run_command, show_command, wire_command, check_command, sample_command, command_of, IsPlay};
+ghost use Rattle.gl_load.specs.Load.{app_fetched, whole_in, whole_fetched};
+ghost use Rattle.gl_run.specs.Holds.{HoldsOf, Holds};
+ghost use Rattle.gl_run.specs.Sample.{sample_whole};
+ghost use Rattle.gl_run.specs.Output.{outcome_of, output_or, output_of, Answers};
 ghost use Rattle.gl_run.specs.Run.{Ending, status_of, line_of, HasCause, Tells, Completes, Untouched, fetched_by};
 
-use crate::Status;
 use crate::command::{Command, command_of};
 use crate::ending::{RunFault, say_line, status_of};
-use crate::load::{application_of, load, template_of};
-use crate::session::play;
+use crate::load::template_of;
+use crate::playing::{play, put_text};
+use crate::sample::play_sample;
 use crate::show::{write_classes, write_shown, write_wire};
+use crate::{Last, Status};
+use gl_load::{load, load_app};
 use gl_outside::{Shelf, Sink};
 use std::alloc::Global;
 
-/// What the last run left: nothing yet.
-#[derive(Drop)]
-pub struct Last {}
-
-impl Last {
-    /// It takes no memory.
-    pub fn new() -> Last {
-        Last {}
-    }
-}
-
-// Loads the app and plays its session.
+// Loads an application with its script and plays its session, which is left behind.
 fn play_app<S: Shelf, K: Sink>(
     alloc: Global,
     manifest: &str,
     script: &str,
     shelf: &mut S,
     out: &mut K,
+    last: &mut Last,
 ) -> Result<(), RunFault>
     ensures told { (files : List Entry) → S.holds shelf.old ≡ Some files
-        → Answers (status_of result) (K.took out.old) (K.took out.new) (texts_output (texts_of (run_command (chars manifest.now) (chars script.now)) files)) }
+        → Answers (status_of result) (K.took out.old) (K.took out.new) (output_or (outcome_of (run_command (chars manifest.now) (chars script.now)) files)) }
     ensures tells { (files : List Entry) → S.holds shelf.old ≡ Some files
-        → Tells result (texts_output (texts_of (run_command (chars manifest.now) (chars script.now)) files)) (whole_fetched files (chars manifest.now) (chars script.now)) }
+        → Tells result (output_or (outcome_of (run_command (chars manifest.now) (chars script.now)) files)) (whole_fetched files (chars manifest.now) (chars script.now)) }
     ensures causes { HasCause result (S.misses shelf.old) (S.misses shelf.new) (S.faults shelf.old) (S.faults shelf.new) (K.faults out.old) (K.faults out.new) }
     ensures untouched { Untouched result (K.took out.old) (K.took out.new) }
     ensures used { IsErrOf result RunFault.Usage → ⊥ }
+    ensures holds { (files : List Entry) → S.holds shelf.old ≡ Some files
+        → OnOk result (HoldsOf last.new.session (whole_in files (chars manifest.now) (chars script.now))) }
+    ensures kept { OnErr result (last.new ≡ last.old) }
 {
-    let app = load(alloc, shelf, manifest, script)?;
-    play(alloc, app.fields, &app.tree, &app.events, out)?;
+    let loaded = load(alloc, shelf, manifest, script)?;
+    let session = play(alloc, loaded.app, &loaded.script, out)?;
+    last.hold(session);
     Ok(())
 }
 
@@ -57,12 +55,13 @@ fn show_template<S: Shelf, K: Sink>(
     out: &mut K,
 ) -> Result<(), RunFault>
     ensures told { (files : List Entry) → S.holds shelf.old ≡ Some files
-        → Answers (status_of result) (K.took out.old) (K.took out.new) (texts_output (texts_of (show_command (chars template.now)) files)) }
+        → Answers (status_of result) (K.took out.old) (K.took out.new) (output_or (outcome_of (show_command (chars template.now)) files)) }
     ensures tells { (files : List Entry) → S.holds shelf.old ≡ Some files
-        → Tells result (texts_output (texts_of (show_command (chars template.now)) files)) (chars template.now ∷ []) }
+        → Tells result (output_or (outcome_of (show_command (chars template.now)) files)) (chars template.now ∷ []) }
     ensures causes { HasCause result (S.misses shelf.old) (S.misses shelf.new) (S.faults shelf.old) (S.faults shelf.new) (K.faults out.old) (K.faults out.new) }
     ensures untouched { Untouched result (K.took out.old) (K.took out.new) }
     ensures used { IsErrOf result RunFault.Usage → ⊥ }
+    ensures limit { status_of result ≡ Status.NestingLimit → ⊥ }
 {
     let spelled = template_of(alloc, shelf, template)?;
     write_shown(alloc, spelled.body(), out)?;
@@ -77,12 +76,13 @@ fn wire_template<S: Shelf, K: Sink>(
     out: &mut K,
 ) -> Result<(), RunFault>
     ensures told { (files : List Entry) → S.holds shelf.old ≡ Some files
-        → Answers (status_of result) (K.took out.old) (K.took out.new) (texts_output (texts_of (wire_command (chars template.now)) files)) }
+        → Answers (status_of result) (K.took out.old) (K.took out.new) (output_or (outcome_of (wire_command (chars template.now)) files)) }
     ensures tells { (files : List Entry) → S.holds shelf.old ≡ Some files
-        → Tells result (texts_output (texts_of (wire_command (chars template.now)) files)) (chars template.now ∷ []) }
+        → Tells result (output_or (outcome_of (wire_command (chars template.now)) files)) (chars template.now ∷ []) }
     ensures causes { HasCause result (S.misses shelf.old) (S.misses shelf.new) (S.faults shelf.old) (S.faults shelf.new) (K.faults out.old) (K.faults out.new) }
     ensures untouched { Untouched result (K.took out.old) (K.took out.new) }
     ensures used { IsErrOf result RunFault.Usage → ⊥ }
+    ensures limit { status_of result ≡ Status.NestingLimit → ⊥ }
 {
     let spelled = template_of(alloc, shelf, template)?;
     write_wire(alloc, &spelled, out)?;
@@ -97,15 +97,39 @@ fn check_app<S: Shelf, K: Sink>(
     out: &mut K,
 ) -> Result<(), RunFault>
     ensures told { (files : List Entry) → S.holds shelf.old ≡ Some files
-        → Answers (status_of result) (K.took out.old) (K.took out.new) (texts_output (texts_of (check_command (chars manifest.now)) files)) }
+        → Answers (status_of result) (K.took out.old) (K.took out.new) (output_or (outcome_of (check_command (chars manifest.now)) files)) }
     ensures tells { (files : List Entry) → S.holds shelf.old ≡ Some files
-        → Tells result (texts_output (texts_of (check_command (chars manifest.now)) files)) (app_fetched files (chars manifest.now)) }
+        → Tells result (output_or (outcome_of (check_command (chars manifest.now)) files)) (app_fetched files (chars manifest.now)) }
     ensures causes { HasCause result (S.misses shelf.old) (S.misses shelf.new) (S.faults shelf.old) (S.faults shelf.new) (K.faults out.old) (K.faults out.new) }
     ensures untouched { Untouched result (K.took out.old) (K.took out.new) }
     ensures used { IsErrOf result RunFault.Usage → ⊥ }
+    ensures limit { status_of result ≡ Status.NestingLimit → ⊥ }
 {
-    let application = application_of(alloc, shelf, manifest)?;
+    let application = load_app(alloc, shelf, manifest)?;
     write_classes(alloc, &application, out)?;
+    Ok(())
+}
+
+// Plays the session of the sample of so many rows, which is left behind, and writes how much it is, in one put.
+fn sum_sample<K: Sink>(
+    alloc: Global,
+    rows: u32,
+    out: &mut K,
+    last: &mut Last,
+) -> Result<(), RunFault>
+    requires some { 1 ≤ rows }
+    requires most { rows ≤ 10000 }
+    ensures told { (files : List Entry) → Answers (status_of result) (K.took out.old) (K.took out.new) (output_or (outcome_of (sample_command rows) files)) }
+    ensures tells { (files : List Entry) → Tells result (output_or (outcome_of (sample_command rows) files)) [] }
+    ensures causes { (misses faults : ℕ) → HasCause result misses misses faults faults (K.faults out.old) (K.faults out.new) }
+    ensures untouched { Untouched result (K.took out.old) (K.took out.new) }
+    ensures used { IsErrOf result RunFault.Usage → ⊥ }
+    ensures holds { OnOk result (HoldsOf last.new.session (sample_whole rows)) }
+    ensures kept { OnErr result (last.new ≡ last.old) }
+{
+    let (session, line) = play_sample(alloc, rows)?;
+    put_text(out, &line)?;
+    last.hold(session);
     Ok(())
 }
 
@@ -115,6 +139,7 @@ fn attempt<S: Shelf, K: Sink>(
     words: &[&str],
     shelf: &mut S,
     out: &mut K,
+    last: &mut Last,
 ) -> Result<(), RunFault>
     ensures told { (files : List Entry) → S.holds shelf.old ≡ Some files
         → Answers (status_of result) (K.took out.old) (K.took out.new) (output_of (map (λ w. chars w.now) words.now) files) }
@@ -123,25 +148,37 @@ fn attempt<S: Shelf, K: Sink>(
     ensures causes { HasCause result (S.misses shelf.old) (S.misses shelf.new) (S.faults shelf.old) (S.faults shelf.new) (K.faults out.old) (K.faults out.new) }
     ensures untouched { Untouched result (K.took out.old) (K.took out.new) }
     ensures used { (result ≡ Err RunFault.Usage) ↔ (command_of (map (λ w. chars w.now) words.now) ≡ None) }
+    ensures holds { (files : List Entry) → S.holds shelf.old ≡ Some files
+        → OnOk result (Holds (command_of (map (λ w. chars w.now) words.now)) files last.new.session) }
+    ensures kept { OnErr result (last.new ≡ last.old) }
+    ensures others { (IsPlay (command_of (map (λ w. chars w.now) words.now)) → ⊥) → last.new ≡ last.old }
+    ensures limit { status_of result ≡ Status.NestingLimit → IsPlay (command_of (map (λ w. chars w.now) words.now)) }
 {
     match command_of(words) {
-        Some(Command::Run { manifest, script }) => play_app(alloc, manifest, script, shelf, out),
+        Some(Command::Run { manifest, script }) => {
+            play_app(alloc, manifest, script, shelf, out, last)
+        }
         Some(Command::Show { template }) => show_template(alloc, template, shelf, out),
         Some(Command::Wire { template }) => wire_template(alloc, template, shelf, out),
         Some(Command::Check { manifest }) => check_app(alloc, manifest, shelf, out),
+        Some(Command::Sample { rows }) => sum_sample(alloc, rows, out, last),
         None => Err(RunFault::Usage),
     }
 }
 
 /// Does what the words say, over a shelf of files and two sinks, and gives the status.
 ///
-/// The words are `run MANIFEST SCRIPT`, `check MANIFEST`, `show TEMPLATE` or `wire TEMPLATE`; all else is [`Status::Usage`]. For
+/// The words are `run MANIFEST SCRIPT`, `check MANIFEST`, `show TEMPLATE`, `wire TEMPLATE` or `sample N`, where N is a number from 1 to
+/// 10,000 in decimal; all else is [`Status::Usage`]. For
 /// `run` and `check` the manifest is fetched and read, then the template of each class, then unknown names are sought, and
 /// then cycles of getters. `check` then writes how many classes there are. For `run` the script is fetched and read, before
-/// anything is written; then `out` gets the text of the first turn and of the turn of each event, one put each. What is refused
-/// for nothing else and is not of the small form is refused as not built yet. For `show` and `wire` the template is fetched and
-/// read, and `out` gets its canonical spelling, or the text of its wire, and a line feed, in one put. `err` gets the line of
-/// the status, which is none at [`Status::Done`].
+/// anything is written; then `out` gets the text of the first turn and of the turn of each event, one put each, up to a turn that
+/// components nest too deep for, which is [`Status::NestingLimit`]. For `show` and `wire` the template is fetched and read, and
+/// `out` gets its canonical spelling, or the text of its wire, and a line feed, in one put. For `sample` nothing is fetched: the session
+/// of the sample application of N rows is played, and `out` gets how many turns it has, how many bytes they are and how many the last is,
+/// in one line and one put. `err` gets the line of the status,
+/// which is none at [`Status::Done`]. After a whole `run` or `sample` the session that made the turns is left in `last`, which is as before
+/// after all else.
 pub fn run<S: Shelf, K: Sink, E: Sink>(
     alloc: Global,
     words: &[&str],
@@ -169,9 +206,15 @@ pub fn run<S: Shelf, K: Sink, E: Sink>(
     ensures read { result ≡ Status.ReadFault → S.faults shelf.old < S.faults shelf.new }
     ensures write { result ≡ Status.WriteFault → K.faults out.old < K.faults out.new }
     ensures refused { result ≡ Status.Refused → K.took out.new ≡ K.took out.old }
-    ensures limit { result ≡ Status.NestingLimit → ⊥ }
+    ensures limit { result ≡ Status.NestingLimit → IsPlay (command_of (map (λ w. chars w.now) words.now)) }
+
+    // What is left behind: after a whole session the one that made the turns, and else what was there.
+    ensures holds { (files : List Entry) → S.holds shelf.old ≡ Some files → result ≡ Status.Done
+        → Holds (command_of (map (λ w. chars w.now) words.now)) files last.new.session }
+    ensures kept { (result ≡ Status.Done → ⊥) → last.new ≡ last.old }
+    ensures others { (IsPlay (command_of (map (λ w. chars w.now) words.now)) → ⊥) → last.new ≡ last.old }
 {
-    let ending = attempt(alloc, words, shelf, out);
+    let ending = attempt(alloc, words, shelf, out, last);
     say_line(err, &ending);
     status_of(&ending)
 }

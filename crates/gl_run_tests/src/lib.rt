@@ -9,3 +9,5 @@ mod load;
 mod outside;
 #[cfg(test)]
 mod run;
+#[cfg(test)]
+mod sessions;

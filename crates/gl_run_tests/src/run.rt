@@ -1,5 +1,7 @@
 // Worked rows, over shelves and sinks in memory.
-use gl_outside::{Calls, CalmShelf, CalmSink, Cut, Cuts, File, Files, MemShelf, MemSink};
+use gl_outside::{
+    Calls, CalmShelf, CalmSink, Cut, Cuts, File, Files, MemShelf, MemSink, Shelf, Sink,
+};
 use gl_run::{Last, Status, run};
 use std::alloc::{AllocError, Global};
 use std::process::Abort;
@@ -29,7 +31,7 @@ const NULL: &str =
 const NESTED: &str =
     "{\"classes\":{\"My::App2\":{\"fields\":{\"n\":\"\\u0007\\\"\"},\"template\":\"app.hbs\"}},\"root\":\"My::App2\"}";
 
-static ROWS: [Row; 16] = [
+static ROWS: [Row; 18] = [
     (
         "an empty page",
         RUN,
@@ -114,17 +116,33 @@ static ROWS: [Row; 16] = [
         "an attribute",
         RUN,
         [ONE, "<p title=\"a\"></p>", "[]"],
-        Status::Refused,
+        Status::Done,
+        "= 0 start\n#1 <p title=\"a\">\n",
         "",
-        "not built yet\n",
     ),
     (
         "a property of a field",
         RUN,
         [ONE, "{{this.n.length}}", "[]"],
-        Status::Refused,
+        Status::Done,
+        "= 0 start\n#1 \"\"\n",
         "",
-        "not built yet\n",
+    ),
+    (
+        "the sample of one row",
+        &["sample", "1"],
+        ["", "", ""],
+        Status::Done,
+        "turns 17 bytes 1509 last 81\n",
+        "",
+    ),
+    (
+        "no number of rows",
+        &["sample", "01"],
+        ["", "", ""],
+        Status::Usage,
+        "",
+        "bad command line\n",
     ),
     (
         "an integer too large",
@@ -186,13 +204,24 @@ fn files_of(alloc: Global, texts: &[&str; 3]) -> Result<Files, AllocError> {
     Ok(files)
 }
 
+// The status of the words. What is left behind is dropped.
+fn status_of<S: Shelf, K: Sink, E: Sink>(
+    alloc: Global,
+    words: &[&str],
+    shelf: &mut S,
+    out: &mut K,
+    err: &mut E,
+) -> Status {
+    let mut last = Last::new();
+    run(alloc, words, shelf, out, err, &mut last)
+}
+
 fn check_row(rt: &impl Abort, alloc: Global, row: &Row) -> Result<(), Fail> {
     let (what, words, texts, wanted, written, line) = row;
     let mut shelf = CalmShelf::new(files_of(alloc, texts)?);
     let mut out = CalmSink::new(alloc);
     let mut err = CalmSink::new(alloc);
-    let mut last = Last::new();
-    let status = run(alloc, words, &mut shelf, &mut out, &mut err, &mut last);
+    let status = status_of(alloc, words, &mut shelf, &mut out, &mut err);
     assert_eq!(rt; status, *wanted, "{}", what);
     assert_eq!(rt; out.taken(), written.as_bytes(), "{}", what);
     assert_eq!(rt; err.taken(), line.as_bytes(), "{}", what);
@@ -470,9 +499,9 @@ static SCRIPTS: [Row; 5] = [
         "events at once",
         RUN,
         [ONE, "", "[{\"batch\":[{\"set\":\"n\",\"to\":1}]}]"],
-        Status::Refused,
+        Status::Done,
+        "= 0 start\n= 1 batch 1\n",
         "",
-        "not built yet\n",
     ),
 ];
 
@@ -606,8 +635,7 @@ fn too_long(rt: HostRuntime) -> Result<(), Fail> {
     let mut shelf = CalmShelf::new(files);
     let mut out = CalmSink::new(alloc);
     let mut err = CalmSink::new(alloc);
-    let mut last = Last::new();
-    let status = run(alloc, RUN, &mut shelf, &mut out, &mut err, &mut last);
+    let status = status_of(alloc, RUN, &mut shelf, &mut out, &mut err);
     assert_eq!(rt; status, Status::Refused);
     assert_eq!(rt;
         err.taken(),
@@ -675,8 +703,7 @@ fn failing(rt: HostRuntime) -> Result<(), Fail> {
         let mut shelf = MemShelf::new(files_of(alloc, &texts)?, calls);
         let mut out = MemSink::new(alloc, cuts);
         let mut err = MemSink::new(alloc, silent);
-        let mut last = Last::new();
-        let status = run(alloc, RUN, &mut shelf, &mut out, &mut err, &mut last);
+        let status = status_of(alloc, RUN, &mut shelf, &mut out, &mut err);
         assert_eq!(rt; status, *wanted);
         assert_eq!(rt; out.taken(), written.as_bytes());
         assert_eq!(rt; err.taken(), line.as_bytes());

@@ -1,6 +1,5 @@
 use Rattle.gl_ast.specs.TokenReading.{lone_tokens}
 use Rattle.gl_ast.specs.declared.mode.Mode.TheVariants as m
-use Rattle.gl_lex.specs.Front.{Front}
 use Rattle.gl_lex.proofs.Stopping.{told_stop, told_within}
 use Rattle.gl_lex.proofs.Told.{told, told_spans, told_whole}
 use Rattle.gl_lex.proofs.lexer.expression_tokens.Goals as goal

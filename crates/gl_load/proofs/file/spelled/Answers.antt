@@ -1,6 +1,7 @@
-use Rattle.std.proofs.Common.{◌≡◌, ◌≤◌, None, length, refl, rules}
+use Rattle.std.proofs.Common.{◌≡◌, None, refl, rules}
 use Rattle.gl_ast.specs.Grammar.{Spells}
 use Rattle.gl_ast.specs.Template.{body_of}
+use Rattle.gl_parse.specs.FaultPlace.{template_place}
 use Rattle.gl_parse.specs.ReadStmt.{template_of}
 use Rattle.gl_parse.proofs.SpellsRead.{spells_read}
 use Rattle.gl_load.proofs.Spelled.{nothing_read}
@@ -15,5 +16,5 @@ returns-in-Ok-clause-told c =
 pub returns-in-Err-NotInGrammar-clause-told : goal.returns-in-Err-NotInGrammar-clause-told
 returns-in-Err-NotInGrammar-clause-told c =
     let none : template_of c.args.bytes.now ≡ None = nothing_read c.args.bytes.now (search rules) in
-    let within : c.in-Err-NotInGrammar.offset ≤ length c.args.bytes.now = search rules in
-    (length c.args.bytes.now, rw none refl, within)
+    let place : c.in-Err-NotInGrammar.offset ≡ template_place c.args.bytes.now = search rules in
+    rw (none, place) refl

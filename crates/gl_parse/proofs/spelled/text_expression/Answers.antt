@@ -1,4 +1,4 @@
-use Rattle.std.proofs.Common.{subst, ◌∙◌}
+use Rattle.std.proofs.Common.{subst}
 use Rattle.std.specs.Prelude.{IfErr}
 use Rattle.gl_exprs.specs.Fault.{Names}
 use Rattle.gl_parse.specs.ReadStmt.{expression_of}

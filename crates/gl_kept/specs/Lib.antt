@@ -1,0 +1,6 @@
+pub mod Around
+pub mod Kept
+pub mod Closed
+pub mod Listed
+pub mod Asked
+pub mod Laws

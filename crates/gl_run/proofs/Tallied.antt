@@ -1,0 +1,87 @@
+-- A session that is played turn by turn, of which a tally is kept.
+use Rattle.std.proofs.Common.{◌≡◌, ◌+◌, List, [], ◌∷◌, ◌++◌, length, None, refl, sym, ap, ◌∙◌, subst, append_assoc, append-nil, length-append}
+use Rattle.std.proofs.lemmas.Grind.{flat_map-append}
+use Rattle.std.proofs.lemmas.List.{map-append}
+use Rattle.std.proofs.lemmas.Str.{encodes-append}
+use Rattle.gl_base.specs.Texts.{Text, bytes_of, joined}
+use Rattle.gl_ast.specs.Template.{Body}
+use Rattle.gl_meaning.specs.App as a
+use Rattle.gl_meaning.specs.Manifest.{app_of}
+use Rattle.gl_meaning.specs.Session.{first_state, Turn, Session, go_on, session_from, session}
+use Rattle.gl_meaning.specs.View.{manifest_view}
+use Rattle.gl_opc.specs.declared.app.App.{App}
+use Rattle.gl_session.specs.Standing.{StandsAt, Starts, Turns}
+use Rattle.gl_session.specs.declared.session.Session as code
+use Rattle.gl_run.specs.Holds.{state_after, EndsAt}
+use Rattle.gl_run.specs.Output.{turn_texts}
+use Rattle.gl_run.specs.Sample.{last_of, last_text, byte_count, Tallies, Sums}
+use Rattle.gl_run.specs.declared.sample.Tally.{Tally}
+use Rattle.gl_run.specs.Reached.{of_turns, turns_before, Counted}
+use Rattle.gl_run.proofs.Played.{after_more, first_turn}
+
+last_of_more : (first : Text) (texts : List Text) (text : Text) → last_of first (texts ++ text ∷ []) ≡ text
+last_of_more first [] text = refl
+last_of_more first (t ∷ texts) text = last_of_more t texts text
+
+last_of_all : (texts : List Text) (text : Text) → last_text (texts ++ text ∷ []) ≡ text
+last_of_all [] text = refl
+last_of_all (t ∷ texts) text = last_of_more t texts text
+
+bytes_more : (texts : List Text) (text : Text) → byte_count (joined (texts ++ text ∷ [])) ≡ byte_count (joined texts) + byte_count text
+bytes_more texts text =
+    ap byte_count (flat_map-append (λ (t : Text). t) texts (text ∷ []) ∙ ap (λ t. joined texts ++ t) (append-nil text))
+    ∙ ap length (encodes-append (joined texts) text)
+    ∙ length-append (bytes_of (joined texts)) (bytes_of text)
+
+-- one text more is counted
+tallies_more : (old new : Tally) (texts : List Text) (text : Text) → Tallies old texts → new.turns ≡ old.turns + 1 → new.bytes ≡ old.bytes + byte_count text → new.last ≡ byte_count text
+    → Tallies new (texts ++ text ∷ [])
+tallies_more old new texts text (turns, bytes, last) t b l =
+    (t ∙ ap (λ n. n + 1) turns ∙ sym (length-append texts (text ∷ [])), b ∙ ap (λ n. n + byte_count text) bytes ∙ sym (bytes_more texts text), l ∙ ap byte_count (sym (last_of_all texts text)))
+
+module _ (app : App) (templates : List Body) (events : List a.Event) where
+  abbrev of_app : a.App
+  of_app = app_of (manifest_view app.manifest) templates
+
+  -- how far it is
+  abbrev Here : List a.Event → code.Session → Tally → Type 0
+  Here left held tally = Counted app templates events left held tally
+
+  pub left_is : (left same : List a.Event) (held : code.Session) (tally : Tally) → left ≡ same → Here left held tally → Here same held tally
+  left_is left same held tally e r = subst (λ es. Here es held tally) e r
+
+  pub start_counted : (held : code.Session) (text : Text) (tally : Tally) → Starts app templates held text → Tallies tally (text ∷ []) → Here events held tally
+  start_counted held text tally (t, made, is, stands) p = record {
+    state = t.state;
+    done = t ∷ [];
+    stands = stands;
+    last = refl;
+    whole = first_turn app templates events t made;
+    counts = subst (λ x. Tallies tally (x ∷ [])) is p;
+  }
+
+  pub turn_counted : (e : a.Event) (left : List a.Event) (held : code.Session) (tally : Tally) (r : Here (e ∷ left) held tally) (new_held : code.Session) (text : Text) (new : Tally)
+      → Turns app templates r.state e new_held text → new.turns ≡ tally.turns + 1 → new.bytes ≡ tally.bytes + byte_count text → new.last ≡ byte_count text → Here left new_held new
+  turn_counted e left held tally r new_held text new (t, made, is, stands) turns bytes last =
+      let rest = session_from of_app left t.state in
+      let all = ap (λ x. turn_texts r.done ++ x ∷ []) is ∙ sym (map-append (λ (u : Turn). u.text) r.done (t ∷ [])) in
+      record {
+        state = t.state;
+        done = r.done ++ t ∷ [];
+        stands = stands;
+        last = after_more first_state r.done t;
+        whole = r.whole ∙ ap (λ o. turns_before r.done (go_on r.state o (session_from of_app left))) made ∙ ap (of_turns rest.stopped) (sym (append_assoc r.done (t ∷ []) rest.turns));
+        counts = subst (Tallies new) all (tallies_more tally new (turn_texts r.done) text r.counts turns bytes last);
+      }
+
+  -- no event is left
+  ended : (held : code.Session) (tally : Tally) (r : Here [] held tally) → session of_app events ≡ of_turns None r.done
+  ended held tally r = r.whole ∙ ap (of_turns None) (append-nil r.done)
+
+  pub all_summed : (held : code.Session) (tally : Tally) → Here [] held tally → Sums tally (session of_app events)
+  all_summed held tally r = subst (Sums tally) (sym (ended held tally r)) (refl, r.counts)
+
+  pub all_ends : (held : code.Session) (tally : Tally) → Here [] held tally → EndsAt held app templates events
+  all_ends held tally r =
+      let there = ap (λ (x : Session). state_after first_state x.turns) (ended held tally r) ∙ r.last in
+      subst (λ s. StandsAt held app templates s) (sym there) r.stands
