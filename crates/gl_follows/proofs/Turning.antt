@@ -52,6 +52,9 @@ use Rattle.gl_turns.proofs.Setting.{sets_are_laid}
 use Rattle.gl_turns.proofs.Logged.{installs_new, updates_stale}
 use Rattle.gl_turns.proofs.TurnLogs.{first_log}
 use Rattle.gl_turns.proofs.Turning.{turn_after, step_is, rendered}
+use Rattle.gl_kept.specs.Kept.{Kept}
+use Rattle.gl_kept.proofs.Roots.{appended_keeps, updated_keeps}
+use Rattle.gl_follows.proofs.Keeping.{kept_with, kept_without, sets_keep_by}
 use Rattle.gl_follows.specs.Sets.{set_all_by, AreThere}
 use Rattle.gl_follows.specs.Turns.{rooted, FollowsBy, TurnBy, StepsBy}
 use Rattle.gl_follows.specs.Laws.{SetBy, PathsBy, FirstBy, NextBy, NextPaths}
@@ -90,15 +93,16 @@ module _ (app : App) (s : session.State) (e : Option Event) (st : State) (l : Li
   module _ (n : Named app laid_store laid_store st l) (given : Given app st l) (numbers : numbers_of st l ≡ number s.numbers drawn_now) (evaluated : length st.evaluated ≡ (work s.rendering drawn_now given_sets).evaluated)
       (made : st.next a_node ≡ s.numbers.next + (work s.rendering drawn_now given_sets).made)
       (installs : st.installs ≡ map (λ z. z.1) (filter (λ z. not (has_path z.0 (modifier_paths s.rendering))) (filter_map modifier_in (places [] l))))
-      (updates : st.updates ≡ map (λ z. z.1) (filter (λ z. stale s.rendering drawn_now given_sets z.0) (filter_map modifier_in (places [] l)))) where
+      (updates : st.updates ≡ map (λ z. z.1) (filter (λ z. stale s.rendering drawn_now given_sets z.0) (filter_map modifier_in (places [] l))))
+      (kept : is_deep l ≡ false → Kept app st l) where
     abbrev none : Source → Bool
     none x = false
 
     deep : fits drawn_now ≡ not (is_deep l)
     deep = deep_is_deep app laid_store (state_with n.owner n.source none st) l (n.stands none)
 
-    after : FollowsBy app (turn_after app s e).state st l
-    after = record {
+    after : is_deep l ≡ false → FollowsBy app (turn_after app s e).state st l
+    after shallow = record {
       named = record {
         owner = n.owner;
         source = n.source;
@@ -112,13 +116,14 @@ module _ (app : App) (s : session.State) (e : Option Event) (st : State) (l : Li
       given = given;
       rendering = standing_shows app laid_store (state_with n.owner n.source none st) l (n.stands none);
       numbers = numbers;
+      kept = kept shallow;
     }
 
     pub steps : StepsBy app s e st l
     steps = record {
       turned = λ t h. subst (λ (u : Turn). TurnBy app s e u st l) (step_is app s e t h)
           (record {
-            follows = after;
+            follows = after (not_true (is_deep l) (sym deep ∙ some_taken (fits drawn_now) (turn_after app s e) t h));
             shallow = not_true (is_deep l) (sym deep ∙ some_taken (fits drawn_now) (turn_after app s e) t h);
             evaluated = evaluated;
             made = made;
@@ -179,6 +184,7 @@ first_by app differ =
     (ap (λ (z : Numbers). z.next) ns ∙ next_count [] [] refl 1 (nodes (draw app [])))
     (logs.0 ∙ ap (map (λ z. z.1)) (sym (all_pass ms)))
     (logs.1 ∙ ap (map (λ z. z.1)) (sym (none_pass ms)))
+    (λ shallow. kept_without f g t app r.1 r.0 (subst (λ (z : Live × State). is_deep z.0 ≡ false → Kept app z.1 z.0) same (appended_keeps app [] x (λ q. refl)) shallow))
 
 -- The next turn
 
@@ -322,6 +328,12 @@ module _ (app : App) (differ : FieldsDiffer app) (s : session.State) (e : Event)
       (updates_stale app σ τ sets y0 l stood only by plain)
       ∙ (ap (λ xs. xs ++ map (λ z. z.1) (filter (λ z. stale (draw app σ) (draw app τ) sets z.0) mods)) no_updates ∙ ap (λ k. map (λ z. z.1) (filter (λ z. stale k (draw app τ) sets z.0) mods)) old)
 
+  kept_now : is_deep a.0 ≡ false → Kept app a.1 a.0
+  kept_now shallow =
+      let laid' = sets_keep_by app σ σ fo.named.owner fo.named.source no_source sets st l here fo.kept in
+      let done = updated_keeps app σ τ y0 l stood (kept_with f g (is_named sets) app st' l laid') in
+      kept_without f g z.1.touched app a.1 a.0 (subst (λ (x : Live × State). is_deep x.0 ≡ false → Kept app x.1 x.0) same done shallow)
+
   -- the cells of the store are those of the tree's instances
   own_cell : (h : Held) → Among h σ → Among h.instance (values (owners_in l))
   own_cell h m = settled_own app σ st l fo.named h (subst (Among h) (sym (state_is_settled app s reached) ∙ ap (settle app σ) (sym old)) m)
@@ -335,7 +347,7 @@ module _ (app : App) (differ : FieldsDiffer app) (s : session.State) (e : Event)
   pub steps_next : let r = renew_app_as by_number app [] l (set_all_by app l (applied app s (Some e)).sets (begin st)) in StepsBy app s (Some e) r.1 r.0
   steps_next =
       subst (λ (x : Live × State). StepsBy app s (Some e) x.1 x.0) (sym initial)
-      (steps app s (Some e) a.1 a.0 turn.now turn.given numbers_now evaluated_now made_now installs_now updates_now)
+      (steps app s (Some e) a.1 a.0 turn.now turn.given numbers_now evaluated_now made_now installs_now updates_now kept_now)
 
   pub paths_next : PathsBy app σ sets st' l (renew_app_as by_number app [] l st')
   paths_next = subst (λ (x : Live × State). PathsBy app σ sets st' l x) (sym initial) (record { now = turn.now; stood = stood; only = only; is = same })

@@ -1,5 +1,5 @@
 -- The laws of a machine by numbers that follows a session.
-use Rattle.std.specs.Prelude.{◌≡◌, ℕ, List, [], map, false, Option, Some, None}
+use Rattle.std.specs.Prelude.{◌≡◌, ◌<◌, ℕ, List, [], map, false, Option, Some, None}
 use Rattle.gl_meaning.specs.App.{App, Event}
 use Rattle.gl_meaning.specs.Path.{Path}
 use Rattle.gl_meaning.specs.Eval.{Held, Store, class_at, field_member, member_of}
@@ -10,10 +10,10 @@ use Rattle.gl_meaning.specs.Laws.{HoldsNoAction, Reached}
 use Rattle.gl_meaning.specs.Session as session
 use Rattle.gl_meaning.specs.Session.{Turn, first_state, applied, step}
 use Rattle.gl_opc.specs.Numbers.{class_number}
-use Rattle.gl_plain.specs.Ids.{instance_id}
+use Rattle.gl_plain.specs.Ids.{Id, instance_id}
 use Rattle.gl_plain.specs.State.{Inst, cell_ref, instance_row, State, touch}
 use Rattle.gl_plain.specs.Naming.{by_number}
-use Rattle.gl_plain.specs.Live.{Live}
+use Rattle.gl_plain.specs.Live.{Live, times}
 use Rattle.gl_plain.specs.Turns.{begin}
 use Rattle.gl_plain.specs.Grow.{grow_app_as}
 use Rattle.gl_plain.specs.Renew.{renew_app, renew_app_as}
@@ -25,6 +25,7 @@ use Rattle.gl_naming.specs.Renamed.{state_with, run_with}
 use Rattle.gl_naming.specs.Named.{Named, Given, OwnTouched}
 use Rattle.gl_turns.specs.Evaluated.{is_named}
 use Rattle.gl_turns.specs.Sets.{set_all}
+use Rattle.gl_kept.specs.Around.{IsThing}
 use Rattle.gl_machine.specs.Code.{Code, live_of}
 use Rattle.gl_machine.specs.Outcome.{Outcome, ok, deep, lost, Ends}
 use Rattle.gl_machine.specs.Env.{Env}
@@ -98,6 +99,13 @@ NextPaths =
     (app : App) → FieldsDiffer app → (s : session.State) (e : Event) → Reached app s → (st : State) (l : Live) → FollowsBy app s st l
     → let sets = (applied app s (Some e)).sets in AreThere app l sets
     → let now = set_all_by app l sets (begin st) in PathsBy app s.store sets now l (renew_app_as by_number app [] l now)
+
+-- What a machine that follows a state keeps is just what its tree names: an id names a thing exactly where the tree counts it, one of its
+-- kind, and a reference reads only references of the tree.
+abbrev pub KeepsBy : Type 0
+KeepsBy =
+    (app : App) (s : session.State) (st : State) (l : Live) → FollowsBy app s st l
+    → (q : Id) → (0 < times q l → IsThing (λ r. times r l) q.kind (st.look q)) × (times q l ≡ 0 → st.look q ≡ None)
 
 -- The same through the words.
 

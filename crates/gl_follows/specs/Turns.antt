@@ -15,18 +15,20 @@ use Rattle.gl_naming.specs.Renamed.{there_with}
 use Rattle.gl_naming.specs.Named.{Named, Given}
 use Rattle.gl_turns.specs.Places.{modifier_in, places}
 use Rattle.gl_turns.specs.Numbers.{numbers_of}
+use Rattle.gl_kept.specs.Kept.{Kept}
 
 -- a machine that keeps nothing: the root of the nodes has the number 0, so the first node of a page gets 1
 abbrev pub rooted : State
 rooted = record blank { next = λ k. if kind_eq k a_node then 1 else 0 }
 
 -- A machine by numbers follows a state of a session: with some names of owners and sources it stands for the cells and shows the
--- rendering, and each node of its tree has the number that its path has.
+-- rendering, each node of its tree has the number that its path has, and it keeps just what its tree names.
 pub record FollowsBy (app : App) (s : session.State) (st : State) (l : Live) : Type 0 where
   pub named : Named app s.store s.store st l
   pub given : Given app st l
   pub rendering : drawn_app app (λ q. there_with named.owner named.source (st.look q)) l ≡ s.rendering
   pub numbers : numbers_of st l ≡ s.numbers
+  pub kept : Kept app st l
 
 -- A turn of a machine by numbers, from where it followed s: it follows the state after the session's turn, no component stands too deep, it
 -- evaluated as many positions and made as many nodes as the turn's work says, installed exactly the modifiers whose path is new, and

@@ -15,6 +15,8 @@ pub mod TreeLists
 pub mod Asking
 pub mod Asked
 pub mod Questions
+pub mod Between
+pub mod Trees
 pub mod Sessions
 mod Cases
 mod AskCases

@@ -86,11 +86,11 @@ calm_kept app st st' l m k = record {
 }
 
 -- the cells of the tree's instances are its own
-abbrev CellsCounted : App → Live → Type 0
+abbrev pub CellsCounted : App → Live → Type 0
 CellsCounted app l =
     (z : Path × Inst) → Among z (filter_map instance_in (places [] l)) → (x : Text) → member_of (class_at app z.0) x ≡ field_member → 0 < times (ref (cell_ref z.1 x)) l
 
-cells_counted : (app : App) (σ τ : Store) (m : ℕ) (st : State) (l : Live) → Owned st (λ q. times q l) → RootStands app σ τ st.look m l → CellsCounted app l
+pub cells_counted : (app : App) (σ τ : Store) (m : ℕ) (st : State) (l : Live) → Owned st (λ q. times q l) → RootStands app σ τ st.look m l → CellsCounted app l
 cells_counted app σ τ (suc m) st (Live.component_live i made gm args None ls) o s =
     let c = (class_at app []).template in
     let inside = cells_in app σ τ st.look m (max 0 (top made)) no_place (mscope i args [] mnothing) [] 0 c ls s.5 in

@@ -20,8 +20,10 @@ use Rattle.gl_turns.proofs.Turning.{turn_after, step_is, rendered}
 use Rattle.gl_each.specs.Moved.{moves}
 use Rattle.gl_kept.specs.Asked.{regions_of, asks}
 use Rattle.gl_kept.specs.Listed.{tree_lists, ArePlans}
-use Rattle.gl_kept.specs.Laws.{FirstKeeps, NextKeeps, NextMoves, NextAsks}
+use Rattle.gl_kept.specs.Between.{moved_between}
+use Rattle.gl_kept.specs.Laws.{FirstKeeps, NextKeeps, NextMoves, NextMovesBetween, NextAsks}
 use Rattle.gl_kept.proofs.TreeLists.{updated_moves}
+use Rattle.gl_kept.proofs.Trees.{updated_moves_between}
 use Rattle.gl_kept.proofs.Questions.{asked_at_most}
 use Rattle.gl_kept.proofs.Roots.{appended_keeps, sets_keep, updated_keeps}
 
@@ -65,6 +67,18 @@ next_moves app s e t st l plans reached h follows = subst (λ (u : Turn). Goal u
       let τ = lay sets s.store in
       let laid = sets_are_laid app s.store sets st l follows.stands in
       ap (λ f. (work f (draw app τ) sets).moved) (sym (rendered app s reached)) ∙ updated_moves app s.store τ sets (set_all app l sets (begin st)) l plans laid.0 laid.1 h
+
+pub next_moves_between : NextMovesBetween
+next_moves_between app s e t st l reached h follows = subst (λ (u : Turn). Goal u) (step_is app s (Some e) t h) done where
+  Goal : Turn → Type 0
+  Goal u = let sets = (applied app s (Some e)).sets in u.work.moved ≡ moved_between l (renew_app app (lay sets s.store) l (set_all app l sets (begin st))).0
+
+  done : Goal (turn_after app s (Some e))
+  done =
+      let sets = (applied app s (Some e)).sets in
+      let τ = lay sets s.store in
+      let laid = sets_are_laid app s.store sets st l follows.stands in
+      ap (λ f. (work f (draw app τ) sets).moved) (sym (rendered app s reached)) ∙ updated_moves_between app s.store τ sets (set_all app l sets (begin st)) l laid.0 laid.1
 
 pub next_asks : NextAsks
 next_asks app s e t st l reached h follows = subst (λ (u : Turn). Goal u) (step_is app s (Some e) t h) done where

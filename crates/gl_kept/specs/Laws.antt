@@ -8,7 +8,7 @@ use Rattle.gl_meaning.specs.Render.{draw}
 use Rattle.gl_meaning.specs.Changes.{Item, rendered_items, regions, Sets}
 use Rattle.gl_meaning.specs.Work.{list_path, work, asked}
 use Rattle.gl_meaning.specs.Actions.{lay}
-use Rattle.gl_meaning.specs.Laws.{Reached}
+use Rattle.gl_meaning.specs.Laws.{Reached, NoRepeat}
 use Rattle.gl_meaning.specs.Session as session
 use Rattle.gl_meaning.specs.Session.{Turn, first_state, applied, step}
 use Rattle.gl_plain.specs.Ids.{Id, ref, occurs}
@@ -21,7 +21,8 @@ use Rattle.gl_plain.specs.Reads.{reads, RowsReadLower}
 use Rattle.gl_plain.specs.Stands.{Owned}
 use Rattle.gl_plain.specs.Guards.{NoneStale}
 use Rattle.gl_plain.specs.Machine.{StandsFor, OnlyTouched}
-use Rattle.gl_each.specs.Sync.{Step}
+use Rattle.gl_each.specs.Key.{Key}
+use Rattle.gl_each.specs.Sync.{Step, IsSync}
 use Rattle.gl_each.specs.Moved.{moves}
 use Rattle.gl_turns.specs.Sets.{set_all}
 use Rattle.gl_turns.specs.Moved.{of_list}
@@ -31,6 +32,7 @@ use Rattle.gl_kept.specs.Around.{IsThing}
 use Rattle.gl_kept.specs.Kept.{Kept, LiveBelow}
 use Rattle.gl_kept.specs.Closed.{PartsClosed}
 use Rattle.gl_kept.specs.Asked.{regions_of, asks}
+use Rattle.gl_kept.specs.Between.{moves_between, moved_between}
 use Rattle.gl_kept.specs.Listed.{lists, AreEntries, keyed_lists, tree_lists, ArePlans}
 
 -- Where nothing was there, what is appended is kept and nothing else is, if no component stands too deep. (The references that were bound for a
@@ -114,6 +116,22 @@ NextMoves =
     (app : App) (s : session.State) (e : Event) (t : Turn) (st : State) (l : Live) (plans : List (List Step)) → Reached app s → step app s (Some e) ≡ Some t → Follows app s st l
     → let sets = (applied app s (Some e)).sets in let r = renew_app app (lay sets s.store) l (set_all app l sets (begin st)) in
     ArePlans (tree_lists [] l) (tree_lists [] r.0) plans → t.work.moved ≡ sum (map moves plans)
+
+-- As many as `moved_between` counts in the trees before and after an update,
+abbrev pub UpdatedMovesBetween : Type 0
+UpdatedMovesBetween =
+    (app : App) (σ τ : Store) (sets : Sets) (st : State) (l : Live) → StandsFor app σ τ st l → OnlyTouched app σ τ st
+    → (work (draw app σ) (draw app τ) sets).moved ≡ moved_between l (renew_app app τ l st).0
+
+-- and so in each turn of a session.
+abbrev pub NextMovesBetween : Type 0
+NextMovesBetween =
+    (app : App) (s : session.State) (e : Event) (t : Turn) (st : State) (l : Live) → Reached app s → step app s (Some e) ≡ Some t → Follows app s st l
+    → let sets = (applied app s (Some e)).sets in t.work.moved ≡ moved_between l (renew_app app (lay sets s.store) l (set_all app l sets (begin st))).0
+
+-- Between two lists of keys, of which the old one has no key twice, as many are moved as a plan moves.
+abbrev pub PlansMoveBetween : Type 0
+PlansMoveBetween = (old new : List Key) (steps : List Step) (removed : List ℕ) → NoRepeat old → IsSync old new steps removed → moves steps ≡ moves_between old new
 
 -- Questions
 

@@ -1,6 +1,6 @@
 //! The laws of what the machine keeps. Each function does nothing: its contract is the law.
 
-ghost use Rattle.gl_kept.specs.Laws.{AppendedKeeps, SetsKeep, UpdatedKeeps, FirstKeeps, NextKeeps, NamesAreThere, ReadsAreLive, FreedIsUnread, NobodyReadsInto, ItemsByList, ListsAreEntries, TreeListsAreThere, MovedByPlans, UpdatedMoves, NextMoves, AskedAtMost, RegionsAreThere, FreshAsksOnce, NextAsks};
+ghost use Rattle.gl_kept.specs.Laws.{AppendedKeeps, SetsKeep, UpdatedKeeps, FirstKeeps, NextKeeps, NamesAreThere, ReadsAreLive, FreedIsUnread, NobodyReadsInto, ItemsByList, ListsAreEntries, TreeListsAreThere, MovedByPlans, UpdatedMoves, NextMoves, UpdatedMovesBetween, NextMovesBetween, PlansMoveBetween, AskedAtMost, RegionsAreThere, FreshAsksOnce, NextAsks};
 
 /// What is appended and updated is kept, and nothing else is.
 pub fn keeps()
@@ -31,6 +31,13 @@ pub fn moves()
     ensures plans { MovedByPlans }
     ensures updated { UpdatedMoves }
     ensures next { NextMoves }
+{}
+
+/// They are those that are counted in the trees before and after an update, list by list, and in a list those that its plan moves.
+pub fn between()
+    ensures updated { UpdatedMovesBetween }
+    ensures next { NextMovesBetween }
+    ensures plans { PlansMoveBetween }
 {}
 
 /// An update that keeps a guard for each region asks at most as much as the meaning says, and once where no position is stale.

@@ -7,6 +7,7 @@ pub mod JsonTexts
 pub mod JsonTokens
 pub mod Keys
 pub mod Limits
+pub mod ModifiersNamed
 pub mod Names
 pub mod NamesApart
 pub mod ParamsDiffer

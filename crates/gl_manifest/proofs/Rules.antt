@@ -12,7 +12,7 @@ use Rattle.gl_meaning.specs.Laws.{NoRepeat}
 use Rattle.gl_meaning.specs.Manifest.{Manifest, ClassEntry}
 use Rattle.gl_meaning.specs.ManifestIs.{MembersAre, IsAction, IsField, IsGetter, IsClass, IsManifest}
 use Rattle.gl_meaning.specs.ManifestLimits as most
-use Rattle.gl_meaning.specs.ManifestNames.{ClassNames, KeepsRules}
+use Rattle.gl_meaning.specs.ManifestNames.{ClassNames, ModifierName, KeepsRules}
 use Rattle.gl_meaning.specs.ManifestOf.{read_manifest, said}
 use Rattle.gl_meaning.specs.ManifestRules.{Each, KeepsLimits}
 use Rattle.gl_meaning.specs.ManifestShape.{action_member, action_check, field_check, getter_check, file_check, class_member, class_check, manifest_member, manifest_check}
@@ -28,6 +28,7 @@ use Rattle.gl_manifest.specs.View.{Reads}
 use Rattle.gl_manifest.specs.declared.fault.ManifestFault.{ManifestFault}
 use Rattle.gl_manifest.proofs.Holding.{said_holds}
 use Rattle.gl_manifest.proofs.JsonTexts.{IsTextData, HaveTextData, json_text, text_at_text, members_at_text}
+use Rattle.gl_manifest.proofs.ModifiersNamed.{modifiers_named}
 use Rattle.gl_manifest.proofs.NamesApart.{field_apart, getter_apart, apart}
 use Rattle.gl_manifest.proofs.Order.{field_name, getter_name, action_name, read_rises}
 use Rattle.gl_manifest.proofs.ParamsDiffer.{params_differ}
@@ -98,6 +99,17 @@ classes_keep ms m text sound is =
     let classes = members_passed most.classes class_check (get_member (codes "classes") ms) (λ a h. passed manifest_member (codes "classes") a ms sound h) in
     each_is class_check (IsClass Spells) ClassNames class_keeps (members_at (codes "classes") (json.object ms)) m.classes (members_at_text (codes "classes") (json.object ms) text) classes.1 is.classes
 
+modifiers_keep : (ms : json.Members) (m : Manifest) → check_members manifest_member ms ≡ Ok tt → IsManifest Spells (json.object ms) m → Each ModifierName m.modifiers
+unfolding manifest_member
+modifiers_keep ms m sound is =
+    modifiers_named (get_member (codes "modifiers") ms) m.modifiers (λ d h. passed manifest_member (codes "modifiers") d ms sound h) is.modifiers
+
+holds_modifiers : (bytes : List ℕ) (m : Manifest) → Holds bytes m → Each ModifierName m.modifiers
+unfolding manifest_check
+holds_modifiers bytes m h =
+    let o = object_passed _ manifest_member h.0 h.2 in
+    modifiers_keep o.0 m o.3 (rw o.1 at h.3)
+
 holds_names : (bytes : List ℕ) (m : Manifest) → Holds bytes m → Each ClassNames m.classes
 unfolding manifest_check
 holds_names bytes m h =
@@ -110,6 +122,7 @@ read_rules bytes m e = record {
   limits = read_keeps expression_of bytes m e;
   order = read_rises bytes m e;
   names = holds_names bytes m (said_holds bytes m e);
+  modifiers = holds_modifiers bytes m (said_holds bytes m e);
 }
 
 pub keeps_rules : (bytes : List ℕ) (r : Result code.Manifest ManifestFault) → Reads r (read_manifest expression_of bytes) → IfOk r (λ m. KeepsRules (manifest_view m))

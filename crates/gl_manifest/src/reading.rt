@@ -37,7 +37,7 @@ fn said(alloc: Global, bytes: &[u8]) -> Result<Manifest, ManifestFault>
 /// The manifest that the bytes say. `BadJson` exactly where `serde_json` reads no JSON from them; `BadShape` exactly where
 /// the JSON is not of the form of a manifest, at the first place that is not; `NotInGrammar` exactly where it is of the
 /// form and a text in it spells no expression, or no path of an argument where it is a `call`, at the first such text.
-/// What is read keeps the rules of manifests: the limits, the order of names, and which names differ.
+/// What is read keeps the rules of manifests: the limits, the order of names, which names differ, and which names modifiers may have.
 #[tactic(auto, using(crate::proofs::Rules::keeps_limits, crate::proofs::Rules::keeps_rules))]
 pub fn read(alloc: Global, bytes: &[u8]) -> Result<Manifest, ManifestFault>
     ensures reads { Reads result (read_manifest expression_of bytes.now) }

@@ -3,7 +3,8 @@ use Rattle.std.proofs.Common.{◌≡◌, ◌≤◌, ◌<◌, ℕ, suc, List, [],
 use Rattle.std.specs.Prelude.{if◌then◌else◌}
 use Rattle.gl_meaning.specs.Path.{Path, path_eq, at_path}
 use Rattle.gl_meaning.specs.Render.{Forest}
-use Rattle.gl_meaning.specs.Changes.{nodes, Numbers, number_one, number_from, number}
+use Rattle.gl_meaning.specs.Changes.{nodes, Numbers, number_from, number}
+use Rattle.gl_meaning.specs.Numbering.{number_one}
 use Rattle.gl_meaning.specs.Known.{Among}
 use Rattle.gl_meaning.specs.Laws.{ValidNumbers}
 use Rattle.gl_meaning.proofs.Equal.{path_means, path_itself}

@@ -1,10 +1,11 @@
 -- Two renderings after one another: what persists, what is numbered, what is touched.
-use Rattle.std.specs.Prelude.{ℕ, suc, List, [], ◌∷◌, ◌++◌, map, flat_map, filter_map, Bool, false, ◌&&◌, not, if◌then◌else◌, Option, Some, None}
+use Rattle.std.specs.Prelude.{ℕ, List, [], ◌∷◌, ◌++◌, map, flat_map, filter_map, Bool, false, ◌&&◌, not, if◌then◌else◌, Option, Some, None}
 use Rattle.std.specs.List.{list_any}
 use Rattle.std.specs.Str.{bytes_eq}
 use Rattle.gl_base.specs.Texts.{Text}
 use Rattle.gl_value.specs.Value.{same, count_value}
 use Rattle.gl_meaning.specs.App.{App}
+use Rattle.gl_meaning.specs.Numbering.{NumbersOf, numbers_from}
 use Rattle.gl_meaning.specs.Path.{Path, V, path_eq, has_path, at_path}
 use Rattle.gl_meaning.specs.Scope.{Source, cell, item_value, item_index, Pair, sources_of, Scope}
 use Rattle.gl_meaning.specs.Eval.{Held, Store, class_at, cell_value}
@@ -133,22 +134,13 @@ settle app store f = flat_map (cells_of app store) (instances f)
 -- Numbers
 
 -- the numbers of nodes by path, and the next one that is given
-pub record Numbers : Type 0 where
-  pub of : List (Path × ℕ)
-  pub next : ℕ
-
-abbrev pub with_number : Path → ℕ → Numbers → Numbers
-with_number p n rest = record { of = (p, n) ∷ rest.of; next = rest.next }
-
-abbrev pub number_one : Option ℕ → ℕ → Path → (ℕ → Numbers) → Numbers
-number_one (Some n) next p rest = with_number p n (rest next)
-number_one None next p rest = with_number p next (rest (suc next))
+abbrev pub Numbers : Type 0
+Numbers = NumbersOf Path
 
 -- A node whose path has a number keeps it. The others take `next` and the following ones, in document order. Numbers of paths that
 -- are gone are dropped.
 abbrev pub number_from : List (Path × ℕ) → ℕ → List Path → Numbers
-number_from old next [] = record { of = []; next = next }
-number_from old next (p ∷ ps) = number_one (at_path p old) next p (λ n. number_from old n ps)
+number_from old next ps = numbers_from (λ p. at_path p old) next ps
 
 abbrev pub number : Numbers → Forest → Numbers
 number old f = number_from old.of old.next (nodes f)

@@ -16,6 +16,7 @@ pub mod ManifestOf
 pub mod ManifestRules
 pub mod ManifestShape
 pub mod NameTests
+pub mod Numbering
 pub mod Order
 pub mod Parts
 pub mod Path

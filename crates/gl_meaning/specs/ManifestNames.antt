@@ -1,10 +1,11 @@
 -- The rules that each manifest which is read keeps.
-use Rattle.std.specs.Prelude.{◌≡◌, List, []}
+use Rattle.std.specs.Prelude.{◌≡◌, List, [], IsTrue, codes}
 use Rattle.gl_base.specs.Texts.{Text}
 use Rattle.gl_meaning.specs.Known.{Among}
 use Rattle.gl_meaning.specs.Laws.{NoRepeat}
 use Rattle.gl_meaning.specs.Manifest.{Manifest, ClassEntry}
 use Rattle.gl_meaning.specs.ManifestRules.{Each, KeepsLimits}
+use Rattle.gl_meaning.specs.NameTests.{is_free_name}
 use Rattle.gl_meaning.specs.Order.{NamesRise, names_of}
 
 -- no text stands in both lists
@@ -20,8 +21,15 @@ pub record ClassNames (c : ClassEntry) : Type 0 where
   pub params : Each (λ x. NoRepeat x.1.params) c.actions
   pub file : c.file ≡ [] → ⊥
 
--- A manifest keeps its limits, its names rise, and those of its classes differ where they have to.
+-- A modifier has a name that is not reserved, and it is not `on`: that modifier there is always.
+pub record ModifierName (n : Text) : Type 0 where
+  pub free : IsTrue (is_free_name n)
+  pub other : n ≡ codes "on" → ⊥
+
+-- A manifest keeps its limits, its names rise, those of its classes differ where they have to, and its modifiers have names that they may
+-- have.
 pub record KeepsRules (m : Manifest) : Type 0 where
   pub limits : KeepsLimits m
   pub order : NamesRise m
   pub names : Each ClassNames m.classes
+  pub modifiers : Each ModifierName m.modifiers

@@ -4,6 +4,7 @@ use Rattle.std.specs.List.{list_any, list_all}
 use Rattle.std.specs.Str.{bytes_eq}
 use Rattle.gl_ast.specs.Marks.{is_capital, starts_name, in_name, in_class}
 use Rattle.gl_ast.specs.Words.{reserved}
+use Rattle.gl_meaning.specs.Signs.{colon}
 
 -- a letter, `_` or `$`, and then these, digits and `-`
 unfoldable pub is_name : List ℕ → Bool
@@ -25,8 +26,8 @@ abbrev mutual
 
   pub ends_class : List ℕ → Bool
   ends_class [] = true
-  ends_class (c ∷ s) = if c == 58 then after_colon s else in_class c && ends_class s
+  ends_class (c ∷ s) = if c == colon then after_colon s else in_class c && ends_class s
 
   pub after_colon : List ℕ → Bool
   after_colon [] = false
-  after_colon (c ∷ s) = c == 58 && is_class_name s
+  after_colon (c ∷ s) = c == colon && is_class_name s

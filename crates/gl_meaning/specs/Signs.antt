@@ -1,11 +1,6 @@
 -- Single characters that texts are written with.
 use Rattle.std.specs.Prelude.{ℕ}
-
-abbrev pub line_feed : ℕ
-line_feed = 10
-
-abbrev pub blank : ℕ
-blank = 32
+pub use Rattle.gl_value.specs.Signs.{line_feed, blank}
 
 -- `#`
 abbrev pub number_sign : ℕ
@@ -14,6 +9,10 @@ number_sign = 35
 -- `/`
 abbrev pub slash : ℕ
 slash = 47
+
+-- `:`
+abbrev pub colon : ℕ
+colon = 58
 
 -- `=`
 abbrev pub equals : ℕ

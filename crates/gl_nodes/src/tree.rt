@@ -239,6 +239,13 @@ impl NodeTree {
         self.made
     }
 
+    /// The number of the next node.
+    pub fn upcoming(&self) -> u128
+        ensures { result ≡ self.now.nodes.made }
+    {
+        self.entries.made()
+    }
+
     /// How many times a range was moved.
     pub fn moves(&self) -> u128
         ensures { result ≡ self.now.moves }

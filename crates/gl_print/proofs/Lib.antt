@@ -1,6 +1,7 @@
 pub mod Walks
 pub mod Indents
 pub mod Looking
+pub mod Givens
 pub mod Printings
 pub mod Carries
 pub mod Built

@@ -9,9 +9,11 @@ use Rattle.gl_arena.specs.Id.{Id, same_id, id_cmp, id_cmp_ties}
 use Rattle.gl_arena.proofs.Ids.{id_cases, same_id-refl, same_id-other}
 use Rattle.gl_nodes.specs.Forest.{Forest, end, tree, hit, times}
 use Rattle.gl_nodes.proofs.Counts.{hit-same}
-use Rattle.gl_print.specs.Numbers.{Numbers, at, ids, node_of, number_from, AreKeysOnce, IsNumbering, IsNumberingOf}
+use Rattle.gl_meaning.specs.Numbering.{numbers_from}
+use Rattle.gl_print.specs.Numbers.{Numbers, at, ids, node_of, AreKeysOnce, IsNumbering, IsNumberingOf}
 use Rattle.gl_print.specs.Printing.{given, after}
-use Rattle.gl_print.proofs.Printings.{at-here, at-other, number_from-of, number_from-next}
+use Rattle.gl_print.proofs.Givens.{numbers_from-of, numbers_from-next}
+use Rattle.gl_print.proofs.Printings.{at-here, at-other}
 
 -- The keys of a map stand once.
 less_other : (k y : Id) → id_cmp k y ≡ Less → same_id k y ≡ false
@@ -134,7 +136,7 @@ module _ (old : Id → Option ℕ) where
       clash (Some w) e y n at (was q lt) = num.once i y n (let one = hit-same i in omega (arith, one)) (omega (arith, lt)) (e ∙ ap Some at) q
       clash (Some w) e y n at (fresh q a b) = let c = num.below i n (let one = hit-same i in omega (arith, one)) (e ∙ ap Some at) in absurd (omega (arith, a, c))
 
-  pub numbered : (next : ℕ) (is : List Id) → IsNumberingOf (λ x. many x is) old next → Numbered next is (number_from old next is)
+  pub numbered : (next : ℕ) (is : List Id) → IsNumberingOf (λ x. many x is) old next → Numbered next is (numbers_from old next is)
   unfolding many
   numbered next [] num = record {
     came = λ x n h. absurd (let no : None ≡ Some n = h in cc);
@@ -144,7 +146,7 @@ module _ (old : Id → Option ℕ) where
   numbered next (i ∷ is) num = let rest = numbered (after (old i) next) is (record {
     once = λ x y n a b h k. num.once x y n (omega (arith, a)) (omega (arith, b)) h k;
     below = λ x n a h. let lt = num.below x n (omega (arith, a)) h in let g = rising (old i) next in omega (arith, lt, g);
-  }) in let all = one_more next i is (old i) refl num (number_from old (after (old i) next) is) rest in subst (λ m. Numbered next (i ∷ is) m) (same (number_from-of old next i is) (number_from-next old next i is)) all
+  }) in let all = one_more next i is (old i) refl num (numbers_from old (after (old i) next) is) rest in subst (λ m. Numbered next (i ∷ is) m) (same (numbers_from-of old next i is) (numbers_from-next old next i is)) all
     where
       rising : (o : Option ℕ) (next : ℕ) → next ≤ after o next
       rising None next = omega arith
@@ -154,7 +156,7 @@ module _ (old : Id → Option ℕ) where
       same {m} {w} a b = λ t. record { of = sym a t; next = sym b t }
 
 -- what is printed is numbered, where the nodes of the tree were
-pub print_numbers : (old new : Numbers) (f : Forest) → IsNumberingOf (λ x. times x f) (λ x. at x old.of) old.next → ((i : Id) → at i new.of ≡ at i (number_from (λ k. at k old.of) old.next (ids f)).of) → new.next ≡ (number_from (λ k. at k old.of) old.next (ids f)).next → IsNumbering new
+pub print_numbers : (old new : Numbers) (f : Forest) → IsNumberingOf (λ x. times x f) (λ x. at x old.of) old.next → ((i : Id) → at i new.of ≡ at i (numbers_from (λ k. at k old.of) old.next (ids f)).of) → new.next ≡ (numbers_from (λ k. at k old.of) old.next (ids f)).next → IsNumbering new
 print_numbers old new f num of next = let q = numbered (λ k. at k old.of) old.next (ids f) (record {
   once = λ i k n a b h w. num.once i k n (let z = many-ids i f in omega (arith, a, z)) (let z = many-ids k f in omega (arith, b, z)) h w;
   below = λ i n a h. num.below i n (let z = many-ids i f in omega (arith, a, z)) h;
@@ -163,7 +165,7 @@ print_numbers old new f num of next = let q = numbered (λ k. at k old.of) old.n
   below = λ i n h. by_case i n (q.came i n (sym (of i) ∙ h)) q.more next;
 }
   where
-    by_case : (i : Id) (n : ℕ) → Came (λ k. at k old.of) old.next (number_from (λ k. at k old.of) old.next (ids f)).next (ids f) i n → old.next ≤ (number_from (λ k. at k old.of) old.next (ids f)).next → new.next ≡ (number_from (λ k. at k old.of) old.next (ids f)).next → n < new.next
+    by_case : (i : Id) (n : ℕ) → Came (λ k. at k old.of) old.next (numbers_from (λ k. at k old.of) old.next (ids f)).next (ids f) i n → old.next ≤ (numbers_from (λ k. at k old.of) old.next (ids f)).next → new.next ≡ (numbers_from (λ k. at k old.of) old.next (ids f)).next → n < new.next
     by_case i n (was e lt) more next = let b = num.below i n (let z = many-ids i f in omega (arith, lt, z)) e in omega (arith, b, more, next)
     by_case i n (fresh e a b) more next = omega (arith, b, next)
 

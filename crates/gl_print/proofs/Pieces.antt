@@ -14,17 +14,18 @@ use Rattle.gl_meaning.specs.Changes.{Numbers}
 use Rattle.gl_meaning.specs.Render as r
 use Rattle.gl_meaning.specs.Render.{Piece, element_node, text_node, comment_node, component, branch, item_region, position, too_deep, no_pieces, piece}
 use Rattle.gl_meaning.specs.Print.{tree_lines, piece_lines}
+use Rattle.gl_meaning.specs.Signs.{blank}
 use Rattle.gl_print.specs.Lines.{lines, node_line}
 use Rattle.gl_print.specs.Pieces.{stood, stood_piece, IsShown, AreShown}
 
 module _ (node : Id → Option Node) (num : Id → ℕ) where
   pub lines-joined : (d : Text) (f g : Forest) → lines node num d (joined f g) ≡ lines node num d f ++ lines node num d g
   lines-joined d end g = refl
-  lines-joined d (tree i k s) g = let own = node_line d (num i) (node i) in let below = lines node num (32 ∷ 32 ∷ d) k in ap (λ t. own ++ (below ++ t)) (lines-joined d s g)
+  lines-joined d (tree i k s) g = let own = node_line d (num i) (node i) in let below = lines node num (blank ∷ blank ∷ d) k in ap (λ t. own ++ (below ++ t)) (lines-joined d s g)
       ∙ (ap (λ t. own ++ t) (sym (append_assoc below (lines node num d s) (lines node num d g))) ∙ sym (append_assoc own (below ++ lines node num d s) (lines node num d g)))
 
-  lines-leaf : (d : Text) (i : Id) (k : Forest) → lines node num d (tree i k end) ≡ node_line d (num i) (node i) ++ lines node num (32 ∷ 32 ∷ d) k
-  lines-leaf d i k = ap (λ t. node_line d (num i) (node i) ++ t) (append-nil (lines node num (32 ∷ 32 ∷ d) k))
+  lines-leaf : (d : Text) (i : Id) (k : Forest) → lines node num d (tree i k end) ≡ node_line d (num i) (node i) ++ lines node num (blank ∷ blank ∷ d) k
+  lines-leaf d i k = ap (λ t. node_line d (num i) (node i) ++ t) (append-nil (lines node num (blank ∷ blank ∷ d) k))
 
   own_line : (d : Text) (i : Id) (m : ℕ) (v : Node) → node i ≡ Some v → num i ≡ m → node_line d (num i) (node i) ≡ node_line d m (Some v)
   own_line d i m v is at = ap (λ q. node_line d q (node i)) at ∙ ap (node_line d m) is
@@ -32,7 +33,7 @@ module _ (node : Id → Option Node) (num : Id → ℕ) where
   module _ (id_at : Path → Id) (numbers : Numbers) where
     mutual
       pub piece-lines : (d : Text) (p : Piece) → IsShown id_at node num numbers p → lines node num d (stood_piece id_at p) ≡ piece_lines numbers d p
-      piece-lines d (element_node p t a m f) h = lines-leaf d (id_at p) (stood id_at f) ∙ (ap (λ z. z ++ lines node num (32 ∷ 32 ∷ d) (stood id_at f)) (own_line d (id_at p) _ (element t a) h.0 h.1) ∙ ap (λ z. node_line d (unwrap_or (at_path p numbers.of) 0) (Some (element t a)) ++ z) (stood-lines (32 ∷ 32 ∷ d) f h.2))
+      piece-lines d (element_node p t a m f) h = lines-leaf d (id_at p) (stood id_at f) ∙ (ap (λ z. z ++ lines node num (blank ∷ blank ∷ d) (stood id_at f)) (own_line d (id_at p) _ (element t a) h.0 h.1) ∙ ap (λ z. node_line d (unwrap_or (at_path p numbers.of) 0) (Some (element t a)) ++ z) (stood-lines (blank ∷ blank ∷ d) f h.2))
       piece-lines d (text_node p t) h = append-nil (node_line d (num (id_at p)) (node (id_at p))) ∙ own_line d (id_at p) _ (text t) h.0 h.1
       piece-lines d (comment_node p t) h = append-nil (node_line d (num (id_at p)) (node (id_at p))) ∙ own_line d (id_at p) _ (comment t) h.0 h.1
       piece-lines d (component p s f) h = stood-lines d f h
@@ -48,14 +49,14 @@ module _ (node : Id → Option Node) (num : Id → ℕ) where
 -- lines depend on what the ids of the forest name and on their numbers
 pub lines-same : (node node' : Id → Option Node) (num num' : Id → ℕ) (d : Text) (f : Forest) → ((i : Id) → 0 < times i f → (node i ≡ node' i) × (num i ≡ num' i)) → lines node num d f ≡ lines node' num' d f
 lines-same node node' num num' d end same = refl
-lines-same node node' num num' d (tree i k s) same = let at = same i (let one = hit-same i in omega (arith, one)) in ap (λ q. node_line d q (node i) ++ (lines node num (32 ∷ 32 ∷ d) k ++ lines node num d s)) at.1 ∙ (ap (λ q. node_line d (num' i) q ++ (lines node num (32 ∷ 32 ∷ d) k ++ lines node num d s)) at.0
-    ∙ (ap (λ q. node_line d (num' i) (node' i) ++ (q ++ lines node num d s)) (lines-same node node' num num' (32 ∷ 32 ∷ d) k (λ x lt. same x (omega (arith, lt))))
-    ∙ ap (λ q. node_line d (num' i) (node' i) ++ (lines node' num' (32 ∷ 32 ∷ d) k ++ q)) (lines-same node node' num num' d s (λ x lt. same x (omega (arith, lt))))))
+lines-same node node' num num' d (tree i k s) same = let at = same i (let one = hit-same i in omega (arith, one)) in ap (λ q. node_line d q (node i) ++ (lines node num (blank ∷ blank ∷ d) k ++ lines node num d s)) at.1 ∙ (ap (λ q. node_line d (num' i) q ++ (lines node num (blank ∷ blank ∷ d) k ++ lines node num d s)) at.0
+    ∙ (ap (λ q. node_line d (num' i) (node' i) ++ (q ++ lines node num d s)) (lines-same node node' num num' (blank ∷ blank ∷ d) k (λ x lt. same x (omega (arith, lt))))
+    ∙ ap (λ q. node_line d (num' i) (node' i) ++ (lines node' num' (blank ∷ blank ∷ d) k ++ q)) (lines-same node node' num num' d s (λ x lt. same x (omega (arith, lt))))))
 
 -- where nodes and numbers go by stamps, so do the lines
 pub lines-bare : (node : ℕ → Option Node) (num : ℕ → ℕ) (d : Text) (f : Forest) → lines (λ i. node i.1) (λ i. num i.1) d f ≡ lines (λ i. node i.1) (λ i. num i.1) d (bare f)
 lines-bare node num d end = refl
-lines-bare node num d (tree i k s) = ap (λ q. node_line d (num i.1) (node i.1) ++ (q ++ lines (λ i. node i.1) (λ i. num i.1) d s)) (lines-bare node num (32 ∷ 32 ∷ d) k) ∙ ap (λ q. node_line d (num i.1) (node i.1) ++ (lines (λ i. node i.1) (λ i. num i.1) (32 ∷ 32 ∷ d) (bare k) ++ q)) (lines-bare node num d s)
+lines-bare node num d (tree i k s) = ap (λ q. node_line d (num i.1) (node i.1) ++ (q ++ lines (λ i. node i.1) (λ i. num i.1) d s)) (lines-bare node num (blank ∷ blank ∷ d) k) ∙ ap (λ q. node_line d (num i.1) (node i.1) ++ (lines (λ i. node i.1) (λ i. num i.1) (blank ∷ blank ∷ d) (bare k) ++ q)) (lines-bare node num d s)
 
 -- the law: a tree whose stamps stand as the pieces do is printed as the pieces are
 pub tree-lines : (t : Tree) (num : Id → ℕ) (by : ℕ → ℕ) (id_at : Path → Id) (numbers : Numbers) (ps : r.Forest) → IsFlat t → ((i : Id) → 0 < times i t.forest → num i ≡ by i.1)

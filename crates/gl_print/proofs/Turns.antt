@@ -18,14 +18,15 @@ use Rattle.gl_meaning.specs.Known.{Among}
 use Rattle.gl_meaning.specs.Path.{Path, path_eq, at_path}
 use Rattle.gl_meaning.specs.Changes as m
 use Rattle.gl_meaning.specs.Changes.{node_path, pieces_in, pieces, nodes, number}
+use Rattle.gl_meaning.specs.Numbering.{numbers_from}
 use Rattle.gl_meaning.specs.Render as r
 use Rattle.gl_meaning.specs.Render.{Piece, element_node, text_node, comment_node, component, branch, item_region, position, too_deep, no_pieces, piece}
 use Rattle.gl_meaning.proofs.Equal.{path_means, path_itself}
 use Rattle.gl_print.specs.Lines.{lines}
-use Rattle.gl_print.specs.Numbers.{Numbers, at, ids, number_from}
+use Rattle.gl_print.specs.Numbers.{Numbers, at, ids}
 use Rattle.gl_print.specs.Printing.{given, after}
 use Rattle.gl_print.specs.Pieces.{stood, stood_piece, IsNamed, AreNamed, IsShown, AreShown, PrintsTurn}
-use Rattle.gl_print.proofs.Printings.{number_from-of, number_from-next}
+use Rattle.gl_print.proofs.Givens.{numbers_from-of, numbers_from-next}
 use Rattle.gl_print.proofs.Pieces.{tree-lines}
 
 among-left : {A : Type 0} (x : A) (xs ys : List A) → Among x xs → Among x (xs ++ ys)
@@ -124,26 +125,12 @@ id_way old = record {
   old = old;
   find = at;
   finds = λ x e es. refl;
-  of = λ n xs. (number_from old n xs).of;
-  of_more = λ n x xs. number_from-of old n x xs;
-  last = λ n xs. (number_from old n xs).next;
+  of = λ n xs. (numbers_from old n xs).of;
+  of_more = λ n x xs. numbers_from-of old n x xs;
+  last = λ n xs. (numbers_from old n xs).next;
   last_none = λ n. refl;
-  last_more = λ n x xs. number_from-next old n x xs;
+  last_more = λ n x xs. numbers_from-next old n x xs;
 }
-
-path_of : (old : List (Path × ℕ)) (n : ℕ) (p : Path) (ps : List Path) → (m.number_from old n (p ∷ ps)).of ≡ (p, given (at_path p old) n) ∷ (m.number_from old (after (at_path p old) n) ps).of
-path_of old n p ps = by_case (at_path p old)
-  where
-    by_case : (o : Option ℕ) → (m.number_one o n p (λ k. m.number_from old k ps)).of ≡ (p, given o n) ∷ (m.number_from old (after o n) ps).of
-    by_case None = refl
-    by_case (Some k) = refl
-
-path_next : (old : List (Path × ℕ)) (n : ℕ) (p : Path) (ps : List Path) → (m.number_from old n (p ∷ ps)).next ≡ (m.number_from old (after (at_path p old) n) ps).next
-path_next old n p ps = by_case (at_path p old)
-  where
-    by_case : (o : Option ℕ) → (m.number_one o n p (λ k. m.number_from old k ps)).next ≡ (m.number_from old (after o n) ps).next
-    by_case None = refl
-    by_case (Some k) = refl
 
 path_way : (old : List (Path × ℕ)) (id_at : Path → Id) → Way Path (λ p. (id_at p).1)
 path_way old id_at = record {
@@ -154,10 +141,10 @@ path_way old id_at = record {
   find = at_path;
   finds = λ x e es. refl;
   of = λ n xs. (m.number_from old n xs).of;
-  of_more = path_of old;
+  of_more = λ n x xs. numbers_from-of (λ p. at_path p old) n x xs;
   last = λ n xs. (m.number_from old n xs).next;
   last_none = λ n. refl;
-  last_more = path_next old;
+  last_more = λ n x xs. numbers_from-next (λ p. at_path p old) n x xs;
 }
 
 -- Stamps in document order.
@@ -243,7 +230,7 @@ module _ (id_at : Path → Id) where
 
 -- the law
 pub prints-turn : (t : Tree) (old new : Numbers) (out : Text) → IsFlat t → out ≡ lines (node_at t) (λ i. unwrap_or (at i new.of) 0) [] t.forest
-    → ((i : Id) → at i new.of ≡ at i (number_from (λ k. at k old.of) old.next (ids t.forest)).of) → new.next ≡ (number_from (λ k. at k old.of) old.next (ids t.forest)).next
+    → ((i : Id) → at i new.of ≡ at i (numbers_from (λ k. at k old.of) old.next (ids t.forest)).of) → new.next ≡ (numbers_from (λ k. at k old.of) old.next (ids t.forest)).next
     → PrintsTurn t old new out
 unfolding id_way path_way
 prints-turn t old new out flat text of_new next_new = λ by id_at ns ps was is named had same.

@@ -1,13 +1,13 @@
 -- The numbers of nodes.
 use Rattle.std.specs.Prelude.{◌≡◌, ℕ, suc, ◌+◌, ◌<◌, ◌==◌, List, [], ◌∷◌, ◌++◌, Option, Some, None, if◌then◌else◌, refl}
 use Rattle.std.specs.Coded.{Coded, code_by, coded×, coded_ℕ, coded_list}
+use Rattle.gl_meaning.specs.Numbering.{NumbersOf}
 use Rattle.gl_arena.specs.Id.{Id, same_id}
 use Rattle.gl_nodes.specs.Forest.{Forest, end, tree, hit}
 
 -- the numbers that nodes have, and the next one that is given
-pub record Numbers : Type 0 where
-  pub of : List (Id × ℕ)
-  pub next : ℕ
+abbrev pub Numbers : Type 0
+Numbers = NumbersOf Id
 
 -- the number of a node
 abbrev pub at : Id → List (Id × ℕ) → Option ℕ
@@ -18,19 +18,6 @@ at i (p ∷ ps) = if same_id i p.0 then Some p.1 else at i ps
 abbrev pub ids : Forest → List Id
 ids end = []
 ids (tree i k r) = i ∷ (ids k ++ ids r)
-
-abbrev pub with_number : Id → ℕ → Numbers → Numbers
-with_number i n rest = record { of = (i, n) ∷ rest.of; next = rest.next }
-
-abbrev pub number_one : Option ℕ → ℕ → Id → (ℕ → Numbers) → Numbers
-number_one (Some n) next i rest = with_number i n (rest next)
-number_one None next i rest = with_number i next (rest (suc next))
-
--- A node that has a number keeps it. The others take the next one and the following ones, in document order. The numbers
--- of nodes that are gone are dropped.
-abbrev pub number_from : (Id → Option ℕ) → ℕ → List Id → Numbers
-number_from old next [] = record { of = []; next = next }
-number_from old next (i ∷ is) = number_one (old i) next i (λ n. number_from old n is)
 
 abbrev pub numbers_code : Coded Numbers
 numbers_code =

@@ -50,6 +50,7 @@ still_follows app s st l x = record {
   given = record { sits = x.given.sits; rows = x.given.rows; owners = x.given.owners; sources = x.given.sources };
   rendering = x.rendering;
   numbers = x.numbers;
+  kept = record { there = x.kept.there; nothing = x.kept.nothing };
 }
 
 pieces : (h x l d z : Text) → (h ++ (x ++ l)) ++ (d ++ z) ≡ h ++ (x ++ (l ++ (d ++ z)))

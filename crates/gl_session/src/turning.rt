@@ -81,7 +81,7 @@ fn renew(alloc: Global, app: &App, page: &mut Page) -> Result<(), VmFault>
 {
     let cells = Cells::new(alloc);
     match update(alloc, app, &cells, page) {
-        Ok(()) => Ok(checked(page)?),
+        Ok(_) => Ok(checked(page)?),
         Err(fault) => Err(fault),
     }
 }

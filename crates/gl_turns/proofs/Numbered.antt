@@ -8,7 +8,8 @@ use Rattle.gl_meaning.specs.Eval.{Store}
 use Rattle.gl_meaning.specs.Known.{Among}
 use Rattle.gl_meaning.specs.Laws.{NoRepeat}
 use Rattle.gl_meaning.specs.Render.{draw}
-use Rattle.gl_meaning.specs.Changes.{nodes, Numbers, with_number, number_one, number_from, number, Sets}
+use Rattle.gl_meaning.specs.Changes.{nodes, Numbers, number_from, number, Sets}
+use Rattle.gl_meaning.specs.Numbering.{with_number, number_one}
 use Rattle.gl_meaning.proofs.Once.{nodes_once}
 use Rattle.gl_meaning.proofs.Pieces.{some_same, none_some}
 use Rattle.gl_plain.specs.Ids.{a_node, node}

@@ -7,7 +7,8 @@ use Rattle.gl_meaning.specs.Path.{Path, path_eq, at_path}
 use Rattle.gl_meaning.specs.Eval.{Store}
 use Rattle.gl_meaning.specs.Laws.{Reached}
 use Rattle.gl_meaning.specs.Render.{Forest, draw, render, fits}
-use Rattle.gl_meaning.specs.Changes.{Position, positions, Numbers, with_number, number_one, number_from, number, nodes, Sets}
+use Rattle.gl_meaning.specs.Changes.{Position, positions, Numbers, number_from, number, nodes, Sets}
+use Rattle.gl_meaning.specs.Numbering.{with_number, number_one}
 use Rattle.gl_meaning.specs.Actions.{lay}
 use Rattle.gl_meaning.specs.Session as session
 use Rattle.gl_meaning.specs.Session.{Turn, turn_of, first_state, applied, step}

@@ -14,3 +14,6 @@ pub mod Places
 pub mod OldKeys
 pub mod SyncItems
 pub mod ListUpdates
+pub mod Counts
+pub mod MovedCodes
+pub mod SyncCounts

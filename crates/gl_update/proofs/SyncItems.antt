@@ -79,7 +79,7 @@ code_keys_left (k ∷ ks) (Some y ∷ os) zero has = has.1
 code_keys_left (k ∷ ks) (None ∷ os) (suc i) has = code_keys_left ks os i has
 code_keys_left (k ∷ ks) (Some y ∷ os) (suc i) has = (has.0, code_keys_left ks os i has.1)
 
-seen_at : (n : Tables) (os : List (Option ItemCode)) (i : ℕ) (x : ItemCode) → slice_get os i ≡ Some (Some x) → slice_get (seen_olds n os) i ≡ Some (Some (seen_item_code n x))
+pub seen_at : (n : Tables) (os : List (Option ItemCode)) (i : ℕ) (x : ItemCode) → slice_get os i ≡ Some (Some x) → slice_get (seen_olds n os) i ≡ Some (Some (seen_item_code n x))
 seen_at n [] i x e = absurd (cc)
 seen_at n (o ∷ os) zero x e = let is : o ≡ Some x = cc in ap (λ p. Some (option_map (seen_item_code n) p)) is
 seen_at n (o ∷ os) (suc i) x e = seen_at n os i x e
@@ -117,7 +117,7 @@ taken_old e ks insert os ps None once has k t = (
 -- The work of one entry
 
 -- the entry that waits is the first key of the plan
-planned : (ks : List Key) (k : Key) (rest : List Key) (ss : List Step) → Plans ks (k ∷ rest) ss → (s : Step) × (more : List Step) × (ss ≡ s ∷ more) × (Picks ks k s × Plans ks rest more)
+pub planned : (ks : List Key) (k : Key) (rest : List Key) (ss : List Step) → Plans ks (k ∷ rest) ss → (s : Step) × (more : List Step) × (ss ≡ s ∷ more) × (Picks ks k s × Plans ks rest more)
 planned ks k rest [] h = absurd h
 planned ks k rest (s ∷ ss) h = (s, ss, refl, h)
 

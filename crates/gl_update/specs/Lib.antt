@@ -1,4 +1,5 @@
 pub mod Asked
+pub mod Counted
 pub mod ListItems
 pub mod OldItems
 pub mod Renewing

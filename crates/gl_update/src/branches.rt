@@ -8,11 +8,13 @@ ghost use Rattle.gl_machine.specs.Code.{Code as PlainCode, lives_of};
 ghost use Rattle.gl_machine.specs.RenewCode.{renew_code_as, fresh_branch};
 ghost use Rattle.gl_vm.specs.View.{Calm};
 ghost use Rattle.gl_append.specs.CodeView.{seen_choice, seen_codes, seen_spot};
+ghost use Rattle.gl_update.specs.Counted.{CodeMoved};
 ghost use Rattle.gl_update.specs.View.{trail_view};
 ghost use Rattle.gl_update.specs.Renewing.{Renews, RenewFails};
 
 use crate::appending::append_body;
 use crate::codes::renew_below;
+use crate::counting::Moved;
 use crate::ending::end_branch;
 use crate::positions::condition;
 use crate::standing::{behind, seat_with_comment};
@@ -38,10 +40,12 @@ pub(crate) fn renew_branch(
     comment: &mut Option<NodeId>,
     body: &mut Codes,
     parent: &Option<NodeId>,
+    moved: &mut Moved,
 ) -> Result<(), VmFault>
     requires calm { Calm vm.old }
     ensures ok { OnOk result (Renews app.now cells.now (λ n run. renew_code_as by_number run left (trail_view trail.old) (c.branch_code (seen_choice n choice.now) (seen_spot spot.now) main.old (stamp_of comment.old) (seen_codes n body.old))) vm.old (λ n. c.branch_code (seen_choice n choice.now) (seen_spot spot.now) main.new (stamp_of comment.new) (seen_codes n body.new)) vm.new) }
     ensures fails { IfErr result (RenewFails {A = PlainCode} app.now cells.now (λ n run. renew_code_as by_number run left (trail_view trail.old) (c.branch_code (seen_choice n choice.now) (seen_spot spot.now) main.old (stamp_of comment.old) (seen_codes n body.old))) vm.old) }
+    ensures moved { OnOk result (CodeMoved moved.old moved.new (λ n. c.branch_code (seen_choice n choice.now) (seen_spot spot.now) main.old (stamp_of comment.old) (seen_codes n body.old)) (λ n. c.branch_code (seen_choice n choice.now) (seen_spot spot.now) main.new (stamp_of comment.new) (seen_codes n body.new))) }
     ensures trail { OnOk result (trail.new ≡ trail.old) }
     ensures calm { Calm vm.new }
 {
@@ -57,6 +61,7 @@ pub(crate) fn renew_branch(
             left,
             body,
             parent,
+            moved,
         )
     } else {
         *main = shows;

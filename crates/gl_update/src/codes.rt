@@ -7,10 +7,12 @@ ghost use Rattle.gl_machine.specs.Code.{Code as PlainCode, Codes as PlainCodes};
 ghost use Rattle.gl_machine.specs.RenewCode.{renew_code_as, renew_codes_as};
 ghost use Rattle.gl_vm.specs.View.{Calm};
 ghost use Rattle.gl_append.specs.CodeView.{seen_attr_spot, seen_code, seen_codes, seen_mod_spot};
+ghost use Rattle.gl_update.specs.Counted.{CodeMoved, CodesMoved};
 ghost use Rattle.gl_update.specs.View.{trail_view};
 ghost use Rattle.gl_update.specs.Renewing.{Renews, RenewFails};
 
 use crate::branches::renew_branch;
+use crate::counting::Moved;
 use crate::lists::renew_list;
 use crate::modifiers::renew_mods;
 use crate::nodes::{renew_attrs, renew_text};
@@ -33,16 +35,18 @@ pub(crate) fn renew_codes(
     left: u32,
     codes: &mut Codes,
     parent: &Option<NodeId>,
+    moved: &mut Moved,
 ) -> Result<(), VmFault>
     requires calm { Calm vm.old }
     ensures ok { OnOk result (Renews app.now cells.now (λ n run. renew_codes_as by_number run left (trail_view trail.old) 0 (seen_codes n codes.old)) vm.old (λ n. seen_codes n codes.new) vm.new) }
     ensures fails { IfErr result (RenewFails {A = PlainCodes} app.now cells.now (λ n run. renew_codes_as by_number run left (trail_view trail.old) 0 (seen_codes n codes.old)) vm.old) }
+    ensures moved { OnOk result (CodesMoved moved.old moved.new (λ n. seen_codes n codes.old) (λ n. seen_codes n codes.new)) }
     ensures trail { OnOk result (trail.new ≡ trail.old) }
     ensures calm { Calm vm.new }
 {
     for (place, code) in codes.list.iter_mut().enumerate() {
         trail.push(PathStep::At(place as u64))?;
-        match renew_code(vm, alloc, app, cells, trail, left, code, parent) {
+        match renew_code(vm, alloc, app, cells, trail, left, code, parent, moved) {
             Ok(()) => trail.pop(alloc),
             Err(fault) => return Err(fault),
         }
@@ -61,10 +65,12 @@ pub(crate) fn renew_code(
     left: u32,
     code: &mut Code,
     parent: &Option<NodeId>,
+    moved: &mut Moved,
 ) -> Result<(), VmFault>
     requires calm { Calm vm.old }
     ensures ok { OnOk result (Renews app.now cells.now (λ n run. renew_code_as by_number run left (trail_view trail.old) (seen_code n code.old)) vm.old (λ n. seen_code n code.new) vm.new) }
     ensures fails { IfErr result (RenewFails {A = PlainCode} app.now cells.now (λ n run. renew_code_as by_number run left (trail_view trail.old) (seen_code n code.old)) vm.old) }
+    ensures moved { OnOk result (CodeMoved moved.old moved.new (λ n. seen_code n code.old) (λ n. seen_code n code.new)) }
     ensures trail { OnOk result (trail.new ≡ trail.old) }
     ensures calm { Calm vm.new }
 {
@@ -80,7 +86,9 @@ pub(crate) fn renew_code(
             mods,
             body,
             ..
-        } => renew_element(vm, alloc, app, cells, trail, left, *node, attrs, mods, body),
+        } => renew_element(
+            vm, alloc, app, cells, trail, left, *node, attrs, mods, body, moved,
+        ),
         Code::Branch {
             choice,
             spot,
@@ -88,21 +96,37 @@ pub(crate) fn renew_code(
             comment,
             body,
         } => renew_branch(
-            vm, alloc, app, cells, trail, left, choice, spot, main, comment, body, parent,
+            vm, alloc, app, cells, trail, left, choice, spot, main, comment, body, parent, moved,
         ),
-        Code::Listed { .. } => renew_list(vm, alloc, app, cells, trail, left, code, parent),
-        Code::Unlisted { .. } => renew_list(vm, alloc, app, cells, trail, left, code, parent),
+        Code::Listed { .. } => renew_list(vm, alloc, app, cells, trail, left, code, parent, moved),
+        Code::Unlisted { .. } => renew_list(
+            vm, alloc, app, cells, trail, left, code, parent, moved,
+        ),
         Code::Let { body, .. } => {
             let step = PathStep::Then;
-            renew_below(vm, alloc, app, cells, trail, step, left, body, parent)
+            renew_below(
+                vm, alloc, app, cells, trail, step, left, body, parent, moved,
+            )
         }
         Code::Component { owner, body, .. } => {
-            renew_component(vm, alloc, app, cells, &owner.path, left, body, parent)
+            renew_component(
+                vm,
+                alloc,
+                app,
+                cells,
+                &owner.path,
+                left,
+                body,
+                parent,
+                moved,
+            )
         }
         Code::Root { .. } => Err(VmFault::Memory),
         Code::Yield { name, body, .. } => {
             let step = PathStep::Slot(name.copy()?);
-            renew_below(vm, alloc, app, cells, trail, step, left, body, parent)
+            renew_below(
+                vm, alloc, app, cells, trail, step, left, body, parent, moved,
+            )
         }
     }
 }
@@ -120,15 +144,17 @@ fn renew_element(
     attrs: &Vec<AttrSpot>,
     mods: &Vec<ModSpot>,
     body: &mut Codes,
+    moved: &mut Moved,
 ) -> Result<(), VmFault>
     requires calm { Calm vm.old }
     ensures ok { OnOk result ((made : _) → Renews app.now cells.now (λ n run. renew_code_as by_number run left (trail_view trail.old) (c.element_code node.1 made (map seen_attr_spot attrs.now.items) (map seen_mod_spot mods.now.items) (seen_codes n body.old))) vm.old (λ n. c.element_code node.1 made (map seen_attr_spot attrs.now.items) (map seen_mod_spot mods.now.items) (seen_codes n body.new)) vm.new) }
     ensures fails { (made : _) → IfErr result (RenewFails {A = PlainCode} app.now cells.now (λ n run. renew_code_as by_number run left (trail_view trail.old) (c.element_code node.1 made (map seen_attr_spot attrs.now.items) (map seen_mod_spot mods.now.items) (seen_codes n body.old))) vm.old) }
+    ensures moved { OnOk result (CodesMoved moved.old moved.new (λ n. seen_codes n body.old) (λ n. seen_codes n body.new)) }
     ensures trail { OnOk result (trail.new ≡ trail.old) }
     ensures calm { Calm vm.new }
 {
     renew_attrs(vm, alloc, node, attrs.as_slice())?;
-    match renew_codes(vm, alloc, app, cells, trail, left, body, &Some(node)) {
+    match renew_codes(vm, alloc, app, cells, trail, left, body, &Some(node), moved) {
         Ok(()) => {
             renew_mods(vm, alloc, mods.as_slice())?;
             Ok(())
@@ -149,15 +175,17 @@ pub(crate) fn renew_below(
     left: u32,
     body: &mut Codes,
     parent: &Option<NodeId>,
+    moved: &mut Moved,
 ) -> Result<(), VmFault>
     requires calm { Calm vm.old }
     ensures ok { OnOk result (Renews app.now cells.now (λ n run. renew_codes_as by_number run left (path_step_view step ∷ trail_view trail.old) 0 (seen_codes n body.old)) vm.old (λ n. seen_codes n body.new) vm.new) }
     ensures fails { IfErr result (RenewFails {A = PlainCodes} app.now cells.now (λ n run. renew_codes_as by_number run left (path_step_view step ∷ trail_view trail.old) 0 (seen_codes n body.old)) vm.old) }
+    ensures moved { OnOk result (CodesMoved moved.old moved.new (λ n. seen_codes n body.old) (λ n. seen_codes n body.new)) }
     ensures trail { OnOk result (trail.new ≡ trail.old) }
     ensures calm { Calm vm.new }
 {
     trail.push(step)?;
-    match renew_codes(vm, alloc, app, cells, trail, left, body, parent) {
+    match renew_codes(vm, alloc, app, cells, trail, left, body, parent, moved) {
         Ok(()) => {
             trail.pop(alloc);
             Ok(())
@@ -177,15 +205,27 @@ fn renew_component(
     left: u32,
     body: &mut Codes,
     parent: &Option<NodeId>,
+    moved: &mut Moved,
 ) -> Result<(), VmFault>
     requires calm { Calm vm.old }
     ensures ok { OnOk result ((i : _) (made gm : _) (args : _) (k : _) (p : _) → i.path ≡ path_view path.now → Renews app.now cells.now (λ n run. renew_code_as by_number run left p (c.component_code i made gm args k (seen_codes n body.old))) vm.old (λ n. c.component_code i made gm args k (seen_codes n body.new)) vm.new) }
     ensures fails { (i : _) (made gm : _) (args : _) (k : _) (p : _) → i.path ≡ path_view path.now → IfErr result (RenewFails {A = PlainCode} app.now cells.now (λ n run. renew_code_as by_number run left p (c.component_code i made gm args k (seen_codes n body.old))) vm.old) }
+    ensures moved { OnOk result (CodesMoved moved.old moved.new (λ n. seen_codes n body.old) (λ n. seen_codes n body.new)) }
     ensures calm { Calm vm.new }
 {
     if left == 0 {
         return Err(VmFault::Memory);
     }
     let mut trail = Trail::of(alloc, path)?;
-    renew_codes(vm, alloc, app, cells, &mut trail, left - 1, body, parent)
+    renew_codes(
+        vm,
+        alloc,
+        app,
+        cells,
+        &mut trail,
+        left - 1,
+        body,
+        parent,
+        moved,
+    )
 }

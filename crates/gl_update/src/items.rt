@@ -4,13 +4,14 @@ ghost use Rattle.gl_value.specs.Value.{plain};
 ghost use Rattle.gl_value.specs.View.{view};
 ghost use Rattle.gl_meaning.specs.Path.{item};
 ghost use Rattle.gl_meaning.specs.View.{path_view};
+ghost use Rattle.gl_each.specs.Key.{entry_key};
 ghost use Rattle.gl_machine.specs.Code.{ItemCodes};
 ghost use Rattle.gl_machine.specs.RenewCode.{start};
 ghost use Rattle.gl_vm.specs.View.{Calm};
 ghost use Rattle.gl_append.specs.View.{seen_sight};
 ghost use Rattle.gl_append.specs.CodeView.{seen_listing, seen_item_spot, seen_item_code, all_items};
 ghost use Rattle.gl_append.specs.MachineView.{seen_entry, seen_left};
-ghost use Rattle.gl_update.specs.ListItems.{Item, BodyItem, FreshItem, FreshItems};
+ghost use Rattle.gl_update.specs.ListItems.{Item, spot_key, BodyItem, FreshItem, FreshItems};
 ghost use Rattle.gl_update.specs.Renewing.{Renews, RenewFails};
 
 use crate::appending::append_body;
@@ -63,6 +64,7 @@ fn item_body(
     requires calm { Calm vm.old }
     ensures ok { IfOk result (λ r. Renews app.now cells.now (BodyItem (λ n. start (seen_sight n sight) pc (path_view path) left) (seen_item_spot spot)) vm.old (λ n. seen_item_code n r) vm.new) }
     ensures fails { IfErr result (RenewFails {A = Item} app.now cells.now (BodyItem (λ n. start (seen_sight n sight) pc (path_view path) left) (seen_item_spot spot)) vm.old) }
+    ensures key { IfOk result (λ r. (n : _) → (seen_item_code n r).0 ≡ seen_item_spot spot) }
     ensures calm { Calm vm.new }
 {
     match append_body(vm, alloc, app, cells, sight, pc, path, left) {
@@ -89,6 +91,7 @@ pub(crate) fn fresh_item(
     requires calm { Calm vm.old }
     ensures ok { IfOk result (λ r. Renews app.now cells.now (FreshItem (λ n. seen_listing n listing.now) left (path_view path) (seen_entry entry)) vm.old (λ n. seen_item_code n r) vm.new) }
     ensures fails { IfErr result (RenewFails {A = Item} app.now cells.now (FreshItem (λ n. seen_listing n listing.now) left (path_view path) (seen_entry entry)) vm.old) }
+    ensures key { IfOk result (λ r. (n : _) → spot_key (seen_item_code n r) ≡ entry_key (seen_entry entry)) }
     ensures calm { Calm vm.new }
 {
     let value = vm.item(entry.value)?;

@@ -5,6 +5,7 @@ mod appending;
 mod asks;
 mod branches;
 mod codes;
+mod counting;
 mod ending;
 mod ending_items;
 mod items;
@@ -20,4 +21,5 @@ mod syncing;
 mod tops;
 mod trail;
 
+pub use counting::Moved;
 pub use pages::update;

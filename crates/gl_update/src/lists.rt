@@ -8,19 +8,21 @@ ghost use Rattle.gl_plain.specs.Naming.{by_number};
 ghost use Rattle.gl_plain.specs.Renew.{spot_pairs};
 ghost use Rattle.gl_plain.specs.Renew as r;
 ghost use Rattle.gl_machine.specs.Code as c;
-ghost use Rattle.gl_machine.specs.Code.{Code as PlainCode, lives_of, items_of as lives_in};
+ghost use Rattle.gl_machine.specs.Code.{Code as PlainCode, live_of, lives_of, items_of as lives_in};
 ghost use Rattle.gl_machine.specs.RenewCode.{renew_code_as};
 ghost use Rattle.gl_vm.specs.Labels.{labelled};
 ghost use Rattle.gl_vm.specs.View.{Calm, state_of};
 ghost use Rattle.gl_vm.specs.Steps.{Does};
 ghost use Rattle.gl_append.specs.CodeView.{seen_code, seen_codes, seen_listing, seen_spot, seen_item_code, all_items};
 ghost use Rattle.gl_append.specs.MachineView.{seen_left};
+ghost use Rattle.gl_update.specs.Counted.{CodeMoved, IsListed, IsUnlisted};
 ghost use Rattle.gl_update.specs.View.{trail_view};
 ghost use Rattle.gl_update.specs.ListItems.{ListsFresh, ListsNone};
 ghost use Rattle.gl_update.specs.Renewing.{Renews, RenewFails};
 
 use crate::appending::append_body;
 use crate::codes::renew_below;
+use crate::counting::Moved;
 use crate::ending::end_branch;
 use crate::ending_items::end_items;
 use crate::items::fresh_items;
@@ -71,10 +73,12 @@ pub(crate) fn renew_list(
     left: u32,
     code: &mut Code,
     parent: &Option<NodeId>,
+    moved: &mut Moved,
 ) -> Result<(), VmFault>
     requires calm { Calm vm.old }
     ensures ok { OnOk result (Renews app.now cells.now (λ n run. renew_code_as by_number run left (trail_view trail.old) (seen_code n code.old)) vm.old (λ n. seen_code n code.new) vm.new) }
     ensures fails { IfErr result (RenewFails {A = PlainCode} app.now cells.now (λ n run. renew_code_as by_number run left (trail_view trail.old) (seen_code n code.old)) vm.old) }
+    ensures moved { OnOk result (CodeMoved moved.old moved.new (λ n. seen_code n code.old) (λ n. seen_code n code.new)) }
     ensures trail { OnOk result (trail.new ≡ trail.old) }
     ensures calm { Calm vm.new }
 {
@@ -84,7 +88,7 @@ pub(crate) fn renew_list(
             spot,
             items,
         } => match renew_listed(
-            vm, alloc, app, cells, trail, left, listing, spot, items, parent,
+            vm, alloc, app, cells, trail, left, listing, spot, items, parent, moved,
         ) {
             Ok(new) => {
                 *code = new;
@@ -98,7 +102,7 @@ pub(crate) fn renew_list(
             comment,
             body,
         } => match renew_unlisted(
-            vm, alloc, app, cells, trail, left, listing, spot, comment, body, parent,
+            vm, alloc, app, cells, trail, left, listing, spot, comment, body, parent, moved,
         ) {
             Ok(new) => {
                 *code = new;
@@ -123,10 +127,12 @@ fn renew_listed(
     spot: Spot,
     items: Vec<ItemCode>,
     parent: &Option<NodeId>,
+    moved: &mut Moved,
 ) -> Result<Code, VmFault>
     requires calm { Calm vm.old }
     ensures ok { IfOk result (λ r. Renews app.now cells.now (λ n run. renew_code_as by_number run left (trail_view trail.old) (c.listed_code (seen_listing n listing) (seen_spot spot) (all_items (map (seen_item_code n) items.items)))) vm.old (λ n. seen_code n r) vm.new) }
     ensures fails { IfErr result (RenewFails {A = PlainCode} app.now cells.now (λ n run. renew_code_as by_number run left (trail_view trail.old) (c.listed_code (seen_listing n listing) (seen_spot spot) (all_items (map (seen_item_code n) items.items)))) vm.old) }
+    ensures moved { IfOk result (λ r. CodeMoved moved.old moved.new (λ n. c.listed_code (seen_listing n listing) (seen_spot spot) (all_items (map (seen_item_code n) items.items))) (λ n. seen_code n r)) }
     ensures trail { OnOk result (trail.new ≡ trail.old) }
     ensures calm { Calm vm.new }
 {
@@ -139,7 +145,7 @@ fn renew_listed(
         )
     } else {
         sync_list(
-            vm, alloc, app, cells, trail, left, listing, spot, items, entries, &keys, parent,
+            vm, alloc, app, cells, trail, left, listing, spot, items, entries, &keys, parent, moved,
         )
     }
 }
@@ -160,6 +166,7 @@ fn unlist(
     requires calm { Calm vm.old }
     ensures ok { IfOk result (λ r. Renews app.now cells.now (ListsNone (λ n. seen_listing n listing) (seen_spot spot) left (trail_view trail.now) (λ n q. times_items q (lives_in (all_items (map (seen_item_code n) items.now.items))))) vm.old (λ n. seen_code n r) vm.new) }
     ensures fails { IfErr result (RenewFails {A = PlainCode} app.now cells.now (ListsNone (λ n. seen_listing n listing) (seen_spot spot) left (trail_view trail.now) (λ n q. times_items q (lives_in (all_items (map (seen_item_code n) items.now.items))))) vm.old) }
+    ensures none { IfOk result (λ r. (n : _) → IsUnlisted (live_of (seen_code n r))) }
     ensures calm { Calm vm.new }
 {
     let sight = listing.sight.copy()?;
@@ -189,10 +196,12 @@ fn renew_unlisted(
     comment: Option<NodeId>,
     body: Codes,
     parent: &Option<NodeId>,
+    moved: &mut Moved,
 ) -> Result<Code, VmFault>
     requires calm { Calm vm.old }
     ensures ok { IfOk result (λ r. Renews app.now cells.now (λ n run. renew_code_as by_number run left (trail_view trail.old) (c.unlisted_code (seen_listing n listing) (seen_spot spot) (stamp_of comment) (seen_codes n body))) vm.old (λ n. seen_code n r) vm.new) }
     ensures fails { IfErr result (RenewFails {A = PlainCode} app.now cells.now (λ n run. renew_code_as by_number run left (trail_view trail.old) (c.unlisted_code (seen_listing n listing) (seen_spot spot) (stamp_of comment) (seen_codes n body))) vm.old) }
+    ensures moved { IfOk result (λ r. CodeMoved moved.old moved.new (λ n. c.unlisted_code (seen_listing n listing) (seen_spot spot) (stamp_of comment) (seen_codes n body)) (λ n. seen_code n r)) }
     ensures trail { OnOk result (trail.new ≡ trail.old) }
     ensures calm { Calm vm.new }
 {
@@ -201,7 +210,9 @@ fn renew_unlisted(
     if entries.is_empty() {
         let mut body = body;
         let step = PathStep::Else;
-        match renew_below(vm, alloc, app, cells, trail, step, left, &mut body, parent) {
+        match renew_below(
+            vm, alloc, app, cells, trail, step, left, &mut body, parent, moved,
+        ) {
             Ok(()) => Ok(Code::unlisted(listing, spot, comment, body)),
             Err(fault) => Err(fault),
         }
@@ -230,6 +241,7 @@ fn list(
     requires calm { Calm vm.old }
     ensures ok { IfOk result (λ r. Renews app.now cells.now (ListsFresh (λ n. seen_listing n listing) (seen_spot spot) left (trail_view trail.now) (seen_left entries.items) (λ n q. times_in q (lives_of (seen_codes n body.now)) + times_comment q (stamp_of comment.now))) vm.old (λ n. seen_code n r) vm.new) }
     ensures fails { IfErr result (RenewFails {A = PlainCode} app.now cells.now (ListsFresh (λ n. seen_listing n listing) (seen_spot spot) left (trail_view trail.now) (seen_left entries.items) (λ n q. times_in q (lives_of (seen_codes n body.now)) + times_comment q (stamp_of comment.now))) vm.old) }
+    ensures some { IfOk result (λ r. (n : _) → IsListed (live_of (seen_code n r))) }
     ensures calm { Calm vm.new }
 {
     let base = trail.below(alloc, PathStep::Items)?;

@@ -3,8 +3,10 @@ ghost use Rattle.std.specs.Prelude.{◌≡◌, ◌∷◌, IsTrue, IfOk, Some, ma
 ghost use Rattle.gl_value.specs.View.{view};
 ghost use Rattle.gl_meaning.specs.Laws.{NoRepeat};
 ghost use Rattle.gl_each.specs.Key.{same_key, entry_keys};
+ghost use Rattle.gl_each.specs.Moved.{moves as count_moves};
 ghost use Rattle.gl_each.specs.Sync.{Step};
 ghost use Rattle.gl_each.specs.View.{key_view, seen_keys, seen_steps, step_view};
+ghost use Rattle.gl_kept.specs.Between.{moves_between};
 ghost use Rattle.gl_append.specs.MachineView.{seen_left};
 ghost use Rattle.gl_update.specs.ListItems.{there};
 ghost use Rattle.gl_update.specs.OldItems.{raw_key, code_key, Plans, TakenAt, TakenBy, IsReady, is_move};
@@ -69,7 +71,8 @@ fn all_there(alloc: Global, items: Vec<ItemCode>) -> Result<Vec<Option<ItemCode>
 // The steps for these keys, the first one last.
 fn steps_for(old: &Keys, new: &Keys) -> Result<Vec<PlanStep>, AllocError>
     requires { NoRepeat old.now }
-    ensures { IfOk result (λ ss. Plans old.now new.now (reverse (seen_steps ss.items))) }
+    ensures plans { IfOk result (λ ss. Plans old.now new.now (reverse (seen_steps ss.items))) }
+    ensures moves { IfOk result (λ ss. count_moves (reverse (seen_steps ss.items)) ≡ moves_between old.now new.now) }
 {
     let plan = plan(old, new)?;
     let mut steps = plan.steps.into_vec();
@@ -102,6 +105,8 @@ impl Work {
         requires keys { new.now ≡ entry_keys (seen_left waiting.items) }
         ensures ready { IfOk result (λ w. IsReady w) }
         ensures waiting { IfOk result (λ w. w.waiting ≡ waiting) }
+        ensures keys { IfOk result (λ w. w.keys ≡ map code_key items.items) }
+        ensures moves { IfOk result (λ w. count_moves (reverse (seen_steps w.steps.items)) ≡ moves_between w.keys new.now) }
         ensures olds { IfOk result (λ w. there w.olds.items ≡ items.items) }
     {
         let keys = keys_of_items(alloc, items.as_slice())?;

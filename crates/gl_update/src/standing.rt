@@ -1,10 +1,12 @@
 // Where the nodes of an update stand. What is kept does not change by it.
-ghost use Rattle.std.specs.Prelude.{◌≡◌, IfOk, OnOk};
+ghost use Rattle.std.specs.Prelude.{◌≡◌, ◌+◌, IfOk, OnOk};
 ghost use Rattle.gl_vm.specs.View.{Calm, state_of, Agrees};
 ghost use Rattle.gl_vm.specs.Steps.{Does};
 ghost use Rattle.gl_append.specs.CodeView.{seen_codes};
 ghost use Rattle.gl_append.specs.Steps.{Commented};
+ghost use Rattle.gl_update.specs.Counted.{one_if};
 
+use crate::counting::Moved;
 use crate::seating::{Seat, seat_body};
 use crate::tops::{first_top, last_top};
 use gl_append::{Codes, ItemCode, comment_for};
@@ -122,19 +124,22 @@ fn move_item(
     shift_body(&mut vm.tree, seat, body, comment)
 }
 
-/// An item that is kept moves to the seat, or stays, and then the seat is behind it.
+/// An item that is kept moves to the seat, which is counted, or stays, and then the seat is behind it.
 pub(crate) fn settle_item(
     vm: &mut Vm,
     moves: bool,
     body: &Codes,
     comment: &Option<NodeId>,
     seat: &mut Seat,
+    moved: &mut Moved,
 ) -> Result<(), AllocError>
     ensures step { OnOk result (Does (λ n st. st) vm.old vm.new) }
+    ensures moved { OnOk result (moved.new.items ≡ moved.old.items + one_if moves) }
     ensures calm { Calm vm.old → Calm vm.new }
 {
     if moves {
-        move_item(vm, seat, body, comment)
+        move_item(vm, seat, body, comment)?;
+        moved.one()
     } else {
         *seat = behind(vm, &seat.parent, body, comment)?;
         Ok(())

@@ -1,13 +1,16 @@
 // The items of a list become those of other entries: an old item with the key of an entry is kept, where there is none one
 // is appended, and what is left of the old ones is ended.
-ghost use Rattle.std.specs.Prelude.{◌≡◌, ◌∷◌, [], map, IfOk, OnOk, IfErr};
+ghost use Rattle.std.specs.Prelude.{◌≡◌, ◌∷◌, [], map, reverse, IfOk, OnOk, IfErr};
 ghost use Rattle.gl_value.specs.Value.{plain};
 ghost use Rattle.gl_value.specs.View.{view};
 ghost use Rattle.gl_meaning.specs.Path.{item};
 ghost use Rattle.gl_meaning.specs.Render.{entries, values_listed};
 ghost use Rattle.gl_meaning.specs.View.{path_view};
-ghost use Rattle.gl_each.specs.Key.{entry_keys};
+ghost use Rattle.gl_each.specs.Key.{entry_key, entry_keys};
+ghost use Rattle.gl_each.specs.Moved.{moves as count_moves};
+ghost use Rattle.gl_each.specs.View.{seen_steps};
 ghost use Rattle.gl_plain.specs.Renew as r;
+ghost use Rattle.gl_machine.specs.Code as c;
 ghost use Rattle.gl_machine.specs.Code.{Code as PlainCode, ItemCodes};
 ghost use Rattle.gl_vm.specs.Labels.{label, labelled};
 ghost use Rattle.gl_vm.specs.View.{Calm};
@@ -15,11 +18,13 @@ ghost use Rattle.gl_vm.specs.Steps.{Does};
 ghost use Rattle.gl_append.specs.CodeView.{seen_code, seen_listing, seen_spot, seen_item_code, all_items};
 ghost use Rattle.gl_append.specs.MachineView.{seen_entry, seen_left};
 ghost use Rattle.gl_update.specs.View.{trail_view};
-ghost use Rattle.gl_update.specs.ListItems.{Item, there, KeptItem, SyncItems, Syncs};
+ghost use Rattle.gl_update.specs.ListItems.{Item, spot_key, there, KeptItem, SyncItems, Syncs};
+ghost use Rattle.gl_update.specs.Counted.{CodeMoved, HasKey, ItemMoved, ItemsMoved, KeptMoved};
 ghost use Rattle.gl_update.specs.OldItems.{IsReady, OneItem};
 ghost use Rattle.gl_update.specs.Renewing.{Renews, RenewFails};
 
 use crate::codes::renew_below;
+use crate::counting::Moved;
 use crate::ending_items::end_items;
 use crate::items::{add, fresh_item, item_path};
 use crate::old_items::Work;
@@ -75,10 +80,13 @@ fn kept_item(
     entry: Entry,
     moves: bool,
     seat: &mut Seat,
+    moved: &mut Moved,
 ) -> Result<ItemCode, VmFault>
     requires calm { Calm vm.old }
     ensures ok { IfOk result (λ r. Renews app.now cells.now (KeptItem left (item (plain (view entry.key)) entry.occurrence ∷ trail_view trail.old) (seen_entry entry) (λ n. seen_item_code n old)) vm.old (λ n. seen_item_code n r) vm.new) }
     ensures fails { IfErr result (RenewFails {A = Item} app.now cells.now (KeptItem left (item (plain (view entry.key)) entry.occurrence ∷ trail_view trail.old) (seen_entry entry) (λ n. seen_item_code n old)) vm.old) }
+    ensures moved { IfOk result (λ r. KeptMoved moved.old moved.new moves (λ n. seen_item_code n old) (λ n. seen_item_code n r)) }
+    ensures key { IfOk result (λ r. (n : _) → spot_key (seen_item_code n r) ≡ spot_key (seen_item_code n old)) }
     ensures trail { OnOk result (trail.new ≡ trail.old) }
     ensures calm { Calm vm.new }
 {
@@ -104,9 +112,10 @@ fn kept_item(
         left,
         &mut body,
         &seat.parent,
+        moved,
     ) {
         Ok(()) => {
-            settle_item(vm, moves, &body, &comment, seat)?;
+            settle_item(vm, moves, &body, &comment, seat, moved)?;
             Ok(ItemCode::rendered(spot, comment, body))
         }
         Err(fault) => Err(fault),
@@ -128,16 +137,21 @@ fn entry_item(
     entry: Entry,
     moves: bool,
     seat: &mut Seat,
+    moved: &mut Moved,
 ) -> Result<ItemCode, VmFault>
     requires calm { Calm vm.old }
     requires base { path_view base.now ≡ trail_view trail.old }
     ensures ok { IfOk result (λ r. Renews app.now cells.now (OneItem (λ n. seen_listing n listing.now) left (item (plain (view entry.key)) entry.occurrence ∷ trail_view trail.old) (seen_entry entry) old) vm.old (λ n. seen_item_code n r) vm.new) }
     ensures fails { IfErr result (RenewFails {A = Item} app.now cells.now (OneItem (λ n. seen_listing n listing.now) left (item (plain (view entry.key)) entry.occurrence ∷ trail_view trail.old) (seen_entry entry) old) vm.old) }
+    ensures moved { IfOk result (λ r. ItemMoved moved.old moved.new moves old r) }
+    ensures key { IfOk result (λ r. (n : _) → HasKey n old (entry_key (seen_entry entry)) r) }
     ensures trail { OnOk result (trail.new ≡ trail.old) }
     ensures calm { Calm vm.new }
 {
     match old {
-        Some(item) => kept_item(vm, alloc, app, cells, trail, left, item, entry, moves, seat),
+        Some(item) => kept_item(
+            vm, alloc, app, cells, trail, left, item, entry, moves, seat, moved,
+        ),
         None => {
             let path = item_path(alloc, base, &entry.key, entry.occurrence)?;
             fresh_item(vm, alloc, app, cells, left, listing, path, entry, seat)
@@ -159,12 +173,15 @@ fn sync_items(
     base: &Path,
     work: Work,
     seat: Seat,
+    moved: &mut Moved,
 ) -> Result<Vec<ItemCode>, VmFault>
     requires calm { Calm vm.old }
     requires base { path_view base.now ≡ trail_view trail.old }
     requires ready { IsReady work }
     ensures ok { IfOk result (λ r. Renews app.now cells.now (SyncItems (λ n. seen_listing n listing.now) left (trail_view trail.old) (seen_left work.waiting.items) (λ n. map (seen_item_code n) (there work.olds.items))) vm.old (λ n. all_items (map (seen_item_code n) r.items)) vm.new) }
     ensures fails { IfErr result (RenewFails {A = ItemCodes} app.now cells.now (SyncItems (λ n. seen_listing n listing.now) left (trail_view trail.old) (seen_left work.waiting.items) (λ n. map (seen_item_code n) (there work.olds.items))) vm.old) }
+    ensures moved { IfOk result (λ r. ItemsMoved moved.old moved.new (count_moves (reverse (seen_steps work.steps.items))) (there work.olds.items) r.items) }
+    ensures keys { IfOk result (λ r. (n : _) → map spot_key (map (seen_item_code n) r.items) ≡ entry_keys (seen_left work.waiting.items)) }
     ensures trail { OnOk result (trail.new ≡ trail.old) }
     ensures calm { Calm vm.new }
 {
@@ -175,7 +192,7 @@ fn sync_items(
         let moves = work.moves();
         let old = work.take()?;
         match entry_item(
-            vm, alloc, app, cells, trail, left, listing, base, old, entry, moves, &mut seat,
+            vm, alloc, app, cells, trail, left, listing, base, old, entry, moves, &mut seat, moved,
         ) {
             Ok(item) => add(&mut done, item)?,
             Err(fault) => return Err(fault),
@@ -201,11 +218,13 @@ pub(crate) fn sync_list(
     entries: Vec<Entry>,
     keys: &Keys,
     parent: &Option<NodeId>,
+    moved: &mut Moved,
 ) -> Result<Code, VmFault>
     requires calm { Calm vm.old }
     requires keys { keys.now ≡ entry_keys (seen_left entries.items) }
     ensures ok { IfOk result (λ r. Renews app.now cells.now (Syncs (λ n. seen_listing n listing) (seen_spot spot) left (trail_view trail.old) (seen_left entries.items) (λ n. map (seen_item_code n) items.items)) vm.old (λ n. seen_code n r) vm.new) }
     ensures fails { IfErr result (RenewFails {A = PlainCode} app.now cells.now (Syncs (λ n. seen_listing n listing) (seen_spot spot) left (trail_view trail.old) (seen_left entries.items) (λ n. map (seen_item_code n) items.items)) vm.old) }
+    ensures moved { IfOk result (λ r. CodeMoved moved.old moved.new (λ n. c.listed_code (seen_listing n listing) (seen_spot spot) (all_items (map (seen_item_code n) items.items))) (λ n. seen_code n r)) }
     ensures trail { OnOk result (trail.new ≡ trail.old) }
     ensures calm { Calm vm.new }
 {
@@ -214,7 +233,7 @@ pub(crate) fn sync_list(
     let base = trail.below(alloc, PathStep::Items)?;
     trail.push(PathStep::Items)?;
     match sync_items(
-        vm, alloc, app, cells, trail, left, &listing, &base, work, seat,
+        vm, alloc, app, cells, trail, left, &listing, &base, work, seat, moved,
     ) {
         Ok(items) => {
             trail.pop(alloc);

@@ -9,6 +9,7 @@ use Rattle.std.specs.Int.{int_min, int_max}
 use Rattle.std.specs.Ordering.{int_eq}
 use Rattle.gl_base.specs.Texts.{Text, text_less}
 use Rattle.gl_base.specs.Names.{at_place}
+use Rattle.gl_value.specs.Signs.{full_stop}
 use Rattle.gl_value.specs.Value.{Value, undefined, boolean, integer, text, list, pairs, action, Members, no_members, member, values_of, list_of, depth, truthy, same, text_of, property, properties, split}
 
 -- The helpers, in the order of their numbers from 0.
@@ -194,7 +195,7 @@ module _ {O : Type 0} (eq : O → O → Bool) (args : List (Value O)) (names : L
   -- `hash k=x..`: the record of the named ones; the last of a name wins
   raw_value hash_helper = pairs (members_of no_members names)
   -- `get v p`: the property of v along the text of p split at `.`
-  raw_value get_helper = properties (split 46 (text_of (argument 1))) (argument 0)
+  raw_value get_helper = properties (split full_stop (text_of (argument 1))) (argument 0)
   -- `fn f x..`: the action f with x.. after its fixed arguments; undefined where f is no action
   raw_value fn_helper = more_fixed (argument 0) (rest_of args)
   -- `add a b`, `sub a b`, `mul a b`: of the two as numbers, clamped

@@ -12,5 +12,6 @@ pub mod Plain
 pub mod Proper
 pub mod Quote
 pub mod Scalar
+pub mod Signs
 pub mod Value
 pub mod View

@@ -5,6 +5,7 @@ use Rattle.std.specs.Ordering.{int_eq}
 use Rattle.std.specs.Bool.{beq}
 use Rattle.std.specs.Fmt.{signed_decimal}
 use Rattle.gl_base.specs.Texts.{Text}
+use Rattle.gl_value.specs.Signs.{full_stop}
 
 mutual
   pub data Value (O : Type 0) : Type 0 where
@@ -100,7 +101,7 @@ abbrev mutual
   same_members eq _ _ = false
 
 abbrev pub comma_if : Bool → Text
-comma_if later = if later then 44 ∷ [] else []
+comma_if later = if later then codes "," else []
 
 abbrev mutual
   pub text_of : {O : Type 0} → Value O → Text
@@ -198,4 +199,4 @@ split c (x ∷ xs) = if nat_eq x c then [] ∷ split c xs else before_first x (s
 
 -- the key of an item: its index, its plain form, or the plain form of a property
 abbrev pub key_of : {O P : Type 0} → Text → ℕ → Value O → Value P
-key_of k i v = if bytes_eq k (codes "@index") then count_value i else (if bytes_eq k (codes "@identity") then plain v else plain (properties (split 46 k) v))
+key_of k i v = if bytes_eq k (codes "@index") then count_value i else (if bytes_eq k (codes "@identity") then plain v else plain (properties (split full_stop k) v))

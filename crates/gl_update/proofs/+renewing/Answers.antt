@@ -1,4 +1,4 @@
-use Rattle.std.proofs.Common.{rules, Bool, ◌≡◌, ◌≢◌, ℕ, ◌∷◌, ◌∙◌, length, drop, Some, map, ◌++◌, [], ◌-◌, ap, sym, subst, arith, get_or-set_other, List, Option, refl}
+use Rattle.std.proofs.Common.{rules, Bool, ◌≡◌, ◌≢◌, ℕ, ◌∷◌, ◌∙◌, length, drop, Some, None, map, ◌++◌, [], ◌-◌, ap, sym, subst, arith, get_or, get_or-set_other, List, Option, refl}
 use Rattle.std.specs.Prelude.{if◌then◌else◌, OnOk, IfErr, List, Option}
 use Rattle.std.proofs.lemmas.List.{length-set}
 use Rattle.std.proofs.lemmas.Result.{on_ok_weaker, IfOk-weaker, IfErr-weaker}
@@ -49,6 +49,12 @@ use Rattle.gl_update.proofs.OldKeys.{there_is}
 use Rattle.gl_update.proofs.FreshItems.{none_waits}
 use Rattle.gl_update.proofs.SyncItems.{All, sync_begin, sync_next, sync_fails, sync_end, still_waits, work_next, kept_renews, kept_fails, list_syncs, list_sync_fails, item_is}
 use Rattle.gl_update.proofs.Still.{renews_on}
+use Rattle.gl_machine.specs.Code.{live_of}
+use Rattle.gl_each.specs.Key.{entry_key}
+use Rattle.gl_update.specs.Counted.{CodeMoved, CodesMoved, HasKey, IsListed, IsUnlisted, ItemMoved}
+use Rattle.gl_update.specs.ListItems.{spot_key}
+use Rattle.gl_update.proofs.MovedCodes.{none_moved, code_moved, arm_moved, walked_begin, walked_next, walked_end, same_moved, flip_moved, ended_moved, begun_moved, kept_moved}
+use Rattle.gl_update.proofs.SyncCounts.{syncing_begin, syncing_next, syncing_end, list_moved}
 use Rattle.gl_update.proofs.+renewing.Goals as goal
 
 pub codes::renew_below-returns-in-Ok-clause-ok : goal.codes::renew_below-returns-in-Ok-clause-ok
@@ -88,6 +94,7 @@ codes::renew_codes-loop-place-init t c = record {
   trail = search rules;
   calm = c.requires.calm;
   walks = walks_begin c.args.app.now c.args.cells.now c.args.left (trail_view c.args.trail.now) c.args.codes.now c.deref_mut-code-items.result.now c.args.vm.now c.deref_mut-code-items.ensures.value;
+  moved = walked_begin c.args.moved.now c.args.codes.now.list.items c.deref_mut-code-items.result.now;
 }
 
 pub codes::renew_codes-loop-place-preserved : goal.codes::renew_codes-loop-place-preserved
@@ -102,6 +109,12 @@ codes::renew_codes-loop-place-preserved t c = record {
   walks = walks_next c.args.app.now c.args.cells.now c.args.left (trail_view c.args.trail.now) c.loop-place.code-items c.loop-place.place c.code-item.result (let lt = c.loop-place-test.true in let e = c.loop-place.invariant.unvisited.0 in omega (arith, lt, e)) c.code-item.is (trail_view c.push.new.self)
       (c.in_ok-push.ensures.view ∙ ap (λ x. at c.loop-place.place ∷ trail_view x) c.loop-place.invariant.trail) c.args.codes.now c.args.vm.now c.loop-place.vm c.renew_code.new.vm c.renew_code.new.code c.loop-place.invariant.walks
       (subst (λ z. Renews c.args.app.now c.args.cells.now (One c.args.app.now c.args.cells.now c.args.left (trail_view c.args.trail.now) (trail_view c.push.new.self) z) c.loop-place.vm (λ n. seen_code n c.renew_code.new.code) c.renew_code.new.vm) (sym c.code-item.is) c.in-Ok.ensures.ok);
+  moved = walked_next c.args.moved.now c.loop-place.moved c.renew_code.new.moved c.args.codes.now.list.items c.loop-place.code-items c.loop-place.place c.code-item.result c.renew_code.new.code
+      (let lt = c.loop-place-test.true in let e = c.loop-place.invariant.unvisited.0 in omega (arith, lt, e))
+      (c.loop-place.invariant.unvisited.0 ∙ ap length c.deref_mut-code-items.ensures.value)
+      (c.code-item.is ∙ (c.loop-place.invariant.unvisited.1 c.loop-place.place c.code-item.result (omega arith) ∙ ap (λ xs. get_or xs c.loop-place.place c.code-item.result) c.deref_mut-code-items.ensures.value))
+      c.loop-place.invariant.moved
+      (subst (λ z. CodeMoved c.loop-place.moved c.renew_code.new.moved (λ n. seen_code n z) (λ n. seen_code n c.renew_code.new.code)) (sym c.code-item.is) c.in-Ok.ensures.moved);
 }
 
 pub codes::renew_codes-returns-in-Err-clause-fails : goal.codes::renew_codes-returns-in-Err-clause-fails
@@ -116,6 +129,30 @@ codes::renew_codes-returns-clause-ok t c =
     (let le = c.loop-place-test.false in let e = c.loop-place.invariant.unvisited.0 in omega (arith, le, e)) c.loop-place.invariant.walks
     (written c.loop-place.code-items (drop (length c.loop-place.code-items) c.args.codes.now.list.items) c.args.codes.now.list.len
     (c.args.codes.now.list.ok.0 ∙ (ap length (sym c.deref_mut-code-items.ensures.value) ∙ sym c.loop-place.invariant.unvisited.0)))
+
+pub codes::renew_codes-returns-clause-moved : goal.codes::renew_codes-returns-clause-moved
+codes::renew_codes-returns-clause-moved t c =
+    walked_end c.args.moved.now c.loop-place.moved c.args.codes.now _ c.loop-place.code-items c.loop-place.place
+    (c.loop-place.invariant.unvisited.0 ∙ ap length c.deref_mut-code-items.ensures.value)
+    (let le = c.loop-place-test.false in let e = c.loop-place.invariant.unvisited.0 in omega (arith, le, e))
+    (written c.loop-place.code-items (drop (length c.loop-place.code-items) c.args.codes.now.list.items) c.args.codes.now.list.len
+    (c.args.codes.now.list.ok.0 ∙ (ap length (sym c.deref_mut-code-items.ensures.value) ∙ sym c.loop-place.invariant.unvisited.0)))
+    c.loop-place.invariant.moved
+
+pub branches::renew_branch-returns-then-shows-main-clause-moved : goal.branches::renew_branch-returns-then-shows-main-clause-moved
+branches::renew_branch-returns-then-shows-main-clause-moved t c =
+    let z : Tables → p.Choice = λ n. seen_choice n c.args.choice.now in
+    on_ok_weaker c.renew_below.result
+    (λ r. same_moved c.args.moved.now c.renew_below.new.moved z z (seen_spot c.args.spot.now) c.args.main.now (stamp_of c.args.comment.now) (stamp_of c.args.comment.now) (λ n. seen_codes n c.args.body.now) (λ n. seen_codes n c.renew_below.new.body) r)
+    c.renew_below.ensures.moved
+
+pub branches::renew_branch-returns-else-shows-main-clause-moved : goal.branches::renew_branch-returns-else-shows-main-clause-moved
+branches::renew_branch-returns-else-shows-main-clause-moved t c =
+    let z : Tables → p.Choice = λ n. seen_choice n c.args.choice.now in
+    let ne : c.in_ok-shows.shows ≢ c.args.main.now = (sides_differ c.in_ok-shows.shows c.args.main.now c.if-shows-main.false) in
+    on_ok_weaker c.flip.result
+    (λ r. flip_moved c.args.moved.now z z (seen_spot c.args.spot.now) c.in_ok-shows.shows c.args.main.now (stamp_of c.args.comment.now) (stamp_of c.flip.new.comment) (λ n. seen_codes n c.args.body.now) (λ n. seen_codes n c.flip.new.body) ne)
+    c.flip.ensures.ok
 
 pub branches::renew_branch-returns-then-shows-main-clause-ok : goal.branches::renew_branch-returns-then-shows-main-clause-ok
 branches::renew_branch-returns-then-shows-main-clause-ok t c =
@@ -250,7 +287,89 @@ codes::renew_code-returns-in_ok-copy-in-Yield-clause-fails t c =
     (λ f r. arm_fails c.args.app.now c.args.cells.now c.args.left (trail_view c.args.trail.now) c.args.code.now (λ n. k n (seen_codes n c.in-Yield.body)) c.args.vm.now f (λ n. ap (seen_code n) c.in-Yield.is ∙ yield_is n c.in-Yield.name c.in-Yield.made c.in-Yield.params c.in-Yield.body) (fails_in c.args.app.now c.args.cells.now (λ n run. renew_codes_as by_number run c.args.left (slot c.in-Yield.name ∷ trail_view c.args.trail.now) 0 (seen_codes n c.in-Yield.body)) k (λ n st. st) c.args.vm.now f r))
     (moved2 (λ (y : Text) (b : Codes). IfErr c.renew_below-in-Yield.result (RenewFails {A = p.Codes} c.args.app.now c.args.cells.now (λ n run. renew_codes_as by_number run c.args.left (slot y ∷ trail_view c.args.trail.now) 0 (seen_codes n b)) c.args.vm.now)) (c.in_ok-copy-in-Yield.ensures ∙ c.in-Yield.name-is) c.in-Yield.body-is c.renew_below-in-Yield.ensures.fails)
 
+-- what was moved
+
+pub codes::renew_code-returns-in-Still-clause-moved : goal.codes::renew_code-returns-in-Still-clause-moved
+codes::renew_code-returns-in-Still-clause-moved t c =
+    let k : Tables → p.Code = λ n. p.still_code c.in-Still.node.1 in
+    arm_moved c.args.moved.now c.args.moved.now c.args.code.now c.args.code.now k k (λ n. ap (seen_code n) c.in-Still.is ∙ still_is n c.in-Still.node) (λ n. ap (seen_code n) c.in-Still.is ∙ still_is n c.in-Still.node)
+    (none_moved c.args.moved.now k k (λ n. refl))
+
+pub codes::renew_code-returns-in_ok-renew_text-in-Put-clause-moved : goal.codes::renew_code-returns-in_ok-renew_text-in-Put-clause-moved
+codes::renew_code-returns-in_ok-renew_text-in-Put-clause-moved t c =
+    let k : Tables → p.Code = λ n. p.put_code c.in-Put.node.1 (seen_spot c.in-Put.spot) in
+    arm_moved c.args.moved.now c.args.moved.now c.args.code.now _ k k (λ n. ap (seen_code n) c.in-Put.is ∙ put_is n c.in-Put.node c.in-Put.spot) (λ n. search (rules, the_lemmas))
+    (none_moved c.args.moved.now k k (λ n. refl))
+
+pub codes::renew_code-returns-in-Let-clause-moved : goal.codes::renew_code-returns-in-Let-clause-moved
+codes::renew_code-returns-in-Let-clause-moved t c =
+    let k : Tables → p.Codes → p.Code = λ n cs. p.let_code (refs_made c.in-Let.made) (stamps c.in-Let.params) cs in
+    let held : OnOk c.renew_below.result (CodesMoved c.args.moved.now c.renew_below.new.moved (λ n. seen_codes n c.in-Let.body) (λ n. seen_codes n c.renew_below.new.body)) =
+    subst (λ z. OnOk c.renew_below.result (CodesMoved c.args.moved.now c.renew_below.new.moved (λ n. seen_codes n z) (λ n. seen_codes n c.renew_below.new.body))) c.in-Let.body-is c.renew_below.ensures.moved in
+    on_ok_weaker c.renew_below.result
+    (λ r. arm_moved c.args.moved.now c.renew_below.new.moved c.args.code.now _ (λ n. k n (seen_codes n c.in-Let.body)) (λ n. k n (seen_codes n c.renew_below.new.body)) (λ n. ap (seen_code n) c.in-Let.is ∙ let_is n c.in-Let.made c.in-Let.params c.in-Let.body) (λ n. search (rules, the_lemmas)) r)
+    held
+
+pub codes::renew_code-returns-in_ok-copy-in-Yield-clause-moved : goal.codes::renew_code-returns-in_ok-copy-in-Yield-clause-moved
+codes::renew_code-returns-in_ok-copy-in-Yield-clause-moved t c =
+    let k : Tables → p.Codes → p.Code = λ n cs. p.yield_code c.in-Yield.name (refs_made c.in-Yield.made) (stamps c.in-Yield.params) cs in
+    let m = c.args.moved.now in
+    let m2 = c.renew_below-in-Yield.new.moved in
+    let held : OnOk c.renew_below-in-Yield.result (CodesMoved m m2 (λ n. seen_codes n c.in-Yield.body) (λ n. seen_codes n c.renew_below-in-Yield.new.body)) =
+    subst (λ z. OnOk c.renew_below-in-Yield.result (CodesMoved m m2 (λ n. seen_codes n z) (λ n. seen_codes n c.renew_below-in-Yield.new.body))) c.in-Yield.body-is c.renew_below-in-Yield.ensures.moved in
+    on_ok_weaker c.renew_below-in-Yield.result
+    (λ r. arm_moved m m2 c.args.code.now _ (λ n. k n (seen_codes n c.in-Yield.body)) (λ n. k n (seen_codes n c.renew_below-in-Yield.new.body)) (λ n. ap (seen_code n) c.in-Yield.is ∙ yield_is n c.in-Yield.name c.in-Yield.made c.in-Yield.params c.in-Yield.body) (λ n. search (rules, the_lemmas)) r)
+    held
+
+pub codes::renew_code-returns-in-Component-clause-moved : goal.codes::renew_code-returns-in-Component-clause-moved
+codes::renew_code-returns-in-Component-clause-moved t c =
+    let k : Tables → p.Codes → p.Code = λ m cs. p.component_code (seen_owner m c.in-Component.owner.value) (ids.instance_id (seen_owner m c.in-Component.owner.value).id ∷ ((ids.block_id c.in-Component.block.1 ∷ refs_made c.in-Component.made) ++ refs_made c.in-Component.owner.value.cells)) (ids.block_id c.in-Component.block.1 ∷ refs_made c.in-Component.made) (name_stamps c.in-Component.args.value) (Some c.in-Component.block.1) cs in
+    let m = c.args.moved.now in
+    let m2 = c.renew_component.new.moved in
+    let held : OnOk c.renew_component.result (CodesMoved m m2 (λ n. seen_codes n c.in-Component.body) (λ n. seen_codes n c.renew_component.new.body)) =
+    subst (λ z. OnOk c.renew_component.result (CodesMoved m m2 (λ n. seen_codes n z) (λ n. seen_codes n c.renew_component.new.body))) c.in-Component.body-is c.renew_component.ensures.moved in
+    on_ok_weaker c.renew_component.result
+    (λ r. arm_moved m m2 c.args.code.now _ (λ n. k n (seen_codes n c.in-Component.body)) (λ n. k n (seen_codes n c.renew_component.new.body)) (λ n. ap (seen_code n) c.in-Component.is ∙ component_is n c.in-Component.owner c.in-Component.block c.in-Component.made c.in-Component.args c.in-Component.body) (λ n. search (rules, the_lemmas)) r)
+    held
+
+pub codes::renew_code-returns-in-Element-clause-moved : goal.codes::renew_code-returns-in-Element-clause-moved
+codes::renew_code-returns-in-Element-clause-moved t c =
+    let k : Tables → p.Codes → p.Code = λ n cs. p.element_code c.in-Element.node.1 (refs_made c.in-Element.made) (map seen_attr_spot c.in-Element.attrs.items) (map seen_mod_spot c.in-Element.mods.items) cs in
+    let m = c.args.moved.now in
+    let m2 = c.renew_element.new.moved in
+    let held : OnOk c.renew_element.result (CodesMoved m m2 (λ n. seen_codes n c.in-Element.body) (λ n. seen_codes n c.renew_element.new.body)) =
+    subst (λ z. OnOk c.renew_element.result (CodesMoved m m2 (λ n. seen_codes n z) (λ n. seen_codes n c.renew_element.new.body))) c.in-Element.body-is c.renew_element.ensures.moved in
+    on_ok_weaker c.renew_element.result
+    (λ r. arm_moved m m2 c.args.code.now _ (λ n. k n (seen_codes n c.in-Element.body)) (λ n. k n (seen_codes n c.renew_element.new.body)) (λ n. ap (seen_code n) c.in-Element.is ∙ element_is n c.in-Element.node c.in-Element.made c.in-Element.attrs c.in-Element.mods c.in-Element.body) (λ n. search (rules, the_lemmas)) r)
+    held
+
+pub codes::renew_code-returns-in-Branch-clause-moved : goal.codes::renew_code-returns-in-Branch-clause-moved
+codes::renew_code-returns-in-Branch-clause-moved t c =
+    let m = c.args.moved.now in
+    let m2 = c.renew_branch.new.moved in
+    on_ok_weaker c.renew_branch.result
+    (λ r. arm_moved m m2 c.args.code.now _ (λ n. p.branch_code (seen_choice n c.in-Branch.choice) (seen_spot c.in-Branch.spot) c.in-Branch.main (stamp_of c.in-Branch.comment) (seen_codes n c.in-Branch.body))
+    (λ n. p.branch_code (seen_choice n c.in-Branch.choice) (seen_spot c.in-Branch.spot) c.renew_branch.new.main (stamp_of c.renew_branch.new.comment) (seen_codes n c.renew_branch.new.body)) (λ n. ap (seen_code n) c.in-Branch.is ∙ branch_is n c.in-Branch.choice c.in-Branch.spot c.in-Branch.main c.in-Branch.comment c.in-Branch.body) (λ n. search (rules, the_lemmas)) r)
+    (moved5 (λ (z : Choice) (x : Spot) (u : Bool) (k : Option Id) (b : Codes). OnOk c.renew_branch.result (CodeMoved m m2 (λ n. p.branch_code (seen_choice n z) (seen_spot x) u (stamp_of k) (seen_codes n b)) (λ n. p.branch_code (seen_choice n z) (seen_spot x) c.renew_branch.new.main (stamp_of c.renew_branch.new.comment) (seen_codes n c.renew_branch.new.body)))) c.in-Branch.choice-is c.in-Branch.spot-is c.in-Branch.main-is c.in-Branch.comment-is c.in-Branch.body-is c.renew_branch.ensures.moved)
+
 -- the list that is there
+
+pub lists::renew_list-returns-in-Ok-clause-moved : goal.lists::renew_list-returns-in-Ok-clause-moved
+lists::renew_list-returns-in-Ok-clause-moved t c =
+    let l = c.in-Listed.listing in
+    let s = c.in-Listed.spot in
+    let xs = c.in-Listed.items in
+    arm_moved c.args.moved.now c.renew_listed.new.moved c.args.code.now c.in-Ok.new (λ n. listed_code (seen_listing n l) (seen_spot s) (all_items (map (seen_item_code n) xs.items))) (λ n. seen_code n c.in-Ok.new)
+    (λ n. ap (seen_code n) (sym c.replace.ensures.value ∙ c.in-Listed.is) ∙ listed_is n l s xs) (λ n. refl) c.in-Ok.ensures.moved
+
+pub lists::renew_list-returns-in-Ok-renew_unlisted-clause-moved : goal.lists::renew_list-returns-in-Ok-renew_unlisted-clause-moved
+lists::renew_list-returns-in-Ok-renew_unlisted-clause-moved t c =
+    let l = c.in-Unlisted.listing in
+    let s = c.in-Unlisted.spot in
+    let k = c.in-Unlisted.comment in
+    let b = c.in-Unlisted.body in
+    arm_moved c.args.moved.now c.renew_unlisted.new.moved c.args.code.now c.in-Ok-renew_unlisted.new (λ n. unlisted_code (seen_listing n l) (seen_spot s) (stamp_of k) (seen_codes n b)) (λ n. seen_code n c.in-Ok-renew_unlisted.new)
+    (λ n. ap (seen_code n) (sym c.replace.ensures.value ∙ c.in-Unlisted.is) ∙ unlisted_is n l s k b) (λ n. refl) c.in-Ok-renew_unlisted.ensures.moved
 
 pub lists::renew_list-returns-in-Ok-clause-ok : goal.lists::renew_list-returns-in-Ok-clause-ok
 lists::renew_list-returns-in-Ok-clause-ok t c =
@@ -352,7 +471,32 @@ lists::renew_listed-returns-else-is_empty-clause-fails t c =
     (gives_of c.args.listing.key s c.value_now.new.vm c.in_ok-value.value (seen_left es.items) c.in_ok-value.ensures.value c.in_ok-entries.ensures) h)
     c.sync_list.ensures.fails
 
+pub lists::renew_listed-returns-then-is_empty-clause-moved : goal.lists::renew_listed-returns-then-is_empty-clause-moved
+lists::renew_listed-returns-then-is_empty-clause-moved t c =
+    let z : Tables → Listing = λ n. seen_listing n c.args.listing in
+    let s = seen_spot c.args.spot in
+    let xs : Tables → List Item = λ n. map (seen_item_code n) c.args.items.items in
+    IfOk-weaker c.unlist.result (λ r. (n : Tables) → IsUnlisted (live_of (seen_code n r))) (λ r. CodeMoved c.args.moved.now c.args.moved.now (λ n. listed_code (z n) s (all_items (xs n))) (λ n. seen_code n r))
+    (λ r h. ended_moved c.args.moved.now z s xs (λ n. seen_code n r) h) c.unlist.ensures.none
+
 -- without items
+
+pub lists::renew_unlisted-returns-in-Ok-clause-moved : goal.lists::renew_unlisted-returns-in-Ok-clause-moved
+lists::renew_unlisted-returns-in-Ok-clause-moved t c =
+    let z : Tables → Listing = λ n. seen_listing n c.args.listing in
+    let s = seen_spot c.args.spot in
+    let k = stamp_of c.args.comment in
+    let old : Tables → PlainCode = λ n. unlisted_code (z n) s k (seen_codes n c.args.body) in
+    code_moved c.args.moved.now c.renew_below.new.moved old (λ n. seen_code n c.unlisted.result) old (λ n. unlisted_code (z n) s k (seen_codes n c.renew_below.new.body)) (λ n. refl) c.unlisted.ensures c.in-Ok.ensures.moved
+
+pub lists::renew_unlisted-returns-else-is_empty-clause-moved : goal.lists::renew_unlisted-returns-else-is_empty-clause-moved
+lists::renew_unlisted-returns-else-is_empty-clause-moved t c =
+    let z : Tables → Listing = λ n. seen_listing n c.args.listing in
+    let s = seen_spot c.args.spot in
+    let k = stamp_of c.args.comment in
+    let cs : Tables → PlainCodes = λ n. seen_codes n c.args.body in
+    IfOk-weaker c.list.result (λ r. (n : Tables) → IsListed (live_of (seen_code n r))) (λ r. CodeMoved c.args.moved.now c.args.moved.now (λ n. unlisted_code (z n) s k (cs n)) (λ n. seen_code n r))
+    (λ r h. begun_moved c.args.moved.now z s k cs (λ n. seen_code n r) h) c.list.ensures.some
 
 pub lists::renew_unlisted-returns-in-Ok-clause-ok : goal.lists::renew_unlisted-returns-in-Ok-clause-ok
 lists::renew_unlisted-returns-in-Ok-clause-ok t c =
@@ -461,6 +605,31 @@ syncing::entry_item-returns-in_ok-path-in-None-clause-fails t c =
     subst (λ o. IfErr c.fresh_item.result (RenewFails {A = Item} c.args.app.now c.args.cells.now (OneItem z c.args.left (item (plain (view e.key)) e.occurrence ∷ trail_view c.args.trail.now) (seen_entry e) o) c.args.vm.now))
     (sym c.in-None.is) (subst (λ q. IfErr c.fresh_item.result (RenewFails {A = Item} c.args.app.now c.args.cells.now (FreshItem z c.args.left q (seen_entry e)) c.args.vm.now)) at c.fresh_item.ensures.fails)
 
+pub syncing::kept_item-returns-in_ok-settle_item-in-Ok-clause-moved : goal.syncing::kept_item-returns-in_ok-settle_item-in-Ok-clause-moved
+syncing::kept_item-returns-in_ok-settle_item-in-Ok-clause-moved t c =
+    kept_moved c.args.moved.now c.renew_below.new.moved c.settle_item.new.moved c.args.moves (λ n. seen_item_code n c.args.old) (λ n. seen_item_code n c.rendered.result) (λ n. seen_codes n c.args.old.body) (λ n. seen_codes n c.renew_below.new.body)
+    (λ n. ap (λ (x : Item). x.1.1) (item_is n c.args.old)) (λ n. ap (λ (x : Item). x.1.1) (c.rendered.ensures n)) c.in-Ok.ensures.moved c.in_ok-settle_item-in-Ok.ensures.moved
+
+pub syncing::kept_item-returns-in_ok-settle_item-in-Ok-clause-key : goal.syncing::kept_item-returns-in_ok-settle_item-in-Ok-clause-key
+syncing::kept_item-returns-in_ok-settle_item-in-Ok-clause-key t c = λ n. ap spot_key (c.rendered.ensures n) ∙ sym (ap spot_key (item_is n c.args.old))
+
+pub syncing::entry_item-returns-in-Some-clause-moved : goal.syncing::entry_item-returns-in-Some-clause-moved
+syncing::entry_item-returns-in-Some-clause-moved t c =
+    subst (λ o. IfOk c.kept_item.result (λ r. ItemMoved c.args.moved.now c.kept_item.new.moved c.args.moves o r)) (sym c.in-Some.is) c.kept_item.ensures.moved
+
+pub syncing::entry_item-returns-in-Some-clause-key : goal.syncing::entry_item-returns-in-Some-clause-key
+syncing::entry_item-returns-in-Some-clause-key t c =
+    subst (λ o. IfOk c.kept_item.result (λ r. (n : Tables) → HasKey n o (entry_key (seen_entry c.args.entry)) r)) (sym c.in-Some.is) c.kept_item.ensures.key
+
+pub syncing::entry_item-returns-in_ok-path-in-None-clause-moved : goal.syncing::entry_item-returns-in_ok-path-in-None-clause-moved
+syncing::entry_item-returns-in_ok-path-in-None-clause-moved t c =
+    subst (λ o. IfOk c.fresh_item.result (λ r. ItemMoved c.args.moved.now c.args.moved.now c.args.moves o r)) (sym c.in-None.is)
+    (IfOk-weaker c.fresh_item.result (λ r. (n : Tables) → spot_key (seen_item_code n r) ≡ entry_key (seen_entry c.args.entry)) (λ r. ItemMoved c.args.moved.now c.args.moved.now c.args.moves None r) (λ r h. refl) c.fresh_item.ensures.key)
+
+pub syncing::entry_item-returns-in_ok-path-in-None-clause-key : goal.syncing::entry_item-returns-in_ok-path-in-None-clause-key
+syncing::entry_item-returns-in_ok-path-in-None-clause-key t c =
+    subst (λ o. IfOk c.fresh_item.result (λ r. (n : Tables) → HasKey n o (entry_key (seen_entry c.args.entry)) r)) (sym c.in-None.is) c.fresh_item.ensures.key
+
 -- the items
 
 pub syncing::sync_items-loop-entry-init : goal.syncing::sync_items-loop-entry-init
@@ -469,6 +638,7 @@ syncing::sync_items-loop-entry-init t c = record {
   calm = c.requires.calm;
   ready = c.requires.ready;
   onward = sync_begin c.args.app.now c.args.cells.now c.args.left c.args.listing.now (trail_view c.args.trail.now) c.args.work.waiting.items (there c.args.work.olds.items) c.new-done.result.items c.args.vm.now c.new-done.ensures.items;
+  moved = syncing_begin c.args.moved.now c.args.work c.new-done.result.items c.new-done.ensures.items;
 }
 
 pub syncing::sync_items-loop-entry-preserved : goal.syncing::sync_items-loop-entry-preserved
@@ -488,6 +658,8 @@ syncing::sync_items-loop-entry-preserved t c =
           is refl next.0 c.in_ok-add-in-Ok.ensures c.loop-entry.invariant.onward
           (subst (λ w. Renews c.args.app.now c.args.cells.now (OneItem (λ n. seen_listing n z) c.args.left (item (plain (view e.key)) e.occurrence ∷ trail_view w) (seen_entry e) c.in_ok-old.old) c.loop-entry.vm (λ n. seen_item_code n c.in-Ok.item) c.entry_item.new.vm)
           c.loop-entry.invariant.trail c.in-Ok.ensures.ok);
+      moved = syncing_next c.args.moved.now c.loop-entry.moved c.entry_item.new.moved c.args.work c.loop-entry.work c.take.new.self c.loop-entry.done.items c.add.new.items.items e c.in_ok-old.old c.moves-moves.result c.in-Ok.item
+          c.requires.ready c.loop-entry.invariant.ready is c.take.ensures.keys c.in_ok-old.ensures.taken c.moves-moves.ensures c.in-Ok.ensures.moved c.in-Ok.ensures.key c.in_ok-add-in-Ok.ensures c.loop-entry.invariant.moved;
     }
 
 pub syncing::sync_items-returns-in-Err-clause-fails : goal.syncing::sync_items-returns-in-Err-clause-fails
@@ -512,6 +684,23 @@ syncing::sync_items-returns-clause-ok t c =
     sync_end c.args.app.now c.args.cells.now c.args.left z base (All c.args.app.now c.args.cells.now c.args.left z base c.args.work.waiting.items (there c.args.work.olds.items))
     c.loop-entry.done.items c.in_ok-olds.olds.items waiting c.loop-entry.work.olds.items c.args.vm.now c.loop-entry.vm c.end_items.new.vm none (c.in_ok-olds.ensures ∙ there_is c.loop-entry.work.olds.items) c.loop-entry.invariant.onward
     (subst (λ xs. Does (λ n. dropped_as by_number (λ q. times_items q (items_of (all_items (map (seen_item_code n) xs))))) c.loop-entry.vm c.end_items.new.vm) c.as_slice.ensures.value c.in_ok-end_items.ensures.step)
+
+pub syncing::sync_items-returns-clause-moved : goal.syncing::sync_items-returns-clause-moved
+syncing::sync_items-returns-clause-moved t c =
+    let waiting = c.loop-entry.work.waiting.items in
+    let none : waiting ≡ [] = none_waits waiting c.pop.new.self.items _ c.in_default.ensures.items c.in_default.ensures.rest c.in_default.ensures.cases.0 in
+    (syncing_end c.args.moved.now c.loop-entry.moved c.args.work c.loop-entry.work c.loop-entry.done.items c.loop-entry.invariant.ready none c.loop-entry.invariant.moved).0
+
+pub syncing::sync_items-returns-clause-keys : goal.syncing::sync_items-returns-clause-keys
+syncing::sync_items-returns-clause-keys t c =
+    let waiting = c.loop-entry.work.waiting.items in
+    let none : waiting ≡ [] = none_waits waiting c.pop.new.self.items _ c.in_default.ensures.items c.in_default.ensures.rest c.in_default.ensures.cases.0 in
+    (syncing_end c.args.moved.now c.loop-entry.moved c.args.work c.loop-entry.work c.loop-entry.done.items c.loop-entry.invariant.ready none c.loop-entry.invariant.moved).1
+
+pub syncing::sync_list-returns-in-Ok-clause-moved : goal.syncing::sync_list-returns-in-Ok-clause-moved
+syncing::sync_list-returns-in-Ok-clause-moved t c =
+    list_moved c.args.moved.now c.sync_items.new.moved (λ n. seen_listing n c.args.listing) (seen_spot c.args.spot) c.in_ok-work.work c.args.items.items c.in-Ok.items.items c.args.keys.now c.args.entries.items (λ n. seen_code n c.listed.result)
+    c.in_ok-work.ensures.olds (ap (λ v. v.items) c.in_ok-work.ensures.waiting) c.in_ok-work.ensures.keys c.in_ok-work.ensures.moves c.requires.keys c.in-Ok.ensures.moved c.in-Ok.ensures.keys c.listed.ensures
 
 pub syncing::sync_list-returns-in-Ok-clause-ok : goal.syncing::sync_list-returns-in-Ok-clause-ok
 syncing::sync_list-returns-in-Ok-clause-ok t c =

@@ -5,6 +5,8 @@ use Rattle.gl_update.specs.OldItems.{IsReady}
 use Rattle.gl_update.specs.View.{trail_view}
 use Rattle.gl_update.proofs.Onward.{Onward}
 use Rattle.gl_update.proofs.SyncItems.{All, Left}
+use Rattle.gl_update.proofs.MovedCodes.{Walked}
+use Rattle.gl_update.proofs.SyncCounts.{Syncing}
 use Rattle.gl_update.proofs.Walking.{Walks}
 use Rattle.gl_update.proofs.+renewing.Given as goal
 
@@ -58,6 +60,7 @@ invariant-codes::renew_codes-loop-place l = record {
   trail : l.trail ≡ l.fn.trail;
   calm : Calm l.vm;
   walks : Walks l.app l.cells l.left (trail_view l.fn.trail) l.fn.codes l.fn.vm l.code-items l.place l.vm;
+  moved : Walked l.fn.moved l.moved l.fn.codes.list.items l.code-items l.place;
 }
 
 abbrev pub invariant-syncing::sync_items-loop-entry : goal.invariant-syncing::sync_items-loop-entry
@@ -67,6 +70,7 @@ invariant-syncing::sync_items-loop-entry l = record {
   ready : IsReady l.work;
   onward : Onward l.app l.cells (All l.app l.cells l.left l.listing (trail_view l.fn.trail) l.fn.work.waiting.items (there l.fn.work.olds.items)) l.fn.vm
       (Left l.app l.cells l.left l.listing (trail_view l.fn.trail) l.done.items l.work.waiting.items (there l.work.olds.items)) l.vm;
+  moved : Syncing l.fn.moved l.moved l.fn.work l.work l.done.items;
 }
 
 abbrev pub decreases-syncing::sync_items-loop-entry : goal.decreases-syncing::sync_items-loop-entry

@@ -1,10 +1,15 @@
+use Rattle.std.proofs.Common.{◌≡◌, ap}
 use Rattle.std.proofs.lemmas.Result.{IfOk-weaker, IfErr-weaker}
 use Rattle.gl_machine.specs.RenewCode.{start}
 use Rattle.gl_meaning.specs.View.{path_view}
 use Rattle.gl_append.specs.CodeView.{seen_item_code, seen_item_spot, seen_listing}
 use Rattle.gl_append.specs.MachineView.{seen_entry}
+use Rattle.gl_ast.specs.ExprCode.{owned}
+use Rattle.gl_each.specs.Key.{entry_key}
+use Rattle.gl_plain.specs.Live.{ItemSpot as PlainItemSpot}
+use Rattle.gl_vm.specs.View.{Tables}
 use Rattle.gl_append.specs.View.{seen_sight}
-use Rattle.gl_update.specs.ListItems.{Item, BodyItem, FreshItem}
+use Rattle.gl_update.specs.ListItems.{Item, spot_key, BodyItem, FreshItem}
 use Rattle.gl_update.specs.Renewing.{Renews, RenewFails}
 use Rattle.gl_update.proofs.FreshItems.{fresh_renews, fresh_fails}
 use Rattle.gl_update.proofs.items.fresh_item.Goals as goal
@@ -28,3 +33,10 @@ returns-clause-fails c =
     (λ h. fresh_fails c.args.app.now c.args.cells.now c.args.left z c.args.entry c.args.vm.now c.item.new.self c.item-2.new.self c.in_ok-value.value c.in_ok-index.index c.counted.result c.in_ok-params.params c.in_ok-sight.sight c.args.path
     c.in_ok-value.ensures.step c.in_ok-value.ensures.id c.in_ok-index.ensures.step c.in_ok-index.ensures.id c.counted.ensures c.in_ok-sight.ensures c.in_ok-params.ensures h)
     c.item_body.ensures.fails
+
+pub returns-clause-key : goal.returns-clause-key
+returns-clause-key c =
+    let spot : PlainItemSpot = seen_item_spot (record { key = c.args.entry.key; occurrence = c.args.entry.occurrence; value = c.in_ok-value.value; index = c.in_ok-index.index; params = c.in_ok-params.params }) in
+    IfOk-weaker c.item_body.result
+    (λ r. (n : Tables) → (seen_item_code n r).0 ≡ spot) (λ r. (n : Tables) → spot_key (seen_item_code n r) ≡ entry_key (seen_entry c.args.entry))
+    (λ r h n. ap (λ (x : PlainItemSpot). (owned x.key, x.occurrence)) (h n)) c.item_body.ensures.key

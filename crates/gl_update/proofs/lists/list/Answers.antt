@@ -9,6 +9,7 @@ use Rattle.gl_append.specs.MachineView.{seen_left}
 use Rattle.gl_update.specs.ListItems.{FreshItems, ListsFresh}
 use Rattle.gl_update.specs.Renewing.{Renews, RenewFails}
 use Rattle.gl_update.specs.View.{trail_view}
+use Rattle.gl_update.proofs.MovedCodes.{is_listed}
 use Rattle.gl_update.proofs.ListUpdates.{lists_fresh, lists_fresh_fails}
 use Rattle.gl_update.proofs.Renewing.{renews_as}
 use Rattle.gl_update.proofs.lists.list.Goals as goal
@@ -34,3 +35,6 @@ returns-in-Err-clause-fails c =
     let gone : Tables → Id → ℕ = λ n q. times_in q (lives_of (seen_codes n c.args.body.now)) + times_comment q (stamp_of c.args.comment.now) in
     lists_fresh_fails c.args.app.now c.args.cells.now z c.args.listing.key (λ n. refl) s c.args.left p es gone c.args.vm.now c.end_branch.new.vm c.in-Err.fault c.in_ok-end_branch.ensures.step
     (subst (λ q. RenewFails {A = ItemCodes} c.args.app.now c.args.cells.now (FreshItems z c.args.left q es) c.end_branch.new.vm c.in-Err.fault) c.in_ok-base.ensures c.in-Err.ensures.fails)
+
+pub returns-in-Ok-clause-some : goal.returns-in-Ok-clause-some
+returns-in-Ok-clause-some c = λ n. is_listed (seen_code n c.listed.result) (seen_listing n c.args.listing) (seen_spot c.args.spot) (map (seen_item_code n) c.in-Ok.items.items) (c.listed.ensures n)

@@ -12,6 +12,7 @@ use Rattle.gl_vm.specs.View.{Tables}
 use Rattle.gl_append.specs.CodeView.{seen_code, seen_codes, seen_listing, seen_spot, seen_item_code, all_items}
 use Rattle.gl_update.specs.ListItems.{ListsNone}
 use Rattle.gl_update.specs.View.{trail_view}
+use Rattle.gl_update.proofs.MovedCodes.{is_unlisted}
 use Rattle.gl_update.proofs.ListUpdates.{lists_none, lists_none_fails}
 use Rattle.gl_update.proofs.Renewing.{renews_as}
 use Rattle.gl_update.proofs.lists.unlist.Goals as goal
@@ -39,3 +40,6 @@ returns-in-Err-clause-fails c =
     let ended = subst (λ xs. Does (λ n. dropped_as by_number (λ q. times_items q (items_of (all_items (map (seen_item_code n) xs))))) c.args.vm.now c.end_items.new.vm) c.as_slice-2.ensures.value c.in_ok-end_items.ensures.step in
     lists_none_fails c.args.app.now c.args.cells.now z c.args.listing.key (λ n. refl) s c.args.left p gone c.args.vm.now c.end_items.new.vm from c.in-Err.fault ended
     (λ n. ap₂ (λ w q. start w c.args.listing.other q c.args.left) (c.in_ok-sight.ensures n) c.in_ok-path.ensures) c.in-Err.ensures.fails
+
+pub returns-in_ok-comment-in-Ok-clause-none : goal.returns-in_ok-comment-in-Ok-clause-none
+returns-in_ok-comment-in-Ok-clause-none c = λ n. is_unlisted (seen_code n c.unlisted.result) (seen_listing n c.args.listing) (seen_spot c.args.spot) (stamp_of c.in_ok-comment-in-Ok.comment) (seen_codes n c.in-Ok.codes) (c.unlisted.ensures n)

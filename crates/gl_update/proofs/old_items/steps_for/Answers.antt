@@ -1,9 +1,16 @@
-use Rattle.std.proofs.Common.{[], sym, ◌∙◌, subst}
+use Rattle.std.proofs.Common.{[], sym, ◌∙◌, ap, subst}
 use Rattle.gl_update.specs.OldItems.{Plans}
 use Rattle.gl_update.proofs.OldKeys.{plans_of, steps_reversed}
+use Rattle.gl_each.specs.Moved.{moves}
+use Rattle.gl_kept.proofs.Between.{moves_are_planned}
 use Rattle.gl_update.proofs.old_items.steps_for.Goals as goal
 
-pub returns : goal.returns
-returns c =
+pub returns-clause-plans : goal.returns-clause-plans
+returns-clause-plans c =
     subst (Plans c.args.old.now c.args.new.now) (sym (steps_reversed c.into_vec-steps.result.items c.reverse.new.self.items c.reverse.ensures.items ∙ c.into_vec-steps.ensures))
     (plans_of c.args.old.now [] c.args.new.now c.in_ok-plan.plan.steps c.in_ok-plan.ensures.steps_are)
+
+pub returns-clause-moves : goal.returns-clause-moves
+returns-clause-moves c =
+    ap moves (steps_reversed c.into_vec-steps.result.items c.reverse.new.self.items c.reverse.ensures.items ∙ c.into_vec-steps.ensures)
+    ∙ moves_are_planned c.args.old.now c.args.new.now [] c.in_ok-plan.plan.steps c.requires c.in_ok-plan.ensures.steps_are
