@@ -1,8 +1,8 @@
 -- Worked cases of the canonical spelling.
-use Rattle.std.specs.Prelude.{◌≡◌, refl, List, [], ◌∷◌, codes, pos, true, false}
+use Rattle.std.specs.Prelude.{◌≡◌, refl, [], ◌∷◌, codes, pos, true, false}
 use Rattle.std.specs.Fmt.{digits}
 use Rattle.gl_value.specs.Value as v
-use Rattle.gl_ast.specs.Template.{Body, Expr, literal, this, argument, bare, call, cat, no_exprs, expr, no_named, named_expr, fixed, live, attribute, modifier, spread, text_stmt, comment_stmt, put, element, component_stmt, if_stmt, each, let_stmt, yield, end, stmt, no_slots, block, body_of, exprs_of}
+use Rattle.gl_ast.specs.Template.{Expr, literal, this, argument, bare, call, cat, no_exprs, no_named, named_expr, fixed, live, attribute, modifier, spread, text_stmt, comment_stmt, put, element, component_stmt, if_stmt, each, let_stmt, yield, end, no_slots, block, body_of, exprs_of}
 use Rattle.gl_ast.specs.Canon.{canonical}
 use Rattle.gl_ast.specs.Void.{void_names}
 
@@ -61,3 +61,20 @@ blocks : canonical (body_of (
     ≡ codes "<Kid @a=\"t\" class=\"k\" as |p q|>{{p.x}}</Kid><A::B @a={{(f)}} />{{#each (g \"a\") key=\"@identity\" as |x i|}}{{yield x}}{{else}}n{{/each}}{{#let \"a\"}}{{/let}}"
 unfolding canonical void_names digits
 blocks = refl
+
+-- one block that is not `default`, two of which one is, and an empty one
+named_blocks : canonical (body_of (
+    component_stmt (codes "Card") [] [] (block (codes "head") (codes "x" ∷ codes "y" ∷ []) (body_of (put (bare (codes "x") []) ∷ [])) no_slots)
+    ∷ component_stmt (codes "Card") (spread ∷ []) [] (block (codes "default") [] (body_of (text_stmt (codes " b") ∷ [])) (block (codes "foot") [] end no_slots))
+    ∷ component_stmt (codes "Card") [] [] (block (codes "default") [] end no_slots)
+    ∷ []))
+    ≡ codes "<Card><:head as |x y|>{{x}}</:head></Card><Card ...attributes><:default>&#32;b</:default><:foot></:foot></Card><Card></Card>"
+unfolding canonical void_names digits
+named_blocks = refl
+
+-- the block that a yield names, where it is not `default`
+targets : canonical (body_of (
+    yield (exprs_of (word ∷ bare (codes "to") [] ∷ [])) (codes "head") ∷ yield no_exprs (codes "foot") ∷ yield (exprs_of (word ∷ [])) (codes "default") ∷ []))
+    ≡ codes "{{yield \"a\" to to=\"head\"}}{{yield to=\"foot\"}}{{yield \"a\"}}"
+unfolding canonical void_names digits
+targets = refl

@@ -1,5 +1,6 @@
 mod CanonRows
 mod TokenCases
+pub mod BlockNames
 pub mod Forward
 pub mod Leads
 pub mod Longest

@@ -1,12 +1,12 @@
 -- The tokens that may stand at a place, in the order in which they are looked for, are in the order of their lengths.
-use Rattle.std.proofs.Common.{◌≡◌, ◌<◌, ℕ, List, [], ◌∷◌, Bool, true, false, ◌||◌, ◌⊎◌, inl, inr, cond, eqb, if◌then◌else◌, Option, Some, None, unwrap_or, refl, ap, ◌∙◌, arith}
+use Rattle.std.proofs.Common.{◌≡◌, ◌<◌, ℕ, List, [], ◌∷◌, Bool, true, false, ◌||◌, ◌⊎◌, inl, inr, cond, eqb, if◌then◌else◌, Option, Some, None, unwrap_or, refl, ap, ◌∙◌, arith, lit<}
 use Rattle.std.specs.Prelude.{codes}
 use Rattle.std.proofs.lemmas.Bool.Decides.{nat_tests}
 use Rattle.gl_base.specs.Answers.{◌>>=◌}
 use Rattle.gl_base.specs.Names.{or_else}
 use Rattle.gl_ast.specs.Marks.{is_capital, is_small, is_digit, starts_name, in_name, in_class, in_tag, starts_attribute, in_attribute, in_unquoted}
 use Rattle.gl_ast.specs.Scans.{after, begins, after_all, after_word, from_first, up_to_first, after_run, after_closing}
-use Rattle.gl_ast.specs.Words.{after_white, after_name, after_element_name, after_tag, after_class, after_class_part, after_parts, after_end_tag, after_tag_opening, after_html_comment, after_long_comment, after_short_comment, after_opening, after_tilde, after_mustache, after_attribute, after_argument, after_unquoted, after_parameters, after_digits, after_head, after_segments, after_path, after_natural, if_number, after_number, after_string, ends_text, ends_quoted}
+use Rattle.gl_ast.specs.Words.{after_white, after_name, after_element_name, after_block_name, after_slot_name, after_label, after_tag, after_class, after_class_part, after_parts, after_end_tag, after_tag_opening, after_html_comment, after_long_comment, after_short_comment, after_opening, after_tilde, after_mustache, after_attribute, after_argument, after_unquoted, after_parameters, after_digits, after_head, after_segments, after_path, after_natural, if_number, after_number, after_string, ends_text, ends_quoted}
 use Rattle.gl_ast.specs.Modes.{Found, found, quote_byte, after_around}
 use Rattle.gl_ast.specs.Tokens.{content_forms, tag_forms, equals_forms, value_end_forms, value_forms, expression_forms, forms}
 use Rattle.gl_ast.specs.declared.mode.Quote.{Quote}
@@ -65,18 +65,18 @@ html_led bs rest e =
 end_tag_led : (bs rest : List ℕ) → after_end_tag bs ≡ Some rest → lead_content bs ≡ 2
 unfolding after_end_tag
 end_tag_led bs rest e =
-    let a = bind_some (after (codes "</") bs >>= after_element_name >>= after_white) (after (codes ">")) rest e in
-    let b = bind_some (after (codes "</") bs >>= after_element_name) after_white a.0 a.1 in
-    let c = bind_some (after (codes "</") bs) after_element_name b.0 b.1 in
+    let a = bind_some (after (codes "</") bs >>= after_label >>= after_white) (after (codes ">")) rest e in
+    let b = bind_some (after (codes "</") bs >>= after_label) after_white a.0 a.1 in
+    let c = bind_some (after (codes "</") bs) after_label b.0 b.1 in
     lead_after lead_content (codes "</") bs c.0 2 (λ l. refl) c.1
 
-small_high : (b : ℕ) → is_small b ≡ true → 64 < b
+small_high : (b : ℕ) → is_small b ≡ true → 47 < b
 small_high b e = grind (arith, nat_tests)
 
-capital_high : (b : ℕ) → is_capital b ≡ true → 64 < b
+capital_high : (b : ℕ) → is_capital b ≡ true → 47 < b
 capital_high b e = grind (arith, nat_tests)
 
-word_head : (first more : ℕ → Bool) (bs rest : List ℕ) → ((b : ℕ) → first b ≡ true → 64 < b) → after_word first more bs ≡ Some rest → (b : ℕ) × (l : List ℕ) × (bs ≡ b ∷ l) × (64 < b)
+word_head : (first more : ℕ → Bool) (bs rest : List ℕ) → ((b : ℕ) → first b ≡ true → 47 < b) → after_word first more bs ≡ Some rest → (b : ℕ) × (l : List ℕ) × (bs ≡ b ∷ l) × (47 < b)
 word_head first more [] rest high e = cc
 word_head first more (b ∷ bs) rest high e = (b, bs, refl, high b (if_some (first b) (Some (after_all more bs)) rest e).0)
 
@@ -84,14 +84,21 @@ either_case : (o p : Option (List ℕ)) (rest : List ℕ) → or_else o p ≡ So
 either_case None p rest e = inr e
 either_case (Some x) p rest e = inl e
 
-name_head : (bs rest : List ℕ) → after_element_name bs ≡ Some rest → (b : ℕ) × (l : List ℕ) × (bs ≡ b ∷ l) × (64 < b)
+name_head : (bs rest : List ℕ) → after_element_name bs ≡ Some rest → (b : ℕ) × (l : List ℕ) × (bs ≡ b ∷ l) × (47 < b)
 unfolding after_element_name after_class
 name_head bs rest e = elim (either_case (after_tag bs) (after_class_part bs >>= after_parts) rest e) [
   | inl h ↦ word_head is_small in_tag bs rest small_high h
   | inr h ↦ let b = bind_some (after_class_part bs) after_parts rest h in word_head is_capital in_class bs b.0 capital_high b.1
 ]
 
-opening_lead : (b : ℕ) (l : List ℕ) → 64 < b → lead_content (60 ∷ (b ∷ l)) ≡ 3
+label_head : (bs rest : List ℕ) → after_label bs ≡ Some rest → (b : ℕ) × (l : List ℕ) × (bs ≡ b ∷ l) × (47 < b)
+unfolding after_label after_slot_name
+label_head bs rest e = elim (either_case (after_element_name bs) (after (codes ":") bs >>= after_block_name) rest e) [
+  | inl h ↦ name_head bs rest h
+  | inr h ↦ let b = bind_some (after (codes ":") bs) after_block_name rest h in (58, b.0, after_is_front (codes ":") bs b.0 b.1, lit< tt)
+]
+
+opening_lead : (b : ℕ) (l : List ℕ) → 47 < b → lead_content (60 ∷ (b ∷ l)) ≡ 3
 opening_lead b l h =
     let x : eqb 33 b ≡ false = grind (arith, nat_tests) in
     let y : eqb 47 b ≡ false = grind (arith, nat_tests) in
@@ -100,8 +107,8 @@ opening_lead b l h =
 tag_opening_led : (bs rest : List ℕ) → after_tag_opening bs ≡ Some rest → lead_content bs ≡ 3
 unfolding after_tag_opening
 tag_opening_led bs rest e =
-    let a = bind_some (after (codes "<") bs) after_element_name rest e in
-    let n = name_head a.0 rest a.2 in
+    let a = bind_some (after (codes "<") bs) after_label rest e in
+    let n = label_head a.0 rest a.2 in
     ap lead_content (after_is_front (codes "<") bs a.0 a.1) ∙ ap (λ l. lead_content (60 ∷ l)) n.2 ∙ opening_lead n.0 n.1 n.3
 
 open_led : (lead : List ℕ → ℕ) (n : ℕ) → ((l : List ℕ) → lead (123 ∷ (123 ∷ l)) ≡ n) → (bs rest : List ℕ) → after_opening bs ≡ Some rest → lead bs ≡ n

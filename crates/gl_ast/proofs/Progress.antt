@@ -6,7 +6,7 @@ use Rattle.gl_base.specs.Answers.{◌>>=◌}
 use Rattle.gl_base.specs.Names.{or_else, has_text}
 use Rattle.gl_ast.specs.Marks.{is_white, is_capital, is_small, is_digit, starts_name, in_name, in_class, in_tag, starts_attribute, in_attribute, in_unquoted}
 use Rattle.gl_ast.specs.Scans.{after, begins, after_any, after_all, from_first, after_run, after_pieces, after_closing}
-use Rattle.gl_ast.specs.Words.{read_part, reserved, after_white, after_space, after_name, after_free_name, after_class_part, after_more_class, after_parts, after_class, after_tag, after_element_name, after_end_tag, after_tag_opening, after_html_comment, after_long_end, shows_long_end, after_long_comment, after_short_comment, after_comment, after_tilde, after_opening, after_mustache, after_attribute, after_argument, after_unquoted, after_spaced_name, after_more_names, after_names, after_parameters, after_digits, after_head, after_member, after_segment, after_segments, after_path, goes_on, fits, after_natural, after_number, after_string, ends_text, ends_quoted}
+use Rattle.gl_ast.specs.Words.{read_part, reserved, after_white, after_space, after_name, after_free_name, after_class_part, after_more_class, after_parts, after_class, after_tag, after_element_name, after_slot_name, after_block_name, after_label, after_end_tag, after_tag_opening, after_html_comment, after_long_end, shows_long_end, after_long_comment, after_short_comment, after_comment, after_tilde, after_opening, after_mustache, after_attribute, after_argument, after_unquoted, after_spaced_name, after_more_names, after_names, after_parameters, after_digits, after_head, after_member, after_segment, after_segments, after_path, goes_on, fits, after_natural, after_number, after_string, ends_text, ends_quoted}
 use Rattle.gl_ast.specs.Modes.{Found, found, quote_byte, content_opening, content_token, tag_mark, tag_token, equals_token, value_end_token, value_token, expression_mark, expression_token, mustache_token, token}
 use Rattle.gl_ast.specs.declared.mode.Quote.{Quote}
 use Rattle.gl_ast.specs.declared.mode.Quote.TheVariants.{Double, Single}
@@ -15,6 +15,7 @@ use Rattle.gl_ast.specs.declared.mode.Mode.{Mode}
 use Rattle.gl_ast.specs.declared.mode.Mode.TheVariants as m
 use Rattle.gl_ast.specs.declared.token.TokenKind.{TokenKind}
 use Rattle.gl_ast.proofs.Forward.{Steps, Scans, Moves, leaves_any, leaves_all, leaves_pieces, scans_total, scans_then, scans_or, moves_then, moves_or, moves_scan, scans_after, moves_after, moves_word, moves_until, moves_run, scans_first, scans_closing, IsLowSign, bind_some, leaves_step, same_byte, low_byte, low_text}
+use Rattle.gl_ast.proofs.BlockNames.{block_moves}
 
 pub white_low : (b : ℕ) → is_white b ≡ true → b < 128
 white_low b e = grind (arith, nat_tests)
@@ -132,18 +133,26 @@ element_name_moves : Moves after_element_name
 unfolding after_element_name
 element_name_moves = moves_or after_tag after_class tag_moves class_moves
 
+slot_name_moves : Moves after_slot_name
+unfolding after_slot_name
+slot_name_moves = moves_then (after (codes ":")) after_block_name (moves_after 58 [] refl) (moves_scan after_block_name block_moves)
+
+label_moves : Moves after_label
+unfolding after_label
+label_moves = moves_or after_element_name after_slot_name element_name_moves slot_name_moves
+
 end_tag_moves : Moves after_end_tag
 unfolding after_end_tag
 end_tag_moves =
-    moves_then (λ bs. after (codes "</") bs >>= after_element_name >>= after_white) (after (codes ">"))
-    (moves_then (λ bs. after (codes "</") bs >>= after_element_name) after_white
-    (moves_then (after (codes "</")) after_element_name (moves_after 60 (codes "/") refl) (moves_scan after_element_name element_name_moves))
+    moves_then (λ bs. after (codes "</") bs >>= after_label >>= after_white) (after (codes ">"))
+    (moves_then (λ bs. after (codes "</") bs >>= after_label) after_white
+    (moves_then (after (codes "</")) after_label (moves_after 60 (codes "/") refl) (moves_scan after_label label_moves))
     white_scans)
     (scans_after (codes ">") refl)
 
 tag_opening_moves : Moves after_tag_opening
 unfolding after_tag_opening
-tag_opening_moves = moves_then (after (codes "<")) after_element_name (moves_after 60 [] refl) (moves_scan after_element_name element_name_moves)
+tag_opening_moves = moves_then (after (codes "<")) after_label (moves_after 60 [] refl) (moves_scan after_label label_moves)
 
 html_comment_moves : Moves after_html_comment
 unfolding after_html_comment

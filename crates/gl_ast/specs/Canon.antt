@@ -1,7 +1,8 @@
 -- The canonical spelling of a template: one text for each tree.
-use Rattle.std.specs.Prelude.{ℕ, ℤ, List, [], ◌∷◌, ◌++◌, Bool, true, false, not, ◌&&◌, ◌||◌, ◌==◌, codes, decimal, flat_map, if◌then◌else◌}
+use Rattle.std.specs.Prelude.{ℕ, List, [], ◌∷◌, ◌++◌, Bool, true, false, not, ◌&&◌, ◌||◌, ◌==◌, codes, decimal, flat_map, if◌then◌else◌}
 use Rattle.std.specs.Fmt.{signed_decimal}
 use Rattle.std.specs.List.{list_all}
+use Rattle.std.specs.Str.{bytes_eq}
 use Rattle.gl_base.specs.Texts.{Text}
 use Rattle.gl_value.specs.Value as v
 use Rattle.gl_ast.specs.Grammar.{has_argument, if_word, is_void, is_empty_text}
@@ -158,6 +159,19 @@ between after_text s = if after_text && is_text_stmt s then codes "{{!}}" else [
 abbrev pub closing_text : Text → Text
 closing_text word = codes "{{/" ++ (word ++ codes "}}")
 
+-- the block that a yield names, where it is not `default`
+abbrev pub target_text : Text → Text
+target_text to = if bytes_eq to (codes "default") then [] else codes " to=" ++ string_text to
+
+-- the one block of a component, which is named `default`
+abbrev pub is_own_block : Text → Slots → Bool
+is_own_block name no_slots = bytes_eq name (codes "default")
+is_own_block name _ = false
+
+-- a block with its name, where its body is spelled so
+abbrev pub slot_text : Text → List Text → Text → Text
+slot_text name ns inner = 60 ∷ (58 ∷ (name ++ (parameters_text ns ++ (62 ∷ (inner ++ end_tag_text (58 ∷ name))))))
+
 -- The spelling of statements. `after_text` says that a text stands directly before them. An else body is never chained.
 abbrev mutual
   pub body_text : Bool → Body → Text
@@ -178,12 +192,19 @@ abbrev mutual
       codes "{{#each " ++ (expr_text e ++ (codes " key=" ++ (string_text key ++ (parameters_text ns ++ (codes "}}" ++ (body_text false b ++ (else_text c ++ closing_text (codes "each"))))))))
   stmt_text (let_stmt es ns b) =
       codes "{{#let" ++ (exprs_text es ++ (parameters_text ns ++ (codes "}}" ++ (body_text false b ++ closing_text (codes "let")))))
-  stmt_text (yield es to) = codes "{{yield" ++ (exprs_text es ++ codes "}}")
+  stmt_text (yield es to) = codes "{{yield" ++ (exprs_text es ++ (target_text to ++ codes "}}"))
 
-  -- the end of a component's opening tag, and its block
+  -- The end of a component's opening tag, and its blocks. One that is `default` and alone is written as statements.
   pub slots_text : Text → Slots → Text
   slots_text c no_slots = codes " />"
-  slots_text c (block name ns b ss) = parameters_text ns ++ (62 ∷ (body_text false b ++ end_tag_text c))
+  slots_text c (block name ns b ss) =
+      if is_own_block name ss then parameters_text ns ++ (62 ∷ (body_text false b ++ end_tag_text c))
+      else 62 ∷ ((slot_text name ns (body_text false b) ++ blocks_text ss) ++ end_tag_text c)
+
+  -- blocks with their names
+  pub blocks_text : Slots → Text
+  blocks_text no_slots = []
+  blocks_text (block name ns b ss) = slot_text name ns (body_text false b) ++ blocks_text ss
 
   pub else_text : Body → Text
   else_text end = []

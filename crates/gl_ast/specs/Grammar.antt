@@ -1,15 +1,16 @@
 -- Which tokens spell which tree. Each relation says that a tree is spelled by the tokens that stand in front of a list,
 -- and what is left after them. A tree is spelled by one alternative of the grammar for each of its kinds.
-use Rattle.std.specs.Prelude.{◌≡◌, ◌≤◌, ◌⊎◌, ℕ, zero, suc, List, [], ◌∷◌, Bool, true, false, ◌||◌, ◌&&◌, codes, length, map, if◌then◌else◌, Some}
+use Rattle.std.specs.Prelude.{◌≡◌, ◌≤◌, ◌⊎◌, ℕ, zero, suc, List, [], ◌∷◌, ◌++◌, Bool, true, false, not, ◌||◌, ◌&&◌, codes, length, map, if◌then◌else◌, Some}
+use Rattle.std.specs.List.{list_all}
 use Rattle.std.specs.Str.{is_utf8}
 use Rattle.gl_base.specs.Names.{has_text}
 use Rattle.gl_base.specs.Texts.{Text}
 use Rattle.gl_value.specs.Value as v
-use Rattle.gl_ast.specs.Marks.{is_capital, is_small}
+use Rattle.gl_ast.specs.Marks.{is_white, is_capital, is_small}
 use Rattle.gl_ast.specs.Settling.{settled, is_text, is_comment}
 use Rattle.gl_ast.specs.Template.{Plain, Expr, literal, this, argument, bare, call, cat, Exprs, no_exprs, expr, NamedExprs, no_named, named_expr, AttrValue, fixed, live, Part, attribute, modifier, spread, Stmt, text_stmt, comment_stmt, put, element, component_stmt, if_stmt, each, let_stmt, yield, Body, end, stmt, Slots, no_slots, block}
 use Rattle.gl_ast.specs.Tokens.{IsTokens, IsLoneTokens}
-use Rattle.gl_ast.specs.TokenText.{decoded, string_of, whole_of, names_of, is_free, comment_of, end_name_of, parameters_of, leads}
+use Rattle.gl_ast.specs.TokenText.{decoded, string_of, whole_of, names_of, is_free, is_block_name, comment_of, end_name_of, parameters_of, leads}
 use Rattle.gl_ast.specs.Void.{void_names}
 use Rattle.gl_ast.specs.declared.token.Token.{Token}
 use Rattle.gl_ast.specs.declared.token.TokenKind.{TokenKind}
@@ -166,6 +167,13 @@ IsOpening first ts n us = Stands k.TagOpening (λ x. (x ≡ 60 ∷ n) × (leads 
 abbrev pub IsEndTag : List Token → Text → List Token → Type 0
 IsEndTag ts n us = Stands k.EndTag (λ x. end_name_of x ≡ n) ts us
 
+-- `<:` and the name of a block, and its end
+abbrev pub IsSlotOpening : List Token → Text → List Token → Type 0
+IsSlotOpening ts n us = Stands k.TagOpening (λ x. x ≡ 60 ∷ 58 ∷ n) ts us
+
+abbrev pub IsSlotEnd : List Token → Text → List Token → Type 0
+IsSlotEnd ts n us = IsEndTag ts (58 ∷ n) us
+
 abbrev pub is_void : Text → Bool
 is_void tag = has_text tag void_names
 
@@ -174,6 +182,12 @@ abbrev pub IsKey : List Token → Text → List Token → Type 0
 IsKey ts key us =
     ((ts ≡ us) × (key ≡ codes "@identity"))
     ⊎ ((vs ws : List Token) × Word (codes "key") ts vs × Mark k.Equals vs ws × Stands k.StringLit (λ x. string_of x ≡ key) ws us)
+
+-- the block that a yield names, which is `default` where it is not written
+abbrev pub IsTarget : List Token → Text → List Token → Type 0
+IsTarget ts to us =
+    ((ts ≡ us) × (to ≡ codes "default"))
+    ⊎ ((vs ws : List Token) × Word (codes "to") ts vs × Mark k.Equals vs ws × Stands k.StringLit (λ x. (string_of x ≡ to) × (is_block_name to ≡ true)) ws us)
 
 abbrev pub if_word : Bool → Text
 if_word unless = if unless then codes "unless" else codes "if"
@@ -194,6 +208,14 @@ abbrev pub after_silent : List Token → List Token
 after_silent [] = []
 after_silent (t ∷ ts) = if is_silent t then after_silent ts else t ∷ ts
 
+-- Among blocks that are passed, mustache comments and texts of white space give nothing. A reference is no white space.
+abbrev pub is_gap : Token → Bool
+is_gap t = is_comment t.kind || (is_text t.kind && list_all is_white t.text)
+
+abbrev pub after_gaps : List Token → List Token
+after_gaps [] = []
+after_gaps (t ∷ ts) = if is_gap t then after_gaps ts else t ∷ ts
+
 -- tokens from one list to what is left of it, as a relation says it of a tree
 abbrev pub Reach : Type 1
 Reach = List Token → List Token → Type 0
@@ -204,6 +226,31 @@ IsElementRest Inner ts tag b us =
     (Mark k.SelfEnd ts us × (b ≡ end))
     ⊎ ((is_void tag ≡ true) × Mark k.TagEnd ts us × (b ≡ end))
     ⊎ ((is_void tag ≡ false) × ((vs ws : List Token) × Mark k.TagEnd ts vs × Inner vs ws × IsEndTag ws tag us))
+
+-- a block that is passed, with its name, parameters and body
+abbrev pub IsSlot : Reach → List Token → Text → List Text → List Token → Type 0
+IsSlot Inner ts name ns us =
+    (vs ws xs ys : List Token) × IsSlotOpening ts name vs × AreParameters vs ns ws × Mark k.TagEnd ws xs × Inner xs ys × IsSlotEnd ys name us
+
+-- none of these names is taken or stands twice
+abbrev pub are_new : List Text → List Text → Bool
+are_new taken [] = true
+are_new taken (n ∷ ns) = not (has_text n taken) && are_new (taken ++ n ∷ []) ns
+
+abbrev pub slot_names : Slots → List Text
+slot_names no_slots = []
+slot_names (block name ns b ss) = name ∷ slot_names ss
+
+abbrev pub is_some_slot : Slots → Bool
+is_some_slot no_slots = false
+is_some_slot (block name ns b ss) = true
+
+-- The end of a component's opening tag, and what follows. One with `/>` has no block. Any other has statements, or blocks
+-- with names, at least one, each of another name; then the component itself has no parameters.
+abbrev pub IsComponentRest : Reach → Reach → List Token → Text → List Text → Slots → List Token → Type 0
+IsComponentRest Own Named ts c ns ss us =
+    (Mark k.SelfEnd ts us × (ss ≡ no_slots))
+    ⊎ ((vs ws : List Token) × Mark k.TagEnd ts vs × (Own vs ws ⊎ ((ns ≡ []) × (is_some_slot ss ≡ true) × (are_new [] (slot_names ss) ≡ true) × Named vs ws)) × IsEndTag ws c us)
 
 -- the blocks, from their word on up to what closes them
 abbrev pub IsIf : Reach → Reach → List Token → Expr → Bool → List Token → Type 0
@@ -238,13 +285,14 @@ abbrev mutual
   IsStmt depth ts (comment_stmt s) us = Stands k.HtmlComment (λ x. comment_of x ≡ s) ts us
   IsStmt depth ts (put e) us = IsMustache ts e us
   IsStmt depth ts (yield es to) us =
-      (to ≡ codes "default") × ((vs ws xs : List Token) × Mark k.OpenMustache ts vs × Word (codes "yield") vs ws × AreExprs deepest_calls ws es xs × Mark k.CloseMustache xs us)
+      (vs ws xs ys : List Token) × Mark k.OpenMustache ts vs × Word (codes "yield") vs ws × AreExprs deepest_calls ws es xs × IsTarget xs to ys × Mark k.CloseMustache ys us
   IsStmt zero ts _ us = ⊥
   IsStmt (suc depth) ts (element tag ps b) us =
       (vs ws : List Token) × IsOpening is_small ts tag vs × AreItems vs (map part_item ps) ws × IsElementRest (λ xs ys. AreStmts depth xs b ys) ws tag b us
   IsStmt (suc depth) ts (component_stmt c ps given ss) us =
       (is : List Item) × (ns : List Text) × ((vs ws xs : List Token) × IsOpening is_capital ts c vs
-      × AreItems vs is ws × (parts_among is ≡ ps) × (arguments_among is ≡ given) × AreParameters ws ns xs × IsComponentRest depth xs c ns ss us)
+      × AreItems vs is ws × (parts_among is ≡ ps) × (arguments_among is ≡ given) × AreParameters ws ns xs
+      × IsComponentRest (λ ys zs. IsOwnBlock depth ns ys ss zs) (λ ys zs. AreSlots depth ys ss zs) xs c ns ss us)
   IsStmt (suc depth) ts (if_stmt e unless b c) us =
       (vs ws : List Token) × Mark k.OpenBlock ts vs × IsIf (λ xs ys. AreStmts depth xs b ys) (λ xs ys. IsElse (λ zs. AreStmts depth zs c) (λ zs. IsChained depth zs c) xs c ys) vs e unless ws
       × IsClosing ws (if_word unless) us
@@ -254,12 +302,17 @@ abbrev mutual
   IsStmt (suc depth) ts (let_stmt es ns b) us =
       (vs ws : List Token) × Mark k.OpenBlock ts vs × IsLet (λ xs ys. AreStmts depth xs b ys) vs es ns ws × IsClosing ws (codes "let") us
 
-  -- A component with `/>` has no block. Any other has one, which is named `default`.
-  pub IsComponentRest : ℕ → List Token → Text → List Text → Slots → List Token → Type 0
-  IsComponentRest depth ts c ns no_slots us = Mark k.SelfEnd ts us
-  IsComponentRest depth ts c ns (block name params b no_slots) us =
-      (name ≡ codes "default") × (params ≡ ns) × ((vs ws : List Token) × Mark k.TagEnd ts vs × AreStmts depth vs b ws × IsEndTag ws c us)
-  IsComponentRest depth ts c ns _ us = ⊥
+  -- the statements of a component, which are its block `default`
+  pub IsOwnBlock : ℕ → List Text → List Token → Slots → List Token → Type 0
+  IsOwnBlock depth ns ts (block name params b no_slots) us = (name ≡ codes "default") × (params ≡ ns) × AreStmts depth ts b us
+  IsOwnBlock depth ns ts _ us = ⊥
+
+  -- Blocks with names and the gaps round them. A block is nested in its component.
+  pub AreSlots : ℕ → List Token → Slots → List Token → Type 0
+  AreSlots depth ts no_slots us = after_gaps ts ≡ us
+  AreSlots zero ts _ us = ⊥
+  AreSlots (suc depth) ts (block name params b ss) us =
+      (vs : List Token) × IsSlot (λ xs ys. AreStmts depth xs b ys) (after_gaps ts) name params vs × AreSlots (suc depth) vs ss us
 
   -- an else body that is one block, written as the head of the else
   pub IsChained : ℕ → List Token → Body → List Token → Type 0

@@ -1,14 +1,13 @@
 -- What the text of a token stands for.
-use Rattle.std.specs.Prelude.{◌≡◌, ℕ, zero, suc, ℤ, pos, ◌-ℤ◌, List, [], ◌∷◌, ◌+◌, ◌*◌, ◌-◌, Bool, true, false, not, ◌&&◌, ◌||◌, ◌==◌, nat_le, nat_lt, codes, length, take, drop, filter, if◌then◌else◌, Option, Some, None, option_map}
+use Rattle.std.specs.Prelude.{ℕ, zero, suc, ℤ, pos, ◌-ℤ◌, List, [], ◌∷◌, ◌+◌, ◌*◌, ◌-◌, Bool, false, not, ◌&&◌, ◌||◌, ◌==◌, nat_le, nat_lt, length, take, drop, filter, if◌then◌else◌, Option, Some, None}
 use Rattle.std.specs.List.{list_all, prefix_len}
-use Rattle.std.specs.Str.{bytes_eq}
-use Rattle.gl_base.specs.Names.{named, or_else, has_text}
+use Rattle.gl_base.specs.Names.{named, has_text}
 use Rattle.gl_base.specs.Texts.{Text}
 use Rattle.gl_value.specs.Value.{split}
-use Rattle.gl_ast.specs.Marks.{is_between, is_white, is_capital, is_small, is_letter, is_digit}
+use Rattle.gl_ast.specs.Marks.{is_between, is_white, is_digit, starts_name, in_name}
 use Rattle.gl_ast.specs.References.{references}
 use Rattle.gl_ast.specs.Scans.{begins}
-use Rattle.gl_ast.specs.Words.{number_from, greatest, reserved}
+use Rattle.gl_ast.specs.Words.{number_from, greatest, reserved, barred}
 
 -- the characters in front of the first c
 abbrev pub up_to : ℕ → Text → Text
@@ -110,6 +109,14 @@ names_of path = split 46 path
 -- a name that is not reserved
 abbrev pub is_free : Text → Bool
 is_free name = not (begins (64 ∷ []) name) && not (has_text name reserved)
+
+abbrev pub is_name : Text → Bool
+is_name [] = false
+is_name (c ∷ cs) = starts_name c && list_all in_name cs
+
+-- the name of a block: a name that is neither reserved nor `inverse`
+abbrev pub is_block_name : Text → Bool
+is_block_name n = is_name n && not (has_text n barred)
 
 -- the text between `<!--` and `-->`
 abbrev pub comment_of : Text → Text

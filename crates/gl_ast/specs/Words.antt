@@ -1,5 +1,5 @@
 -- The words of a template and how far each reaches: names, paths, numbers, strings, parameters and comments.
-use Rattle.std.specs.Prelude.{ℕ, List, [], ◌∷◌, ◌+◌, ◌*◌, ◌-◌, Bool, false, ◌||◌, not, nat_le, codes, length, take, if◌then◌else◌, Option, Some, None}
+use Rattle.std.specs.Prelude.{ℕ, List, [], ◌∷◌, ◌+◌, ◌*◌, ◌-◌, Bool, false, ◌||◌, not, nat_le, codes, length, take, drop, if◌then◌else◌, Option, Some, None}
 use Rattle.gl_base.specs.Answers.{◌>>=◌}
 use Rattle.gl_base.specs.Names.{or_else, has_text}
 use Rattle.gl_base.specs.Texts.{Text}
@@ -32,6 +32,18 @@ if_free bs rest = if has_text (read_part bs rest) reserved then None else Some r
 unfoldable pub after_free_name : List ℕ → Option (List ℕ)
 after_free_name bs = after_name bs >>= if_free bs
 
+-- the names that no block has
+abbrev pub barred : List Text
+barred = codes "inverse" ∷ reserved
+
+-- A name that no block has is the name of a block without its last character.
+abbrev pub if_block : List ℕ → List ℕ → Option (List ℕ)
+if_block bs rest = if has_text (read_part bs rest) barred then Some (drop (length bs - length rest - 1) bs) else Some rest
+
+-- the longest name of a block: a name that is neither reserved nor `inverse`
+unfoldable pub after_block_name : List ℕ → Option (List ℕ)
+after_block_name bs = after_name bs >>= if_block bs
+
 -- a part of a class name is a capital, then letters and digits
 abbrev pub after_class_part : List ℕ → Option (List ℕ)
 after_class_part bs = after_word is_capital in_class bs
@@ -54,12 +66,20 @@ after_tag bs = after_word is_small in_tag bs
 unfoldable pub after_element_name : List ℕ → Option (List ℕ)
 after_element_name bs = or_else (after_tag bs) (after_class bs)
 
--- `</`, a name, white space or none, `>`
+-- `:` and the name of a block
+unfoldable pub after_slot_name : List ℕ → Option (List ℕ)
+after_slot_name bs = after (codes ":") bs >>= after_block_name
+
+-- what a tag names: an element, a class, or a block that is passed
+unfoldable pub after_label : List ℕ → Option (List ℕ)
+after_label bs = or_else (after_element_name bs) (after_slot_name bs)
+
+-- `</`, what the tag names, white space or none, `>`
 unfoldable pub after_end_tag : List ℕ → Option (List ℕ)
-after_end_tag bs = after (codes "</") bs >>= after_element_name >>= after_white >>= after (codes ">")
+after_end_tag bs = after (codes "</") bs >>= after_label >>= after_white >>= after (codes ">")
 
 unfoldable pub after_tag_opening : List ℕ → Option (List ℕ)
-after_tag_opening bs = after (codes "<") bs >>= after_element_name
+after_tag_opening bs = after (codes "<") bs >>= after_label
 
 -- `<!--` up to the first `-->`
 unfoldable pub after_html_comment : List ℕ → Option (List ℕ)

@@ -15,9 +15,9 @@ pub enum TokenKind {
     HtmlComment,
     /// `{{!--` up to the first `--}}` or `--~}}`, or `{{!` up to the first `}}`.
     MustacheComment,
-    /// `</`, a name and `>`.
+    /// `</`, a name, or `:` and the name of a block, and `>`.
     EndTag,
-    /// `<` and a name.
+    /// `<` and a name, or `<:` and the name of a block.
     TagOpening,
     /// `{{` or `{{~`.
     OpenMustache,

@@ -62,6 +62,13 @@ impl<'a> Cursor<'a> {
         self.rest.is_empty()
     }
 
+    /// Another cursor before the same tokens.
+    pub fn copy(&self) -> Cursor<'a>
+        ensures { result ≡ self.now }
+    {
+        Cursor { rest: self.rest }
+    }
+
     /// A cursor after the next token, if there is one.
     pub fn ahead(&self) -> Cursor<'a>
         ensures { result ≡ drop 1 self.now }

@@ -1,12 +1,13 @@
 // Names that are not reserved.
 ghost use Rattle.std.specs.Prelude.{◌≡◌, ◌==◌, IsTrue, map};
-ghost use Rattle.std.specs.List.{list_any};
+ghost use Rattle.std.specs.List.{list_any, list_all};
 ghost use Rattle.std.specs.Str.{bytes_eq};
 ghost use Rattle.gl_base.specs.Answers.{Gives};
 ghost use Rattle.gl_base.specs.Names.{has_text};
 ghost use Rattle.gl_base.specs.Texts.{is_ascii_text};
+ghost use Rattle.gl_ast.specs.Marks.{starts_name, in_name};
 ghost use Rattle.gl_ast.specs.TokenText as text;
-ghost use Rattle.gl_ast.specs.Words.{reserved};
+ghost use Rattle.gl_ast.specs.Words.{reserved, barred};
 ghost use Rattle.gl_exprs.specs.Fault.{Fails};
 ghost use Rattle.gl_exprs.specs.Pieces.{ascii_words};
 ghost use Rattle.gl_exprs.specs.ReadExpr as read;
@@ -42,6 +43,13 @@ fn is_one_of(words: &[&str], name: &Str) -> bool
     has_bytes(words, name.as_str())
 }
 
+// Whether no block has the name.
+fn is_barred(name: &Str) -> bool
+    ensures { result ≡ has_text name.now barred }
+{
+    is_one_of(&["inverse"], name) || is_reserved(name)
+}
+
 // Whether the name is reserved.
 pub(crate) fn is_reserved(name: &Str) -> bool
     ensures { result ≡ has_text name.now reserved }
@@ -56,6 +64,50 @@ pub fn is_text(name: &Str, word: &str) -> bool
     ensures { result ≡ bytes_eq word.now name.now }
 {
     name.is(word)
+}
+
+// Whether a name may begin with the character.
+fn starts_name(c: char) -> bool
+    ensures { result ≡ starts_name c }
+{
+    c.is_ascii_alphabetic() || c == '_' || c == '$'
+}
+
+// Whether a name may go on with the character.
+fn in_name(c: char) -> bool
+    ensures { result ≡ in_name c }
+{
+    starts_name(c) || c.is_ascii_digit() || c == '-'
+}
+
+// Whether a name may go on with all characters that are left.
+fn all_in_name(scan: &mut Scan) -> bool
+    ensures { result ≡ list_all in_name scan.old }
+{
+    while let Some(c) = scan.next() {
+        if !in_name(c) {
+            return false;
+        }
+    }
+    true
+}
+
+// Whether the text is a name.
+fn is_name(name: &Str) -> bool
+    ensures { result ≡ text.is_name name.now }
+{
+    let mut scan = Scan::new(name);
+    match scan.next() {
+        Some(c) => starts_name(c) && all_in_name(&mut scan),
+        None => false,
+    }
+}
+
+/// Whether the text is the name of a block: a name that is neither reserved nor `inverse`.
+pub fn is_block_name(name: &Str) -> bool
+    ensures { result ≡ text.is_block_name name.now }
+{
+    is_name(name) && !is_barred(name)
 }
 
 // Whether a dot stands in the text.

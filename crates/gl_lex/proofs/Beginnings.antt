@@ -160,14 +160,15 @@ module _ (b : ℕ) (bs more : List ℕ) where
       let first = begins here (codes "<!--") in
       let second = begins (codes "<!--") here in
       let third = end_tag_begun here in
+      let fourth = begins here (codes "<:") in
       let brace : (y : List ℕ) × (after (codes "{{") all ≡ Some y) → ⊥ = (λ y. brace_text ends_text b bs refl (brace_begun b bs more y.0 y.1 opening) text) in (
         form k.Text m.Content (after_run ends_text all) (λ e. absurd (run_stands ends_text text_more b bs more [] e text)),
         (
           form k.HtmlComment m.Content (after_html_comment all) (λ e. comment_leads e),
           (
-            form k.EndTag m.Content (after_end_tag all) (λ e. or_right (first || second) third (end_tag_is_begun here x xs (ap (λ l. after_end_tag (here ++ l)) (sym some) ∙ e))),
+            form k.EndTag m.Content (after_end_tag all) (λ e. third_of_four first second third fourth (end_tag_is_begun here x xs (ap (λ l. after_end_tag (here ++ l)) (sym some) ∙ e))),
             (
-              form k.TagOpening m.Tag (after_tag_opening all) (λ e. first_of_three first second third (name_stands b bs more [] e tag)),
+              form k.TagOpening m.Tag (after_tag_opening all) (λ e. elim (name_stands b bs more [] e tag) [ inl h ↦ first_of_four first second third fourth h | inr h ↦ or_right (first || second || third) fourth h ]),
               (
                 form k.MustacheComment m.Content (after_long_comment all) (λ e. absurd (brace (long_braces all [] e))),
                 (
@@ -190,8 +191,8 @@ module _ (b : ℕ) (bs more : List ℕ) where
           by_front : (o : Option (List ℕ)) → after (codes "<!--") all ≡ o → (o >>= from_first (begins (codes "-->")) >>= after (codes "-->")) ≡ Some [] → content_begun here ≡ true
           by_front None f g = nothing_is [] g
           by_front (Some z) f g = elim (front_split (codes "<!--") here more z f) [
-            | inl h ↦ first_of_three (begins here (codes "<!--")) (begins (codes "<!--") here) (end_tag_begun here) h
-            | inr h ↦ second_of_three (begins here (codes "<!--")) (begins (codes "<!--") here) (end_tag_begun here) (rw (h.1) refl)
+            | inl h ↦ first_of_four (begins here (codes "<!--")) (begins (codes "<!--") here) (end_tag_begun here) (begins here (codes "<:")) h
+            | inr h ↦ second_of_four (begins here (codes "<!--")) (begins (codes "<!--") here) (end_tag_begun here) (begins here (codes "<:")) (rw (h.1) refl)
           ]
 
   -- in an expression

@@ -5,7 +5,7 @@ use Rattle.gl_base.specs.Answers.{◌>>=◌}
 use Rattle.gl_ast.specs.Modes.{Found, found, token, after_around}
 use Rattle.gl_ast.specs.Scans.{after, begins, from_first, after_closing}
 use Rattle.gl_ast.specs.Tokens.{forms, expression_forms, IsOneOf, IsLongest}
-use Rattle.gl_ast.specs.Words.{after_html_comment, after_opening, after_mustache, after_argument, after_path, after_head, after_number, after_natural, after_string, fits}
+use Rattle.gl_ast.specs.Words.{after_html_comment, after_opening, after_mustache, after_argument, after_path, after_head, after_number, after_natural, after_string, fits, after_tag_opening, after_label, after_element_name, after_class, after_slot_name, after_block_name}
 use Rattle.gl_ast.specs.declared.mode.Around.{Around}
 use Rattle.gl_ast.specs.declared.mode.Around.TheVariants as a
 use Rattle.gl_ast.specs.declared.mode.Mode.{Mode}
@@ -50,6 +50,10 @@ from_word mode cs extra bs takes h =
 comment_takes : Takes m.Content (codes "<!--" ++ codes "-->")
 unfolding after_html_comment
 comment_takes = ((k.HtmlComment, [], m.Content), inr (inl refl), refl)
+
+slot_takes : Takes m.Content (codes "<:" ++ codes "a")
+unfolding after_tag_opening after_label after_element_name after_class after_slot_name after_block_name
+slot_takes = ((k.TagOpening, [], m.Tag), inr (inr (inr (inl refl))), refl)
 
 spread_takes : Takes m.Tag (codes "...attributes" ++ [])
 spread_takes = ((k.Spread, [], m.Tag), inr (inr (inr (inl refl))), refl)
@@ -160,15 +164,16 @@ comment_goes bs h none =
 
 content_makes : (bs : List ℕ) → NoneStands (forms m.Content bs) → content_begun bs ≡ true → Makes m.Content bs
 unfolding content_begun
-content_makes bs n e = by_case (begins bs (codes "<!--")) (begins (codes "<!--") bs) (end_tag_begun bs) refl refl refl e where
-  by_case : (x y z : Bool) → begins bs (codes "<!--") ≡ x → begins (codes "<!--") bs ≡ y → end_tag_begun bs ≡ z → (x || y || z) ≡ true → Makes m.Content bs
-  by_case true y z f g h i = from_word m.Content (codes "<!--") (codes "-->") bs comment_takes f
-  by_case false true z f g h i =
+content_makes bs n e = by_case (begins bs (codes "<!--")) (begins (codes "<!--") bs) (end_tag_begun bs) (begins bs (codes "<:")) refl refl refl refl e where
+  by_case : (x y z w : Bool) → begins bs (codes "<!--") ≡ x → begins (codes "<!--") bs ≡ y → end_tag_begun bs ≡ z → begins bs (codes "<:") ≡ w → (x || y || z || w) ≡ true → Makes m.Content bs
+  by_case true y z w f g h i j = from_word m.Content (codes "<!--") (codes "-->") bs comment_takes f
+  by_case false true z w f g h i j =
       (codes "-->", ((k.HtmlComment, [], m.Content), inr (inl (ap (found k.HtmlComment m.Content) (comment_goes bs g (found_none k.HtmlComment m.Content (after_html_comment bs) n.1.0)))), refl))
-  by_case false false true f g h i =
+  by_case false false true w f g h i j =
       let r = end_tag_goes bs h in
       (r.0, ((k.EndTag, [], m.Content), inr (inr (inl (ap (found k.EndTag m.Content) r.1))), refl))
-  by_case false false false f g h i = let r : ⊥ = cc in absurd r
+  by_case false false false true f g h i j = from_word m.Content (codes "<:") (codes "a") bs slot_takes i
+  by_case false false false false f g h i j = let r : ⊥ = cc in absurd r
 
 tag_makes : (bs : List ℕ) → tag_begun bs ≡ true → Makes m.Tag bs
 unfolding tag_begun

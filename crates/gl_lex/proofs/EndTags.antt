@@ -1,16 +1,18 @@
 -- The fronts of end tags, as they are told by cases, and what makes them whole.
-use Rattle.std.proofs.Common.{◌≡◌, ◌≤◌, ℕ, zero, suc, List, [], ◌∷◌, ◌++◌, Bool, true, false, ◌||◌, inl, inr, Option, Some, None, length, refl, sym, ap, ◌∙◌, subst, append_assoc, arith, eqb}
+use Rattle.std.proofs.Common.{◌≡◌, ◌≤◌, ℕ, zero, suc, List, [], ◌∷◌, ◌++◌, Bool, true, false, ◌||◌, ◌&&◌, ◌-◌, ◌⊎◌, not, inl, inr, Option, Some, None, length, drop, refl, sym, ap, ◌∙◌, subst, append_assoc, arith, eqb}
 use Rattle.std.specs.Prelude.{if◌then◌else◌, codes}
 use Rattle.std.proofs.lemmas.Bool.Decides.{nat_tests}
 use Rattle.gl_base.specs.Answers.{◌>>=◌}
-use Rattle.gl_ast.specs.Marks.{is_white, is_capital, is_small, in_class, in_tag}
+use Rattle.gl_base.specs.Names.{or_else, has_text}
+use Rattle.gl_ast.specs.Marks.{is_white, is_capital, is_small, starts_name, in_name, in_class, in_tag}
 use Rattle.gl_ast.specs.Scans.{after, begins, after_all, after_pieces}
-use Rattle.gl_ast.specs.Words.{after_white, after_class_part, after_more_class, after_class, after_tag, after_element_name, after_tag_opening, after_end_tag}
+use Rattle.gl_ast.specs.Words.{read_part, barred, if_block, after_white, after_name, after_class_part, after_more_class, after_class, after_tag, after_element_name, after_block_name, after_slot_name, after_label, after_tag_opening, after_end_tag}
 use Rattle.gl_ast.proofs.Forward.{bind_some, if_some, same_byte, piece_step, piece_end}
+use Rattle.gl_ast.proofs.BlockNames.{barred_ended, word_read, read_front, cut_last, block_whole, block_cut, longer_name}
 use Rattle.gl_ast.proofs.Longest.{after_is_front}
 use Rattle.gl_ast.proofs.Progress.{more_class_moves}
-use Rattle.gl_lex.specs.Begun.{is_none, class_begun, class_or_none, tag_or_class, name_begun, name_or_front, end_tag_begun}
-use Rattle.gl_lex.proofs.Continued.{nothing_is, or_left, or_right, front_split, begins_front, front_rest, after_more}
+use Rattle.gl_lex.specs.Begun.{is_none, block_begun, block_or_none, slot_begun, slot_or_none, class_begun, class_or_none, tag_or_class, name_begun, name_or_front, end_tag_begun}
+use Rattle.gl_lex.proofs.Continued.{nothing_is, both_none, or_left, or_right, front_split, begins_front, front_rest, after_more}
 use Rattle.gl_lex.proofs.Steps.{shorter}
 
 -- the first byte fails the test, or there is none
@@ -140,23 +142,73 @@ element_none : (b : ℕ) (bs : List ℕ) → is_small b ≡ false → is_capital
 unfolding after_element_name after_class
 element_none b bs e f = rw (e, f) refl
 
--- where no tag opens, and more bytes open one, there is but its first byte
-pub name_stands : (b : ℕ) (bs more x : List ℕ) → after_tag_opening ((b ∷ bs) ++ more) ≡ Some x → after_tag_opening (b ∷ bs) ≡ None → begins (b ∷ bs) (codes "<!--") ≡ true
+-- The name of a block.
+
+name_some : (b : ℕ) (bs : List ℕ) → starts_name b ≡ true → after_name (b ∷ bs) ≡ Some (after_all in_name bs)
+name_some b bs e = rw e refl
+
+block_name_reads : (b : ℕ) (bs : List ℕ) → starts_name b ≡ true → after_block_name (b ∷ bs) ≡ if_block (b ∷ bs) (after_all in_name bs)
+unfolding after_block_name
+block_name_reads b bs e = ap (λ o. o >>= if_block (b ∷ bs)) (name_some b bs e)
+
+block_starts : (b : ℕ) (bs rest : List ℕ) → after_block_name (b ∷ bs) ≡ Some rest → starts_name b ≡ true
+unfolding after_block_name
+block_starts b bs rest e =
+    let s = bind_some (after_name (b ∷ bs)) (if_block (b ∷ bs)) rest e in
+    (if_some (starts_name b) (Some (after_all in_name bs)) s.0 s.1).0
+
+-- where a name begins, the name of a block stands
+block_stands : (b : ℕ) (bs : List ℕ) → starts_name b ≡ true → (y : List ℕ) × (after_block_name (b ∷ bs) ≡ Some y)
+block_stands b bs e = by_test (has_text (read_part (b ∷ bs) (after_all in_name bs)) barred) refl where
+  by_test : (t : Bool) → has_text (read_part (b ∷ bs) (after_all in_name bs)) barred ≡ t → (y : List ℕ) × (after_block_name (b ∷ bs) ≡ Some y)
+  by_test true f = (_, block_name_reads b bs e ∙ block_cut (b ∷ bs) (after_all in_name bs) f)
+  by_test false f = (_, block_name_reads b bs e ∙ block_whole (b ∷ bs) (after_all in_name bs) f)
+
+-- What a tag names.
+
+label_is : (bs x : List ℕ) → after_element_name bs ≡ Some x → after_label bs ≡ Some x
+unfolding after_label
+label_is bs x e = ap (λ o. or_else o (after_slot_name bs)) e
+
+label_slot : (bs : List ℕ) → after_element_name bs ≡ None → after_label bs ≡ (after (codes ":") bs >>= after_block_name)
+unfolding after_label after_slot_name
+label_slot bs e = ap (λ o. or_else o (after_slot_name bs)) e
+
+label_none : (bs : List ℕ) → after_label bs ≡ None → (after_element_name bs ≡ None) × ((after (codes ":") bs >>= after_block_name) ≡ None)
+unfolding after_label after_slot_name
+label_none bs e = both_none (after_element_name bs) (after (codes ":") bs >>= after_block_name) e
+
+-- where no tag opens, and more bytes open one, there is but its first byte, or `<:`
+pub name_stands : (b : ℕ) (bs more x : List ℕ) → after_tag_opening ((b ∷ bs) ++ more) ≡ Some x → after_tag_opening (b ∷ bs) ≡ None → (begins (b ∷ bs) (codes "<!--") ≡ true) ⊎ (begins (b ∷ bs) (codes "<:") ≡ true)
 unfolding after_tag_opening
 name_stands b bs more x e none =
-    let s = bind_some (after (codes "<") ((b ∷ bs) ++ more)) after_element_name x e in
+    let s = bind_some (after (codes "<") ((b ∷ bs) ++ more)) after_label x e in
     let t = if_some (eqb 60 b) (Some (bs ++ more)) s.0 s.1 in
-    by_name bs t.0 (ap after_element_name (some_left (bs ++ more) s.0 t.1) ∙ s.2) none where
-      by_name : (xs : List ℕ) → eqb 60 b ≡ true → after_element_name (xs ++ more) ≡ Some x → (after (codes "<") (b ∷ xs) >>= after_element_name) ≡ None → begins (b ∷ xs) (codes "<!--") ≡ true
-      by_name [] f g h = let back : eqb b 60 ≡ true = (let same = same_byte 60 b f in grind (arith, nat_tests)) in rw back refl
+    by_name bs t.0 (ap after_label (some_left (bs ++ more) s.0 t.1) ∙ s.2) none where
+      by_name : (xs : List ℕ) → eqb 60 b ≡ true → after_label (xs ++ more) ≡ Some x → (after (codes "<") (b ∷ xs) >>= after_label) ≡ None → (begins (b ∷ xs) (codes "<!--") ≡ true) ⊎ (begins (b ∷ xs) (codes "<:") ≡ true)
+      by_name [] f g h = let back : eqb b 60 ≡ true = (let same = same_byte 60 b f in grind (arith, nat_tests)) in inl (rw back refl)
       by_name (c ∷ cs) f g h = by_first (is_small c) (is_capital c) refl refl where
-        stands : (y : List ℕ) → after_element_name (c ∷ cs) ≡ Some y → ⊥
-        stands y k = let read : (after (codes "<") (b ∷ c ∷ cs) >>= after_element_name) ≡ Some y = rw f k in nothing_is y (sym h ∙ read)
+        nothing : after_label (c ∷ cs) ≡ None
+        nothing = (let read : (after (codes "<") (b ∷ c ∷ cs) >>= after_label) ≡ after_label (c ∷ cs) = rw f refl in sym read ∙ h)
 
-        by_first : (u v : Bool) → is_small c ≡ u → is_capital c ≡ v → begins (b ∷ c ∷ cs) (codes "<!--") ≡ true
-        by_first true v k l = absurd (stands _ (element_small c cs k))
-        by_first false true k l = absurd (stands _ (element_class c cs l))
-        by_first false false k l = nothing_is x (sym (element_none c (cs ++ more) k l) ∙ g)
+        stands : {A : Type 0} (y : List ℕ) → after_element_name (c ∷ cs) ≡ Some y → A
+        stands y k = nothing_is y (sym nothing ∙ label_is (c ∷ cs) y k)
+
+        by_block : (ds : List ℕ) → eqb 58 c ≡ true → after_block_name (ds ++ more) ≡ Some x → after_block_name ds ≡ None → begins (b ∷ c ∷ ds) (codes "<:") ≡ true
+        by_block [] k l n =
+            let back : eqb b 60 ≡ true = (let same = same_byte 60 b f in grind (arith, nat_tests)) in
+            let also : eqb c 58 ≡ true = (let same = same_byte 58 c k in grind (arith, nat_tests)) in
+            rw (back, also) refl
+        by_block (d ∷ ds) k l n = let y = block_stands d ds (block_starts d (ds ++ more) x l) in nothing_is y.0 (sym n ∙ y.1)
+
+        by_first : (u v : Bool) → is_small c ≡ u → is_capital c ≡ v → (begins (b ∷ c ∷ cs) (codes "<!--") ≡ true) ⊎ (begins (b ∷ c ∷ cs) (codes "<:") ≡ true)
+        by_first true v k l = stands _ (element_small c cs k)
+        by_first false true k l = stands _ (element_class c cs l)
+        by_first false false k l =
+            let z = bind_some (after (codes ":") ((c ∷ cs) ++ more)) after_block_name x (sym (label_slot ((c ∷ cs) ++ more) (element_none c (cs ++ more) k l)) ∙ g) in
+            let t = if_some (eqb 58 c) (Some (cs ++ more)) z.0 z.1 in
+            let read : (after (codes ":") (c ∷ cs) >>= after_block_name) ≡ after_block_name cs = rw (t.0) refl in
+            inr (by_block cs t.0 (ap after_block_name (some_left (cs ++ more) z.0 t.1) ∙ z.2) (sym read ∙ (label_none (c ∷ cs) nothing).1))
 
 -- The end of an end tag after its name.
 
@@ -189,12 +241,12 @@ ends_white left e = by_white (after_all is_white left) refl e where
 
 -- after `</`: a name with more to come
 abbrev goes : List ℕ → List ℕ → Type 0
-goes name more = (after_element_name (name ++ more) >>= ending) ≡ Some []
+goes name more = (after_label (name ++ more) >>= ending) ≡ Some []
 
 small_begun : (b : ℕ) (bs : List ℕ) (m : ℕ) (ms : List ℕ) → is_small b ≡ true → goes (b ∷ bs) (m ∷ ms) → name_begun (b ∷ bs) ≡ true
 unfolding name_begun
 small_begun b bs m ms s e =
-    let f : ending (after_all in_tag (bs ++ m ∷ ms)) ≡ Some [] = sym (ap (λ o. o >>= ending) (element_small b (bs ++ m ∷ ms) s)) ∙ e in
+    let f : ending (after_all in_tag (bs ++ m ∷ ms)) ≡ Some [] = sym (ap (λ o. o >>= ending) (label_is (b ∷ (bs ++ m ∷ ms)) _ (element_small b (bs ++ m ∷ ms) s))) ∙ e in
     ap (tag_or_class (b ∷ bs)) (tag_read b bs s) ∙ by_left (after_all in_tag bs) refl f where
       by_left : (xs : List ℕ) → after_all in_tag bs ≡ xs → ending (after_all in_tag (bs ++ m ∷ ms)) ≡ Some [] → is_none (after_all is_white (after_all in_tag bs)) ≡ true
       by_left [] g h = ap (λ l. is_none (after_all is_white l)) g
@@ -222,7 +274,7 @@ class_left_begun left m ms stop e = by_part (after_more_class (left ++ m ∷ ms)
 class_name_begun : (b : ℕ) (bs : List ℕ) (m : ℕ) (ms : List ℕ) → is_capital b ≡ true → goes (b ∷ bs) (m ∷ ms) → name_begun (b ∷ bs) ≡ true
 unfolding name_begun
 class_name_begun b bs m ms s e =
-    let f : ending (class_left (bs ++ m ∷ ms)) ≡ Some [] = sym (ap (λ o. o >>= ending) (element_class b (bs ++ m ∷ ms) s)) ∙ e in
+    let f : ending (class_left (bs ++ m ∷ ms)) ≡ Some [] = sym (ap (λ o. o >>= ending) (label_is (b ∷ (bs ++ m ∷ ms)) _ (element_class b (bs ++ m ∷ ms) s))) ∙ e in
     ap (tag_or_class (b ∷ bs)) (tag_none b bs (capital_small b s)) ∙ ap (class_or_none (b ∷ bs)) (element_class b bs s) ∙ by_left (after_all in_class bs) refl f where
       by_left : (xs : List ℕ) → after_all in_class bs ≡ xs → ending (class_left (bs ++ m ∷ ms)) ≡ Some [] → class_begun (class_left bs) ≡ true
       by_left [] g h = ap (λ l. class_begun (parts l)) g
@@ -236,6 +288,61 @@ class_name_begun b bs m ms s e =
             let some : parts (x ∷ xs) ≡ [] → Halts in_class (m ∷ ms) = (λ n. let r : ⊥ = cc in absurd r) in
             class_left_begun (parts (x ∷ xs)) m ms (parts_stop (x ∷ xs)) (sym (ap ending (parts_on (x ∷ xs) (m ∷ ms) some)) ∙ reached)
 
+-- after the name in the end tag of a block
+
+last_stays : (c : ℕ) (rest : List ℕ) → in_name c ≡ true → ending (c ∷ rest) ≡ None
+last_stays c rest e =
+    let tight : is_white c ≡ false = grind (arith, nat_tests) in
+    let other : eqb 62 c ≡ false = grind (arith, nat_tests) in
+    rw (tight, other) refl
+
+-- a name that no block has does not go on to an end
+cut_stays : (bs x : List ℕ) (w : List ℕ) → bs ≡ w ++ x → has_text w barred ≡ true → (if_block bs x >>= ending) ≡ None
+cut_stays bs x w whole e =
+    let d = barred_ended w e in
+    let part : read_part bs x ≡ w = ap (λ l. read_part l x) whole ∙ read_front w x in
+    let all : bs ≡ ((d.0 ∷ d.1) ++ d.2 ∷ []) ++ x = whole ∙ ap (λ l. l ++ x) d.3 in
+    ap (λ o. o >>= ending) (block_cut bs x (ap (λ n. has_text n barred) part ∙ e))
+    ∙ ap ending (ap (λ l. drop (length l - length x - 1) l) all ∙ cut_last (d.0 ∷ d.1) x d.2) ∙ last_stays d.2 x d.5
+
+block_left_begun : (c : ℕ) (cs : List ℕ) (m : ℕ) (ms : List ℕ) → starts_name c ≡ true → (after_block_name ((c ∷ cs) ++ m ∷ ms) >>= ending) ≡ Some [] → (left : List ℕ) → after_all in_name cs ≡ left → block_begun (c ∷ cs) left ≡ true
+block_left_begun c cs m ms s e [] f = refl
+block_left_begun c cs m ms s e (x ∷ xs) f =
+    let r = word_read (c ∷ cs) (x ∷ xs) (name_some c cs s ∙ ap Some f) in
+    let part : read_part (c ∷ cs) (x ∷ xs) ≡ r.0 ∷ r.1 = ap (λ l. read_part l (x ∷ xs)) r.2 ∙ read_front (r.0 ∷ r.1) (x ∷ xs) in
+    let more : (c ∷ cs) ++ m ∷ ms ≡ (r.0 ∷ r.1) ++ (x ∷ (xs ++ m ∷ ms)) = ap (λ l. l ++ m ∷ ms) r.2 ∙ append_assoc (r.0 ∷ r.1) (x ∷ xs) (m ∷ ms) in
+    let on : (if_block ((c ∷ cs) ++ m ∷ ms) (x ∷ (xs ++ m ∷ ms)) >>= ending) ≡ Some [] =
+    ap (λ o. o >>= ending) (ap (if_block ((c ∷ cs) ++ m ∷ ms)) (sym (all_left in_name cs x xs (m ∷ ms) f)) ∙ sym (block_name_reads c (cs ++ m ∷ ms) s)) ∙ e in
+    by_test (r.0 ∷ r.1) part more on (has_text (r.0 ∷ r.1) barred) refl where
+      by_test : (w : List ℕ) → read_part (c ∷ cs) (x ∷ xs) ≡ w → (c ∷ cs) ++ m ∷ ms ≡ w ++ (x ∷ (xs ++ m ∷ ms)) → (if_block ((c ∷ cs) ++ m ∷ ms) (x ∷ (xs ++ m ∷ ms)) >>= ending) ≡ Some []
+          → (t : Bool) → has_text w barred ≡ t → block_begun (c ∷ cs) (x ∷ xs) ≡ true
+      by_test w part more on true g = nothing_is [] (sym (cut_stays ((c ∷ cs) ++ m ∷ ms) (x ∷ (xs ++ m ∷ ms)) w more g) ∙ on)
+      by_test w part more on false g =
+          let whole : read_part ((c ∷ cs) ++ m ∷ ms) (x ∷ (xs ++ m ∷ ms)) ≡ w = ap (λ l. read_part l (x ∷ (xs ++ m ∷ ms))) more ∙ read_front w (x ∷ (xs ++ m ∷ ms)) in
+          let white : is_none (after_all is_white (x ∷ xs)) ≡ true =
+          white_left (x ∷ xs) m ms (sym (ap (λ o. o >>= ending) (block_whole ((c ∷ cs) ++ m ∷ ms) (x ∷ (xs ++ m ∷ ms)) (ap (λ n. has_text n barred) whole ∙ g))) ∙ on) in
+          ap (λ b. b && not (has_text (read_part (c ∷ cs) (x ∷ xs)) barred)) white ∙ ap (λ n. not (has_text n barred)) part ∙ ap not g
+
+slot_name_begun : (bs : List ℕ) (m : ℕ) (ms : List ℕ) → (after_block_name (bs ++ m ∷ ms) >>= ending) ≡ Some [] → slot_begun bs ≡ true
+unfolding slot_begun
+slot_name_begun [] m ms e = refl
+slot_name_begun (c ∷ cs) m ms e =
+    let s = bind_some (after_block_name ((c ∷ cs) ++ m ∷ ms)) ending [] e in
+    let first = block_starts c (cs ++ m ∷ ms) s.0 s.1 in
+    ap (block_or_none (c ∷ cs)) (name_some c cs first) ∙ block_left_begun c cs m ms first e (after_all in_name cs) refl
+
+slot_goes_begun : (b : ℕ) (bs : List ℕ) (m : ℕ) (ms : List ℕ) → is_small b ≡ false → is_capital b ≡ false → goes (b ∷ bs) (m ∷ ms) → name_begun (b ∷ bs) ≡ true
+unfolding name_begun
+slot_goes_begun b bs m ms f g e =
+    let slot : ((after (codes ":") ((b ∷ bs) ++ m ∷ ms) >>= after_block_name) >>= ending) ≡ Some [] = ap (λ o. o >>= ending) (sym (label_slot ((b ∷ bs) ++ m ∷ ms) (element_none b (bs ++ m ∷ ms) f g))) ∙ e in
+    let s = bind_some (after (codes ":") ((b ∷ bs) ++ m ∷ ms) >>= after_block_name) ending [] slot in
+    let t = bind_some (after (codes ":") ((b ∷ bs) ++ m ∷ ms)) after_block_name s.0 s.1 in
+    let u = if_some (eqb 58 b) (Some (bs ++ m ∷ ms)) t.0 t.1 in
+    let here : after (codes ":") (b ∷ bs) ≡ Some bs = rw (u.0) refl in
+    let all : after (codes ":") ((b ∷ bs) ++ m ∷ ms) ≡ Some (bs ++ m ∷ ms) = rw (u.0) refl in
+    ap (tag_or_class (b ∷ bs)) (tag_none b bs f) ∙ ap (class_or_none (b ∷ bs)) (element_none b bs f g) ∙ ap (slot_or_none (b ∷ bs)) here
+    ∙ slot_name_begun bs m ms (ap (λ o. (o >>= after_block_name) >>= ending) (sym all) ∙ slot)
+
 name_goes_begun : (name : List ℕ) (m : ℕ) (ms : List ℕ) → goes name (m ∷ ms) → name_begun name ≡ true
 unfolding name_begun after_element_name after_class
 name_goes_begun [] m ms e = refl
@@ -243,29 +350,29 @@ name_goes_begun (b ∷ bs) m ms e = by_first (is_small b) (is_capital b) refl re
   by_first : (s c : Bool) → is_small b ≡ s → is_capital b ≡ c → name_begun (b ∷ bs) ≡ true
   by_first true c f g = small_begun b bs m ms f e
   by_first false true f g = class_name_begun b bs m ms g e
-  by_first false false f g = nothing_is [] (sym (ap (λ o. o >>= ending) (element_none b (bs ++ m ∷ ms) f g)) ∙ e)
+  by_first false false f g = slot_goes_begun b bs m ms f g e
 
-end_tag_reads : (bs : List ℕ) → after_end_tag bs ≡ (after (codes "</") bs >>= λ name. (after_element_name name >>= ending))
+end_tag_reads : (bs : List ℕ) → after_end_tag bs ≡ (after (codes "</") bs >>= λ name. (after_label name >>= ending))
 unfolding after_end_tag
 end_tag_reads bs = by_front (after (codes "</") bs) where
   by_name : (o : Option (List ℕ)) → (o >>= after_white >>= after (codes ">")) ≡ (o >>= ending)
   by_name None = refl
   by_name (Some x) = refl
 
-  by_front : (o : Option (List ℕ)) → (o >>= after_element_name >>= after_white >>= after (codes ">")) ≡ (o >>= λ name. (after_element_name name >>= ending))
+  by_front : (o : Option (List ℕ)) → (o >>= after_label >>= after_white >>= after (codes ">")) ≡ (o >>= λ name. (after_label name >>= ending))
   by_front None = refl
-  by_front (Some x) = by_name (after_element_name x)
+  by_front (Some x) = by_name (after_label x)
 
 pub end_tag_is_begun : (bs : List ℕ) (m : ℕ) (ms : List ℕ) → after_end_tag (bs ++ m ∷ ms) ≡ Some [] → end_tag_begun bs ≡ true
 unfolding end_tag_begun
 end_tag_is_begun bs m ms e =
-    let s = bind_some (after (codes "</") (bs ++ m ∷ ms)) (λ name. (after_element_name name >>= ending)) [] (sym (end_tag_reads (bs ++ m ∷ ms)) ∙ e) in
+    let s = bind_some (after (codes "</") (bs ++ m ∷ ms)) (λ name. (after_label name >>= ending)) [] (sym (end_tag_reads (bs ++ m ∷ ms)) ∙ e) in
     by_front (after (codes "</") bs) refl s.0 s.1 s.2 where
-      by_front : (o : Option (List ℕ)) → after (codes "</") bs ≡ o → (x : List ℕ) → after (codes "</") (bs ++ m ∷ ms) ≡ Some x → (after_element_name x >>= ending) ≡ Some [] → name_or_front bs o ≡ true
+      by_front : (o : Option (List ℕ)) → after (codes "</") bs ≡ o → (x : List ℕ) → after (codes "</") (bs ++ m ∷ ms) ≡ Some x → (after_label x >>= ending) ≡ Some [] → name_or_front bs o ≡ true
       by_front None f x g h = begins_front (codes "</") bs (m ∷ ms) x g f
       by_front (Some name) f x g h =
           let same : name ++ m ∷ ms ≡ x = some_left (name ++ m ∷ ms) x (sym (after_more (codes "</") bs (m ∷ ms) name f) ∙ g) in
-          name_goes_begun name m ms (ap (λ l. after_element_name l >>= ending) same ∙ h)
+          name_goes_begun name m ms (ap (λ l. after_label l >>= ending) same ∙ h)
 
 -- What is told goes on to an end tag.
 
@@ -275,7 +382,7 @@ Goes name = (more : List ℕ) × goes name more
 
 small_goes : (b : ℕ) (bs : List ℕ) → is_small b ≡ true → is_none (after_all is_white (after_all in_tag bs)) ≡ true → Goes (b ∷ bs)
 small_goes b bs s e =
-    (codes ">", ap (λ o. o >>= ending) (element_small b (bs ++ codes ">") s) ∙ ap ending (all_then in_tag bs (codes ">") refl) ∙ ends_white (after_all in_tag bs) e)
+    (codes ">", ap (λ o. o >>= ending) (label_is (b ∷ (bs ++ codes ">")) _ (element_small b (bs ++ codes ">") s)) ∙ ap ending (all_then in_tag bs (codes ">") refl) ∙ ends_white (after_all in_tag bs) e)
 
 -- a byte of white space begins no part of a class
 white_part : (left : List ℕ) → is_none (after_all is_white left) ≡ true → parts (left ++ codes ">") ≡ left ++ codes ">"
@@ -289,8 +396,8 @@ white_part (x ∷ xs) e = by_white (is_white x) refl e where
       piece_end after_more_class ((x ∷ xs) ++ codes ">") none
   by_white false f g = let r : ⊥ = cc in absurd r
 
-class_read : (b : ℕ) (bs more : List ℕ) → is_capital b ≡ true → (class_left bs ≡ [] → Halts in_class more) → after_element_name ((b ∷ bs) ++ more) ≡ Some (parts (class_left bs ++ more))
-class_read b bs more s h = element_class b (bs ++ more) s ∙ ap (λ l. Some (parts l)) (by_left (after_all in_class bs) refl) ∙ ap Some (parts_on (after_all in_class bs) more h) where
+class_read : (b : ℕ) (bs more : List ℕ) → is_capital b ≡ true → (class_left bs ≡ [] → Halts in_class more) → after_label ((b ∷ bs) ++ more) ≡ Some (parts (class_left bs ++ more))
+class_read b bs more s h = label_is ((b ∷ bs) ++ more) _ (element_class b (bs ++ more) s) ∙ ap (λ l. Some (parts l)) (by_left (after_all in_class bs) refl) ∙ ap Some (parts_on (after_all in_class bs) more h) where
   by_left : (xs : List ℕ) → after_all in_class bs ≡ xs → after_all in_class (bs ++ more) ≡ after_all in_class bs ++ more
   by_left [] f = all_through in_class bs more f ∙ halted in_class more (h (ap parts f)) ∙ ap (λ l. l ++ more) (sym f)
   by_left (x ∷ xs) f = all_left in_class bs x xs more f ∙ ap (λ l. l ++ more) (sym f)
@@ -311,8 +418,84 @@ class_goes b bs s e = by_case (is_none (after_all is_white (class_left bs))) (be
   by_case false false f g h = let r : ⊥ = cc in absurd r
 
 no_name_goes : Goes []
-unfolding after_element_name
+unfolding after_label after_element_name
 no_name_goes = (codes "a>", refl)
+
+-- after `:` in an end tag
+abbrev block_goes : List ℕ → List ℕ → Type 0
+block_goes name more = (after_block_name (name ++ more) >>= ending) ≡ Some []
+
+-- what is left of a name that some block has is what follows it
+block_on : (bs x w : List ℕ) → bs ≡ w ++ x → has_text w barred ≡ false → if_block bs x ≡ Some x
+block_on bs x w whole e = block_whole bs x (ap (λ n. has_text n barred) (ap (λ l. read_part l x) whole ∙ read_front w x) ∙ e)
+
+-- a name to the end: an `x` after it makes it the name of a block
+name_ends_goes : (c : ℕ) (cs : List ℕ) → starts_name c ≡ true → after_all in_name cs ≡ [] → block_goes (c ∷ cs) (codes "x>")
+name_ends_goes c cs s f =
+    let left : after_all in_name (cs ++ codes "x>") ≡ codes ">" = all_through in_name cs (codes "x>") f in
+    let whole : (c ∷ cs) ++ codes "x>" ≡ ((c ∷ cs) ++ 120 ∷ []) ++ codes ">" = sym (append_assoc (c ∷ cs) (120 ∷ []) (codes ">")) in
+    ap (λ o. o >>= ending) (block_name_reads c (cs ++ codes "x>") s ∙ ap (if_block ((c ∷ cs) ++ codes "x>")) left
+    ∙ block_on ((c ∷ cs) ++ codes "x>") (codes ">") ((c ∷ cs) ++ 120 ∷ []) whole (longer_name (c ∷ cs)))
+
+-- the name of a block and white space
+name_white_goes : (c : ℕ) (cs : List ℕ) (x : ℕ) (xs : List ℕ) → starts_name c ≡ true → after_all in_name cs ≡ x ∷ xs → is_none (after_all is_white (x ∷ xs)) ≡ true → has_text (read_part (c ∷ cs) (x ∷ xs)) barred ≡ false
+    → block_goes (c ∷ cs) (codes ">")
+name_white_goes c cs x xs s f white free =
+    let r = word_read (c ∷ cs) (x ∷ xs) (name_some c cs s ∙ ap Some f) in
+    let part : read_part (c ∷ cs) (x ∷ xs) ≡ r.0 ∷ r.1 = ap (λ l. read_part l (x ∷ xs)) r.2 ∙ read_front (r.0 ∷ r.1) (x ∷ xs) in
+    let whole : (c ∷ cs) ++ codes ">" ≡ (r.0 ∷ r.1) ++ ((x ∷ xs) ++ codes ">") = ap (λ l. l ++ codes ">") r.2 ∙ append_assoc (r.0 ∷ r.1) (x ∷ xs) (codes ">") in
+    ap (λ o. o >>= ending) (block_name_reads c (cs ++ codes ">") s ∙ ap (if_block ((c ∷ cs) ++ codes ">")) (all_left in_name cs x xs (codes ">") f)
+    ∙ block_on ((c ∷ cs) ++ codes ">") ((x ∷ xs) ++ codes ">") (r.0 ∷ r.1) whole (ap (λ n. has_text n barred) (sym part) ∙ free))
+    ∙ ends_white (x ∷ xs) white
+
+both_sides : (a b : Bool) → (a && b) ≡ true → (a ≡ true) × (b ≡ true)
+both_sides true b e = (refl, e)
+both_sides false b e = let r : ⊥ = cc in absurd r
+
+not_that : (b : Bool) → not b ≡ true → b ≡ false
+not_that false e = refl
+not_that true e = let r : ⊥ = cc in absurd r
+
+-- after `:`, as the whole of an end tag
+slot_goes : (b : ℕ) (bs more : List ℕ) → is_small b ≡ false → is_capital b ≡ false → eqb 58 b ≡ true → block_goes bs more → Goes (b ∷ bs)
+slot_goes b bs more f g t e =
+    let here : after (codes ":") ((b ∷ bs) ++ more) ≡ Some (bs ++ more) = rw t refl in
+    (more, ap (λ o. o >>= ending) (label_slot ((b ∷ bs) ++ more) (element_none b (bs ++ more) f g) ∙ ap (λ o. o >>= after_block_name) here) ∙ e)
+
+first_whole : block_goes [] (codes "a>")
+unfolding after_block_name
+first_whole = refl
+
+slot_name_goes : (bs : List ℕ) → slot_begun bs ≡ true → (more : List ℕ) × block_goes bs more
+unfolding slot_begun
+slot_name_goes [] e = (codes "a>", first_whole)
+slot_name_goes (c ∷ cs) e = by_first (starts_name c) refl where
+  by_left : (left : List ℕ) → starts_name c ≡ true → after_all in_name cs ≡ left → block_begun (c ∷ cs) left ≡ true → (more : List ℕ) × block_goes (c ∷ cs) more
+  by_left [] s f g = (codes "x>", name_ends_goes c cs s f)
+  by_left (x ∷ xs) s f g =
+      let k = both_sides (is_none (after_all is_white (x ∷ xs))) (not (has_text (read_part (c ∷ cs) (x ∷ xs)) barred)) g in
+      (codes ">", name_white_goes c cs x xs s f k.0 (not_that (has_text (read_part (c ∷ cs) (x ∷ xs)) barred) k.1))
+
+  by_first : (t : Bool) → starts_name c ≡ t → (more : List ℕ) × block_goes (c ∷ cs) more
+  by_first true s = by_left (after_all in_name cs) s refl (sym (ap (block_or_none (c ∷ cs)) (name_some c cs s)) ∙ e)
+  by_first false s =
+      let none : after_name (c ∷ cs) ≡ None = rw s refl in
+      let differs : true ≡ false = sym e ∙ ap (block_or_none (c ∷ cs)) none in
+      let r : ⊥ = cc in
+      absurd r
+
+other_goes : (b : ℕ) (bs : List ℕ) → is_small b ≡ false → is_capital b ≡ false → slot_or_none (b ∷ bs) (after (codes ":") (b ∷ bs)) ≡ true → Goes (b ∷ bs)
+other_goes b bs f g e = by_sign (eqb 58 b) refl where
+  by_sign : (t : Bool) → eqb 58 b ≡ t → Goes (b ∷ bs)
+  by_sign true t =
+      let here : after (codes ":") (b ∷ bs) ≡ Some bs = rw t refl in
+      let r = slot_name_goes bs (sym (ap (slot_or_none (b ∷ bs)) here) ∙ e) in
+      slot_goes b bs r.0 f g t r.1
+  by_sign false t =
+      let here : after (codes ":") (b ∷ bs) ≡ None = rw t refl in
+      let differs : true ≡ false = sym e ∙ ap (slot_or_none (b ∷ bs)) here in
+      let r : ⊥ = cc in
+      absurd r
 
 name_goes : (name : List ℕ) → name_begun name ≡ true → Goes name
 unfolding name_begun
@@ -321,13 +504,10 @@ name_goes (b ∷ bs) e = by_first (is_small b) (is_capital b) refl refl where
   by_first : (s c : Bool) → is_small b ≡ s → is_capital b ≡ c → Goes (b ∷ bs)
   by_first true c f g = small_goes b bs f (sym (ap (tag_or_class (b ∷ bs)) (tag_read b bs f)) ∙ e)
   by_first false true f g = class_goes b bs g (sym (ap (tag_or_class (b ∷ bs)) (tag_none b bs f) ∙ ap (class_or_none (b ∷ bs)) (element_class b bs g)) ∙ e)
-  by_first false false f g =
-      let differs : true ≡ false = sym e ∙ ap (tag_or_class (b ∷ bs)) (tag_none b bs f) ∙ ap (class_or_none (b ∷ bs)) (element_none b bs f g) in
-      let r : ⊥ = cc in
-      absurd r
+  by_first false false f g = other_goes b bs f g (sym (ap (tag_or_class (b ∷ bs)) (tag_none b bs f) ∙ ap (class_or_none (b ∷ bs)) (element_none b bs f g)) ∙ e)
 
 whole_tag : after_end_tag (codes "</" ++ codes "a>") ≡ Some []
-unfolding after_end_tag after_element_name
+unfolding after_end_tag after_label after_element_name
 whole_tag = refl
 
 pub end_tag_goes : (bs : List ℕ) → end_tag_begun bs ≡ true → (more : List ℕ) × (after_end_tag (bs ++ more) ≡ Some [])
@@ -339,4 +519,4 @@ end_tag_goes bs e = by_front (after (codes "</") bs) refl e where
       (r.0 ++ codes "a>", ap after_end_tag (sym (append_assoc bs r.0 (codes "a>")) ∙ ap (λ l. l ++ codes "a>") (sym r.1)) ∙ whole_tag)
   by_front (Some name) f g =
       let more = name_goes name g in
-      (more.0, end_tag_reads (bs ++ more.0) ∙ ap (λ o. o >>= λ l. (after_element_name l >>= ending)) (after_more (codes "</") bs more.0 name f) ∙ more.1)
+      (more.0, end_tag_reads (bs ++ more.0) ∙ ap (λ o. o >>= λ l. (after_label l >>= ending)) (after_more (codes "</") bs more.0 name f) ∙ more.1)

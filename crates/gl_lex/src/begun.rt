@@ -5,7 +5,7 @@ ghost use Rattle.gl_lex.specs.Begun as d;
 
 use crate::class::Class;
 use crate::scan::{after, after_word, begins};
-use crate::words::{after_element_name, after_white};
+use crate::words::{after_element_name, after_name, after_white, is_barred, read_part};
 use gl_ast::Mode;
 
 // Whether nothing is left after the name of an end tag but white space, or where it is a class the front of `::`.
@@ -13,6 +13,24 @@ fn class_begun(end: &[u8]) -> bool
     ensures { result ≡ d.class_begun end.now }
 {
     after_white(end).is_empty() || begins(end, b"::")
+}
+
+// Whether the bytes after `</:` may go on to the end of an end tag.
+#[tactic(auto, unfolding(crate::specs::Begun::slot_begun))]
+fn slot_begun(bytes: &[u8]) -> bool
+    ensures { result ≡ d.slot_begun bytes.now }
+{
+    match after_name(bytes) {
+        Some(end) => block_begun(bytes, end),
+        None => bytes.is_empty(),
+    }
+}
+
+// Whether nothing is left after a name in the end tag of a block, or white space after the name of a block.
+fn block_begun(bytes: &[u8], end: &[u8]) -> bool
+    ensures { result ≡ d.block_begun bytes.now end.now }
+{
+    end.is_empty() || after_white(end).is_empty() && !is_barred(read_part(bytes, end))
 }
 
 // Whether the bytes after `</` may go on to the end of an end tag.
@@ -23,8 +41,11 @@ fn name_begun(bytes: &[u8]) -> bool
     if let Some(end) = after_word(Class::Small, Class::Tag, bytes) {
         return after_white(end).is_empty();
     }
-    match after_element_name(bytes) {
-        Some(end) => class_begun(end),
+    if let Some(end) = after_element_name(bytes) {
+        return class_begun(end);
+    }
+    match after(b":", bytes) {
+        Some(name) => slot_begun(name),
         None => bytes.is_empty(),
     }
 }
@@ -43,7 +64,7 @@ fn end_tag_begun(bytes: &[u8]) -> bool
 fn content_begun(bytes: &[u8]) -> bool
     ensures { result ≡ d.content_begun bytes.now }
 {
-    begins(bytes, b"<!--") || begins(b"<!--", bytes) || end_tag_begun(bytes)
+    begins(bytes, b"<!--") || begins(b"<!--", bytes) || end_tag_begun(bytes) || begins(bytes, b"<:")
 }
 
 #[tactic(auto, unfolding(crate::specs::Begun::tag_begun))]

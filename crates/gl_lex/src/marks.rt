@@ -7,7 +7,7 @@ ghost use Rattle.gl_lex.specs.Clear.{IsClear};
 
 use crate::scan::{after, after_any, from_first};
 use crate::sign::Sign;
-use crate::words::{after_element_name, after_white};
+use crate::words::{after_label, after_white};
 
 /// After an end tag.
 #[tactic(auto, unfolding(gl_ast::specs::Words::after_end_tag))]
@@ -15,17 +15,17 @@ pub fn after_end_tag(bytes: &[u8]) -> Option<&[u8]>
     ensures { option_map (λ r. r.now) result ≡ w.after_end_tag bytes.now }
 {
     let name = after(b"</", bytes)?;
-    let end = after_element_name(name)?;
+    let end = after_label(name)?;
     after(b">", after_white(end))
 }
 
-/// After `<` and a name.
+/// After `<` and what the tag names.
 #[tactic(auto, unfolding(gl_ast::specs::Words::after_tag_opening))]
 pub fn after_tag_opening(bytes: &[u8]) -> Option<&[u8]>
     ensures { option_map (λ r. r.now) result ≡ w.after_tag_opening bytes.now }
 {
     let name = after(b"<", bytes)?;
-    after_element_name(name)
+    after_label(name)
 }
 
 /// After `<!--` and all up to the first `-->`.

@@ -1,5 +1,5 @@
 // The words of a template: names, paths, numbers, strings and parameters. Each function gives what is left after one.
-ghost use Rattle.std.specs.Prelude.{◌≡◌, ◌∷◌, [], IsTrue, option_map, map};
+ghost use Rattle.std.specs.Prelude.{◌≡◌, ◌∷◌, ◌-◌, [], IsTrue, option_map, map, length, drop};
 ghost use Rattle.std.specs.List.{list_any};
 ghost use Rattle.std.specs.Str.{bytes_eq};
 ghost use Rattle.gl_base.specs.Names.{has_text};
@@ -21,8 +21,8 @@ const RESERVED: [&str; 7] = [
     "yield",
 ];
 
-// What was read where `rest` is left.
-fn read_part<'a>(bytes: &'a [u8], rest: &[u8]) -> &'a [u8]
+/// What was read where `rest` is left.
+pub fn read_part<'a>(bytes: &'a [u8], rest: &[u8]) -> &'a [u8]
     ensures { result.now ≡ w.read_part bytes.now rest.now }
 {
     &bytes[..bytes.len().saturating_sub(rest.len())]
@@ -40,6 +40,13 @@ fn is_reserved(name: &[u8]) -> bool
     ensures { result ≡ has_text name.now w.reserved }
 {
     is_one_of(&RESERVED, name)
+}
+
+/// Whether no block has the name.
+pub fn is_barred(name: &[u8]) -> bool
+    ensures { result ≡ has_text name.now w.barred }
+{
+    name == b"inverse".as_slice() || is_reserved(name)
 }
 
 /// After white space, or none.
@@ -75,6 +82,34 @@ fn after_free_name(bytes: &[u8]) -> Option<&[u8]>
     Some(rest)
 }
 
+// What is left of a name without its last character, where `rest` is left of it.
+fn from_last<'a>(bytes: &'a [u8], rest: &[u8]) -> &'a [u8]
+    ensures { result.now ≡ drop (length bytes.now - length rest.now - 1) bytes.now }
+{
+    &bytes[bytes.len().saturating_sub(rest.len()).saturating_sub(1)..]
+}
+
+// After the longest name of a block.
+#[tactic(auto, unfolding(gl_ast::specs::Words::after_block_name))]
+fn after_block_name(bytes: &[u8]) -> Option<&[u8]>
+    ensures { option_map (λ r. r.now) result ≡ w.after_block_name bytes.now }
+{
+    let rest = after_name(bytes)?;
+    if is_barred(read_part(bytes, rest)) {
+        return Some(from_last(bytes, rest));
+    }
+    Some(rest)
+}
+
+// After `:` and the name of a block.
+#[tactic(auto, unfolding(gl_ast::specs::Words::after_slot_name))]
+fn after_slot_name(bytes: &[u8]) -> Option<&[u8]>
+    ensures { option_map (λ r. r.now) result ≡ w.after_slot_name bytes.now }
+{
+    let name = after(b":", bytes)?;
+    after_block_name(name)
+}
+
 // After a part of a class name.
 fn after_class_part(bytes: &[u8]) -> Option<&[u8]>
     ensures { option_map (λ r. r.now) result ≡ w.after_class_part bytes.now }
@@ -107,6 +142,17 @@ pub fn after_element_name(bytes: &[u8]) -> Option<&[u8]>
     match after_word(Class::Small, Class::Tag, bytes) {
         Some(rest) => Some(rest),
         None => after_class(bytes),
+    }
+}
+
+/// After what a tag names: an element, a class, or a block that is passed.
+#[tactic(auto, unfolding(gl_ast::specs::Words::after_label))]
+pub fn after_label(bytes: &[u8]) -> Option<&[u8]>
+    ensures { option_map (λ r. r.now) result ≡ w.after_label bytes.now }
+{
+    match after_element_name(bytes) {
+        Some(rest) => Some(rest),
+        None => after_slot_name(bytes),
     }
 }
 

@@ -1,13 +1,14 @@
 -- In a template that some bytes spell each parameter has a symbol, and an `each` has two at most.
-use Rattle.std.proofs.Common.{◌≡◌, ℕ, zero, suc, List, [], ◌∷◌, ◌++◌, length, Bool, true, ◌&&◌, refl, ◌∙◌, ap, arith}
+use Rattle.std.proofs.Common.{◌≡◌, ℕ, zero, suc, List, [], ◌∷◌, ◌++◌, length, Bool, true, ◌&&◌, refl, ◌∙◌, ap, inl, inr, arith}
 use Rattle.std.specs.Prelude.{nat_le}
 use Rattle.std.proofs.Math.Bool.{Bool-set}
 use Rattle.std.proofs.Math.Logic.{∥∥₁_elim}
 use Rattle.std.proofs.lemmas.Bool.{le-leb, leb-true}
 use Rattle.gl_base.specs.Texts.{Text}
+use Rattle.gl_ast.specs.Canon.{is_own_block}
 use Rattle.gl_ast.specs.Grammar.{deepest_nesting, IsTemplate}
 use Rattle.gl_ast.specs.Template.{Stmt, text_stmt, comment_stmt, put, element, component_stmt, if_stmt, each, let_stmt, yield, Body, end, stmt, Slots, no_slots, block}
-use Rattle.gl_show.specs.Spellable.{CanStmt, CanBody, CanSlots}
+use Rattle.gl_show.specs.Spellable.{CanStmt, CanBody, CanSlots, CanBlocks}
 use Rattle.gl_show.proofs.CanStmts.{spelled_can}
 use Rattle.gl_wire.specs.Symbols.{expr_mentions, exprs_mentions, parts_mentions, arguments_mentions, body_mentions, stmt_mentions, slots_mentions, symbols_of}
 use Rattle.gl_opc.proofs.SameNames.{Among, front_among, back_among, once_among, lone_among}
@@ -35,6 +36,11 @@ abbrev mutual
 and_true : (a b : Bool) → a ≡ true → b ≡ true → (a && b) ≡ true
 and_true a b e f = ap (λ t. t && b) e ∙ f
 
+-- behind a block that stands for itself there is none
+own_few : (name : Text) (ss : Slots) → is_own_block name ss ≡ true → few_of ss ≡ true
+own_few name no_slots h = refl
+own_few name (block other ms c ss) h = let r : ⊥ = cc in absurd r
+
 mutual
   can_few : (depth : ℕ) (s : Stmt) → CanStmt depth s → few s ≡ true
   can_few depth (text_stmt s) h = refl
@@ -59,8 +65,13 @@ mutual
 
   can_few_of : (depth : ℕ) (ss : Slots) → CanSlots depth ss → few_of ss ≡ true
   can_few_of depth no_slots h = refl
-  can_few_of depth (block name ns b no_slots) h = and_true (few_in b) true (can_few_in depth b h.2) refl
-  can_few_of depth (block name ns b (block more ms c ss)) h = absurd h
+  can_few_of zero (block name ns b ss) h = and_true (few_in b) (few_of ss) (can_few_in zero b h.2) (own_few name ss h.0)
+  can_few_of (suc depth) (block name ns b ss) (inl h) = and_true (few_in b) (few_of ss) (can_few_in (suc depth) b h.2) (own_few name ss h.0)
+  can_few_of (suc depth) (block name ns b ss) (inr h) = and_true (few_in b) (few_of ss) (can_few_in depth b h.3) (can_few_blocks depth ss h.4)
+
+  can_few_blocks : (depth : ℕ) (ss : Slots) → CanBlocks depth ss → few_of ss ≡ true
+  can_few_blocks depth no_slots h = refl
+  can_few_blocks depth (block name ns b ss) h = and_true (few_in b) (few_of ss) (can_few_in depth b h.2) (can_few_blocks depth ss h.3)
 
 template_few : (b : Body) → IsTemplate b → few_in b ≡ true
 template_few b h = ∥∥₁_elim h (Bool-set (few_in b) true) (λ s. can_few_in deepest_nesting b (spelled_can s.0 b s.1))

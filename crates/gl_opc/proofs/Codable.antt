@@ -1,16 +1,17 @@
 -- The trees of which a code can be made: their literals are of one word, and none of their bare names begins with `@`. Those
 -- that some bytes spell are among them.
-use Rattle.std.proofs.Common.{◌≡◌, ℕ, zero, suc, List, [], ◌∷◌, Bool, true, false, ◌==◌, arith}
+use Rattle.std.proofs.Common.{◌≡◌, ℕ, zero, suc, List, [], ◌∷◌, Bool, true, false, ◌==◌, inl, inr, arith}
 use Rattle.std.proofs.Math.Bool.{Bool-set}
 use Rattle.std.proofs.Math.Logic.{∥∥₁_elim}
 use Rattle.std.proofs.lemmas.Bool.Decides.{nat_tests}
 use Rattle.gl_base.specs.Texts.{Text}
 use Rattle.gl_value.specs.Value as v
+use Rattle.gl_ast.specs.Canon.{is_own_block}
 use Rattle.gl_ast.specs.Grammar.{deepest_calls, deepest_nesting, IsTemplate, SpellsExpr}
 use Rattle.gl_ast.specs.Marks.{starts_name}
 use Rattle.gl_ast.specs.Template.{Plain, Expr, literal, this, argument, bare, call, cat, Exprs, no_exprs, expr, NamedExprs, no_named, named_expr, AttrValue, fixed, live, Part, attribute, modifier, spread, Stmt, text_stmt, comment_stmt, put, element, component_stmt, if_stmt, each, let_stmt, yield, Body, end, stmt, Slots, no_slots, block}
 use Rattle.gl_ast.proofs.Forward.{both}
-use Rattle.gl_show.specs.Spellable.{is_name, CanLiteral, CanExpr, CanExprs, CanNamed, CanInner, CanQuotedPart, needs_text, CanQuoted, CanCat, CanValue, CanPart, CanParts, CanArguments, CanStmt, CanBody, CanSlots}
+use Rattle.gl_show.specs.Spellable.{is_name, CanLiteral, CanExpr, CanExprs, CanNamed, CanInner, CanQuotedPart, needs_text, CanQuoted, CanCat, CanValue, CanPart, CanParts, CanArguments, CanStmt, CanBody, CanSlots, CanBlocks}
 use Rattle.gl_show.proofs.CanStmts.{spelled_can, spelled_expr_can}
 
 abbrev pub CodablePlain : Plain → Type 0
@@ -218,6 +219,11 @@ arguments_codable : (given : List (Text × AttrValue)) → CanArguments given �
 arguments_codable [] h = tt
 arguments_codable (g ∷ given) h = (value_codable g.1 h.1, arguments_codable given h.2)
 
+-- behind a block that stands for itself there is none
+own_codable : (name : Text) (ss : Slots) → is_own_block name ss ≡ true → CodableSlots ss
+own_codable name no_slots h = tt
+own_codable name (block other ms c ss) h = let r : ⊥ = cc in absurd r
+
 mutual
   stmt_codable : (depth : ℕ) (s : Stmt) → CanStmt depth s → CodableStmt s
   stmt_codable depth (text_stmt s) h = tt
@@ -241,8 +247,13 @@ mutual
 
   slots_codable : (depth : ℕ) (ss : Slots) → CanSlots depth ss → CodableSlots ss
   slots_codable depth no_slots h = tt
-  slots_codable depth (block name ns b no_slots) h = (body_codable depth b h.2, tt)
-  slots_codable depth (block name ns b (block more ms c ss)) h = absurd h
+  slots_codable zero (block name ns b ss) h = (body_codable zero b h.2, own_codable name ss h.0)
+  slots_codable (suc depth) (block name ns b ss) (inl h) = (body_codable (suc depth) b h.2, own_codable name ss h.0)
+  slots_codable (suc depth) (block name ns b ss) (inr h) = (body_codable depth b h.3, blocks_codable depth ss h.4)
+
+  blocks_codable : (depth : ℕ) (ss : Slots) → CanBlocks depth ss → CodableSlots ss
+  blocks_codable depth no_slots h = tt
+  blocks_codable depth (block name ns b ss) h = (body_codable depth b h.2, blocks_codable depth ss h.3)
 
 pub template_codable : (b : Body) → IsTemplate b → CodableBody b
 template_codable b h = ∥∥₁_elim h (body_prop b) (λ s. body_codable deepest_nesting b (spelled_can s.0 b s.1))

@@ -128,6 +128,9 @@ paren_last = record { path = refl; number = refl; string = refl; opening = refl 
 pub mustache_last : IsLast k.CloseMustache
 mustache_last = record { path = refl; number = refl; string = refl; opening = refl }
 
+pub equals_last : IsLast k.Equals
+equals_last = record { path = refl; number = refl; string = refl; opening = refl }
+
 pub parameters_last : IsLast k.Parameters
 parameters_last = record { path = refl; number = refl; string = refl; opening = refl }
 

@@ -6,7 +6,7 @@ use Rattle.gl_ast.specs.Grammar.{is_silent}
 use Rattle.gl_ast.specs.Template.{Stmt}
 use Rattle.gl_ast.specs.declared.token.Token.{Token}
 use Rattle.gl_ast.specs.declared.token.TokenKind.TheVariants as k
-use Rattle.gl_parse.specs.ReadStmt.{Reader, ends_body, is_end, stands_silent, stands_opened, read_stmts, read_body, read_nested, read_flat, read_block_with, read_stmt, read_chained}
+use Rattle.gl_parse.specs.ReadStmt.{Reader, ends_body, is_end, stands_silent, stands_opened, read_stmts, read_body, read_nested, read_flat, read_block_with, read_slots, read_stmt, read_filling, read_chained}
 use Rattle.gl_exprs.specs.Fault.{Fails}
 use Rattle.gl_exprs.specs.Take.{Taken, stands, stands_word}
 use Rattle.gl_exprs.specs.declared.fault.Misread.{Misread}
@@ -74,7 +74,7 @@ goes_end one list (t ∷ ts) all ends (zero, h, e) = absurd (omega (arith, h))
 goes_end one list (t ∷ ts) all ends (suc n, h, e) = sym (rw (end_loud t ts ends, ends) at e) ∙ ap (λ l. Some (l, t ∷ ts)) (append-nil list)
 
 -- at no depth, and deeper
-pub at_depth : (depth : ℕ) (ts : List Token) → 0 < depth → read_stmt depth ts ≡ read_nested (read_body (read_stmt (depth - 1))) (read_block_with (read_stmt (depth - 1)) (read_chained (depth - 1))) ts
+pub at_depth : (depth : ℕ) (ts : List Token) → 0 < depth → read_stmt depth ts ≡ read_nested (read_body (read_stmt (depth - 1))) (read_filling (depth - 1)) (read_block_with (read_stmt (depth - 1)) (read_chained (depth - 1))) ts
 unfolding read_stmt
 at_depth zero ts h = absurd (omega (arith, h))
 at_depth (suc depth) ts h = let e : suc depth - 1 ≡ depth = omega arith in rw e refl
@@ -93,6 +93,16 @@ pub chained_at_none : (depth : ℕ) (ts : List Token) → depth ≤ 0 → read_c
 unfolding read_chained
 chained_at_none zero ts h = refl
 chained_at_none (suc depth) ts h = absurd (omega (arith, h))
+
+pub filling_at_depth : (depth : ℕ) (ts : List Token) → 0 < depth → read_filling depth ts ≡ read_slots (read_body (read_stmt (depth - 1))) ts
+unfolding read_filling
+filling_at_depth zero ts h = absurd (omega (arith, h))
+filling_at_depth (suc depth) ts h = let e : suc depth - 1 ≡ depth = omega arith in rw e refl
+
+pub filling_at_none : (depth : ℕ) (ts : List Token) → depth ≤ 0 → read_filling depth ts ≡ None
+unfolding read_filling
+filling_at_none zero ts h = refl
+filling_at_none (suc depth) ts h = absurd (omega (arith, h))
 
 -- nothing that goes on after a reading can be read, where that can't
 pub fails_on : {A B : Type 0} (e : Misread) (o : Option A) (p : Option B) → (o ≡ None → p ≡ None) → Fails e o → Fails e p

@@ -1,27 +1,31 @@
 -- What meets the due of content is spelled: statements, and what ends them.
-use Rattle.std.proofs.Common.{◌≡◌, ◌⊎◌, ◌≤◌, ◌-◌, ℕ, zero, suc, List, [], ◌∷◌, Bool, true, false, not, ◌||◌, inl, inr, Some, None, length, refl, sym, ap, ◌∙◌, subst, arith}
-use Rattle.std.specs.Prelude.{if◌then◌else◌, codes, ◌==◌}
+use Rattle.std.proofs.Common.{◌≡◌, ◌⊎◌, ◌≤◌, ◌-◌, ℕ, zero, suc, List, [], ◌∷◌, ◌++◌, Bool, true, false, not, ◌||◌, inl, inr, Option, Some, None, length, refl, sym, ap, ◌∙◌, subst, arith}
+use Rattle.std.specs.Prelude.{if◌then◌else◌, codes, ◌==◌, is_some, ◌&&◌}
+use Rattle.std.specs.Str.{bytes_eq}
+use Rattle.gl_base.specs.Names.{has_text}
 use Rattle.std.proofs.lemmas.Bool.Decides.{nat_tests}
 use Rattle.gl_base.specs.Texts.{Text}
-use Rattle.gl_ast.specs.Grammar.{deepest_calls, Mark, IsExpr, AreItems, parts_among, arguments_among, IsEndTag, IsClosing, if_word, is_silent, after_silent, AreStmts, IsStmt, IsChained}
+use Rattle.gl_ast.specs.Grammar.{deepest_calls, Mark, IsExpr, AreItems, parts_among, arguments_among, AreParameters, IsEndTag, IsClosing, if_word, is_silent, after_silent, is_gap, are_new, slot_names, is_some_slot, IsSlot, AreSlots, AreStmts, IsStmt, IsChained}
 use Rattle.gl_ast.specs.Marks.{is_small, is_capital}
-use Rattle.gl_ast.specs.Template.{Expr, Exprs, expr, Stmt, text_stmt, comment_stmt, put, element, component_stmt, if_stmt, each, let_stmt, yield, Body, end, stmt}
-use Rattle.gl_ast.specs.TokenText.{decoded, comment_of, end_name_of, leads}
+use Rattle.gl_ast.specs.Template.{Expr, Exprs, expr, Stmt, text_stmt, comment_stmt, put, element, component_stmt, if_stmt, each, let_stmt, yield, Body, end, stmt, Slots, no_slots, block}
+use Rattle.gl_ast.specs.TokenText.{decoded, comment_of, end_name_of, parameters_of, leads}
 use Rattle.gl_ast.specs.declared.token.Token.{Token}
 use Rattle.gl_ast.specs.declared.token.TokenKind.TheVariants as k
 use Rattle.gl_exprs.specs.Take.{same_kind}
 use Rattle.gl_exprs.proofs.Firsts.{same_kind-is}
-use Rattle.gl_exprs.proofs.FirstTokens.{bytes_eq_is}
+use Rattle.gl_exprs.proofs.FirstTokens.{and_true, bytes_eq_is}
 use Rattle.gl_parse.specs.Due as d
-use Rattle.gl_parse.specs.Due.{Due, Dues, Stop, and_then, due_after, is_path_word, is_flat, is_end_of, takes_closing, takes_else, after_opening, starts_inner, starts_nested, starts_content, starts_opened, starts_head, starts_chained, starts_after_else, test_head, each_head, let_head}
-use Rattle.gl_parse.specs.ReadStmt.{only, word_of}
+use Rattle.gl_parse.specs.Due.{Due, Dues, Stop, and_then, due_after, is_path_word, is_flat, is_end_of, takes_closing, takes_else, after_opening, starts_inner, starts_nested, starts_content, starts_opened, starts_head, starts_chained, starts_after_else, starts_filling, starts_slots, starts_slot_tag, slot_due, test_head, each_head, let_head}
+use Rattle.gl_parse.specs.ReadStmt.{only, word_of, slot_name, is_slot_opening}
 use Rattle.gl_parse.proofs.Accepts.{accepts, fed, accepts_step}
 use Rattle.gl_parse.proofs.BlockLaws.{IsOtherwise, IsHead, block_stmt}
-use Rattle.gl_parse.proofs.ContentWays.{is_left, one_less, silent_flat}
-use Rattle.gl_parse.proofs.Falls.{stmt_falls}
+use Rattle.gl_parse.proofs.ContentWays.{is_left, one_less, silent_flat, gap_flat}
+use Rattle.gl_parse.proofs.Falls.{stmt_falls, body_falls, slot_falls}
+use Rattle.gl_parse.proofs.Gaps.{skip_gap, no_gap}
+use Rattle.gl_parse.proofs.Labels.{slot_name_is}
 use Rattle.gl_parse.proofs.HeadWays.{KeyTo, finds_key, ValuesTo, finds_values_to}
 use Rattle.gl_parse.proofs.ItemLaws.{allowed_parts}
-use Rattle.gl_parse.proofs.TagWays.{Tagged, Tag, FindsTagged, finds_tag}
+use Rattle.gl_parse.proofs.TagWays.{Tagged, Tag, Filled, FindsTagged, FindsFilled, finds_tag}
 use Rattle.gl_parse.proofs.Ways.{Found, Finds, never, came, fed_if, fed_more, mark_of, finds_kind, word_is, finds_word, finds_expr, Inner, finds_inner, Values, finds_values}
 
 abbrev Closed : Text → List Token → List Token → Type 0
@@ -171,8 +175,8 @@ opened_found depth n next chained stop ds t (u ∷ us) l s e h =
       ]
     ] where
       by_values : is_path_word (codes "yield") u ≡ true → Found Values (d.content depth stop ∷ ds) us → Content depth stop ds (t ∷ u ∷ us)
-      by_values f (vs, (es, (xs, are, m)), g) =
-          then_more depth n next stop ds t (u ∷ us) l e (yield es (codes "default")) vs (refl, (u ∷ us, us, xs, mark_of k.OpenMustache t (u ∷ us) s, word_is (codes "yield") u us f, are, m)) g
+      by_values f (vs, (es, to, (xs, ys, are, to_is, m)), g) =
+          then_more depth n next stop ds t (u ∷ us) l e (yield es to) vs (u ∷ us, us, xs, ys, mark_of k.OpenMustache t (u ∷ us) s, word_is (codes "yield") u us f, are, to_is, m) g
 
       by_inner : Found Inner (d.content depth stop ∷ ds) (u ∷ us) → Content depth stop ds (t ∷ u ∷ us)
       by_inner (vs, (x, (xs, is, m)), g) = then_more depth n next stop ds t (u ∷ us) l e (put x) vs (u ∷ us, xs, mark_of k.OpenMustache t (u ∷ us) s, is, m) g
@@ -275,16 +279,16 @@ element_found depth stop ds t ts n e f c (us, (is, (ws, are, a, (b, r))), g) =
 pub sign_is : (c : ℕ) → not (c == 60) ≡ false → c ≡ 60
 sign_is c e = grind (arith, nat_tests)
 
-tag_opened : (depth : ℕ) → FindBody depth → (stop : Stop) (ds : List Due) (t : Token) (ts : List Token) (x : Text) → t.kind ≡ k.TagOpening → t.text ≡ x → fed (after_opening depth x) (d.content (suc depth) stop ∷ ds) ts ≡ true → Nested (suc depth) stop ds (t ∷ ts)
+tag_opened : (depth : ℕ) → FindBody depth → FindsFilled depth → (stop : Stop) (ds : List Due) (t : Token) (ts : List Token) (x : Text) → t.kind ≡ k.TagOpening → t.text ≡ x → fed (after_opening depth x) (d.content (suc depth) stop ∷ ds) ts ≡ true → Nested (suc depth) stop ds (t ∷ ts)
 unfolding after_opening
-tag_opened depth bodies stop ds t ts [] e f h = never h
-tag_opened depth bodies stop ds t ts (c ∷ n) e f h =
+tag_opened depth bodies filled stop ds t ts [] e f h = never h
+tag_opened depth bodies filled stop ds t ts (c ∷ n) e f h =
     elim (fed_if (not (c == 60)) None _ (d.content (suc depth) stop ∷ ds) ts h) [
       | inl p ↦ never p.1
       | inr p ↦ elim (fed_if (leads is_capital n) (Some (d.items n true depth ∷ [])) _ (d.content (suc depth) stop ∷ ds) ts p.1) [
-        | inl q ↦ component_found depth stop ds t ts n e (f ∙ ap (λ y. y ∷ n) (sign_is c p.0)) q.0 (finds_tag true n depth (tagged_found depth bodies) (d.content (suc depth) stop ∷ ds) ts q.1)
+        | inl q ↦ component_found depth stop ds t ts n e (f ∙ ap (λ y. y ∷ n) (sign_is c p.0)) q.0 (finds_tag true n depth (tagged_found depth bodies) filled (d.content (suc depth) stop ∷ ds) ts q.1)
         | inr q ↦ elim (fed_if (leads is_small n) (Some (d.items n false depth ∷ [])) None (d.content (suc depth) stop ∷ ds) ts q.1) [
-          | inl r ↦ element_found depth stop ds t ts n e (f ∙ ap (λ y. y ∷ n) (sign_is c p.0)) r.0 (finds_tag false n depth (tagged_found depth bodies) (d.content (suc depth) stop ∷ ds) ts r.1)
+          | inl r ↦ element_found depth stop ds t ts n e (f ∙ ap (λ y. y ∷ n) (sign_is c p.0)) r.0 (finds_tag false n depth (tagged_found depth bodies) filled (d.content (suc depth) stop ∷ ds) ts r.1)
           | inr r ↦ never r.1
         ]
       ]
@@ -295,15 +299,15 @@ block_opened depth bodies stop ds t ts e h = by_head (head_found depth bodies (d
   by_head : Found (HeadTo word_of depth) (d.content (suc depth) stop ∷ ds) ts → Nested (suc depth) stop ds (t ∷ ts)
   by_head (us, (s, (zs, is, closing)), g) = (s, (us, block_stmt depth (t ∷ ts) s us (ts, zs, mark_of k.OpenBlock t ts e, is, closing), g))
 
-nested_found : (depth : ℕ) → FindBody depth → FindNested (suc depth)
+nested_found : (depth : ℕ) → FindBody depth → FindsFilled depth → FindNested (suc depth)
 unfolding starts_nested
-nested_found depth bodies stop ds t ts e h =
+nested_found depth bodies filled stop ds t ts e h =
     let same : (if suc depth == 0 then None else and_then (d.content (suc depth) stop) (if same_kind t.kind k.OpenBlock then Some (d.head (suc depth - 1) ∷ []) else after_opening (suc depth - 1) t.text))
     ≡ and_then (d.content (suc depth) stop) (if same_kind t.kind k.OpenBlock then Some (d.head depth ∷ []) else after_opening depth t.text) = rw (is_left depth, one_less depth) refl in
     let g = fed_more (d.content (suc depth) stop) (if same_kind t.kind k.OpenBlock then Some (d.head depth ∷ []) else after_opening depth t.text) ds ts (subst (λ o. fed o ds ts ≡ true) same h) in
     elim (fed_if (same_kind t.kind k.OpenBlock) (Some (d.head depth ∷ [])) (after_opening depth t.text) (d.content (suc depth) stop ∷ ds) ts g) [
       | inl p ↦ block_opened depth bodies stop ds t ts p.0 p.1
-      | inr p ↦ tag_opened depth bodies stop ds t ts t.text (same_kind-is t.kind k.TagOpening (sym (ap (λ b. b || same_kind t.kind k.TagOpening) p.0) ∙ e)) refl p.1
+      | inr p ↦ tag_opened depth bodies filled stop ds t ts t.text (same_kind-is t.kind k.TagOpening (sym (ap (λ b. b || same_kind t.kind k.TagOpening) p.0) ∙ e)) refl p.1
     ]
 
 no_nested : FindNested zero
@@ -337,12 +341,171 @@ content_found depth nested chained (suc n) stop ds (t ∷ ts) l h =
 whole_found : (depth : ℕ) → FindNested depth → FindChained depth → FindBody depth
 whole_found depth nested chained stop ds ts h = let l : length ts ≤ length ts = omega arith in content_found depth nested chained (length ts) stop ds ts l h
 
-both_found : (depth : ℕ) → FindBody depth × FindChained depth
-both_found zero = (whole_found zero no_nested no_chained, no_chained)
-both_found (suc depth) =
-    let bodies = (both_found depth).0 in
-    (whole_found (suc depth) (nested_found depth bodies) (chained_found depth bodies), chained_found depth bodies)
+-- Blocks that are passed.
+
+-- the rest of such a block after its opening
+abbrev SlotRest : ℕ → Text → List Token → List Token → Type 0
+SlotRest depth n ts us = (ns : List Text) × (b : Body) × ((vs xs ys : List Token) × AreParameters ts ns vs × Mark k.TagEnd vs xs × AreStmts depth xs b ys × IsEndTag ys n us)
+
+slot_found : (depth : ℕ) → FindsTagged depth → (n : Text) → Finds (d.slot_tag depth n) (SlotRest depth n)
+unfolding due_after starts_slot_tag
+slot_found depth tagged n ds [] h = never h
+slot_found depth tagged n ds (t ∷ ts) h =
+    elim (fed_if (same_kind t.kind k.TagEnd) (Some (d.content depth (d.tag n) ∷ [])) _ ds ts (came (d.slot_tag depth n) ds t ts h)) [
+      | inl p ↦ by_body ts [] (t ∷ ts) (inl (refl, refl)) (mark_of k.TagEnd t ts p.0) (tagged n ds ts p.1)
+      | inr p ↦ elim (fed_if (same_kind t.kind k.Parameters) (Some (d.kind k.TagEnd ∷ d.content depth (d.tag n) ∷ [])) None ds ts p.1) [
+        | inl q ↦ let x = finds_kind k.TagEnd (d.content depth (d.tag n) ∷ ds) ts q.1 in
+            by_body x.0 (parameters_of t.text) ts (inr (t, refl, same_kind-is t.kind k.Parameters q.0, refl)) x.1 (tagged n ds x.0 x.2)
+        | inr q ↦ never q.1
+      ]
+    ] where
+      by_body : (xs : List Token) (ns : List Text) (vs : List Token) → AreParameters (t ∷ ts) ns vs → Mark k.TagEnd vs xs → Found (Tagged depth n) ds xs → Found (SlotRest depth n) ds (t ∷ ts)
+      by_body xs ns vs params m (us, (b, (ys, are, e)), g) = (us, (ns, b, (vs, xs, ys, params, m, are, e)), g)
+
+-- blocks after some with these names, and the end tag
+abbrev SlotsTo : ℕ → Text → List Text → List Token → List Token → Type 0
+SlotsTo depth n taken ts us = (ss : Slots) × (are_new taken (slot_names ss) ≡ true) × ((vs : List Token) × AreSlots depth ts ss vs × IsEndTag vs n us)
+
+-- the same of one at least
+abbrev SomeSlots : ℕ → Text → List Text → List Token → List Token → Type 0
+SomeSlots depth n taken ts us = (ss : Slots) × (is_some_slot ss ≡ true) × (are_new taken (slot_names ss) ≡ true) × ((vs : List Token) × AreSlots depth ts ss vs × IsEndTag vs n us)
+
+abbrev FindSlots : ℕ → ℕ → Type 0
+FindSlots depth limit = (n : Text) (taken : List Text) (ds : List Due) (ts : List Token) → length ts ≤ limit → accepts (d.slots depth n taken ∷ ds) ts ≡ true → Found (SlotsTo depth n taken) ds ts
+
+-- one more block in front
+one_more : (depth : ℕ) (n m : Text) (taken : List Text) (ns : List Text) (b : Body) (t : Token) (ts vs us : List Token) → is_gap t ≡ false → has_text m taken ≡ false → IsSlot (λ xs ys. AreStmts depth xs b ys) (t ∷ ts) m ns vs → SlotsTo (suc depth) n (taken ++ m ∷ []) vs us → SomeSlots (suc depth) n taken (t ∷ ts) us
+one_more depth n m taken ns b t ts vs us gap free is (ss, new, (xs, are, e)) =
+    let apart : are_new taken (slot_names (block m ns b ss)) ≡ true = rw free new in
+    (block m ns b ss, refl, apart, (xs, (vs, subst (λ l. IsSlot (λ ys zs. AreStmts depth ys b zs) l m ns vs) (sym (no_gap t ts gap)) is, are), e))
+
+either_false : (a b : Bool) → (a || b) ≡ false → (a ≡ false) × (b ≡ false)
+either_false true b e = let r : ⊥ = cc in absurd r
+either_false false b e = (refl, e)
+
+opening_kind : (t : Token) → is_slot_opening t ≡ true → t.kind ≡ k.TagOpening
+opening_kind t e = same_kind-is t.kind k.TagOpening (and_true (same_kind t.kind k.TagOpening) (is_some (slot_name t.text)) e).0
+
+opening_gap : (t : Token) → is_slot_opening t ≡ true → is_gap t ≡ false
+opening_gap t e = rw (opening_kind t e) refl
+
+opened_slots : (depth limit : ℕ) → FindBody depth → FindSlots (suc depth) limit → (n : Text) (taken : List Text) (ds : List Due) (t : Token) (ts : List Token) → length (t ∷ ts) ≤ suc limit → is_slot_opening t ≡ true → fed (slot_due (suc depth) n taken (slot_name t.text)) ds ts ≡ true → Found (SomeSlots (suc depth) n taken) ds (t ∷ ts)
+opened_slots depth limit bodies next n taken ds t ts l e h = by_name (slot_name t.text) refl h where
+  by_name : (o : Option Text) → slot_name t.text ≡ o → fed (slot_due (suc depth) n taken o) ds ts ≡ true → Found (SomeSlots (suc depth) n taken) ds (t ∷ ts)
+  by_name None f g = never g
+  by_name (Some m) f g =
+      elim (fed_if (suc depth == 0 || has_text m taken) None _ ds ts g) [
+        | inl p ↦ never p.1
+        | inr p ↦
+            let free = (either_false (suc depth == 0) (has_text m taken) p.0).1 in
+            let rest : accepts (d.slot_tag depth (58 ∷ m) ∷ d.slots (suc depth) n (taken ++ m ∷ []) ∷ ds) ts ≡ true =
+            ap (λ i. accepts (d.slot_tag i (58 ∷ m) ∷ d.slots (suc depth) n (taken ++ m ∷ []) ∷ ds) ts) (sym (one_less depth)) ∙ p.1 in
+            by_rest free (slot_found depth (tagged_found depth bodies) (58 ∷ m) (d.slots (suc depth) n (taken ++ m ∷ []) ∷ ds) ts rest)
+      ] where
+        by_rest : has_text m taken ≡ false → Found (SlotRest depth (58 ∷ m)) (d.slots (suc depth) n (taken ++ m ∷ []) ∷ ds) ts → Found (SomeSlots (suc depth) n taken) ds (t ∷ ts)
+        by_rest free (us, (ns, b, (vs, xs, ys, params, mark, are, closing)), g) =
+            let is : IsSlot (λ zs ws. AreStmts depth zs b ws) (t ∷ ts) m ns us = (ts, vs, xs, ys, (t, refl, opening_kind t e, slot_name_is t.text m f), params, mark, are, closing) in
+            let falls = slot_falls depth (body_falls depth) (t ∷ ts) m ns b us is in
+            let r = next n (taken ++ m ∷ []) ds us (omega (arith, l, falls)) g in
+            (r.0, one_more depth n m taken ns b t ts us r.0 (opening_gap t e) free is r.1, r.2)
+
+-- blocks after a gap
+slots_gap : (depth : ℕ) (t : Token) (ts : List Token) (ss : Slots) (us : List Token) → is_gap t ≡ true → AreSlots depth ts ss us → AreSlots depth (t ∷ ts) ss us
+slots_gap depth t ts no_slots us e are = skip_gap t ts e ∙ are
+slots_gap zero t ts (block m ns b ss) us e are = absurd are
+slots_gap (suc depth) t ts (block m ns b ss) us e (ws, is, more) = (ws, subst (λ l. IsSlot (λ xs ys. AreStmts depth xs b ys) l m ns ws) (sym (skip_gap t ts e)) is, more)
+
+gap_more : (depth : ℕ) (n : Text) (taken : List Text) (t : Token) (ts us : List Token) → is_gap t ≡ true → SlotsTo depth n taken ts us → SlotsTo depth n taken (t ∷ ts) us
+gap_more depth n taken t ts us e (ss, new, (vs, are, closing)) = (ss, new, (vs, slots_gap depth t ts ss vs e are, closing))
+
+slots_found : (depth : ℕ) → FindBody depth → (limit : ℕ) → FindSlots (suc depth) limit
+unfolding due_after starts_slots
+slots_found depth bodies limit n taken ds [] l h = never h
+slots_found depth bodies zero n taken ds (t ∷ ts) l h = absurd (omega (arith, l))
+slots_found depth bodies (suc limit) n taken ds (t ∷ ts) l h =
+    elim (fed_if (is_gap t) (Some (d.slots (suc depth) n taken ∷ [])) _ ds ts (came (d.slots (suc depth) n taken) ds t ts h)) [
+      | inl p ↦ let r = slots_found depth bodies limit n taken ds ts (omega (arith, l)) p.1 in (r.0, gap_more (suc depth) n taken t ts r.0 p.0 r.1, r.2)
+      | inr p ↦ elim (fed_if (is_slot_opening t) (slot_due (suc depth) n taken (slot_name t.text)) _ ds ts p.1) [
+        | inl q ↦ let r = opened_slots depth limit bodies (slots_found depth bodies limit) n taken ds t ts l q.0 q.1 in (r.0, (r.1.0, r.1.2, r.1.3), r.2)
+        | inr q ↦ elim (fed_if (same_kind t.kind k.EndTag && bytes_eq (end_name_of t.text) n) (Some []) None ds ts q.1) [
+          | inl r ↦ let both = and_true (same_kind t.kind k.EndTag) (bytes_eq (end_name_of t.text) n) r.0 in
+              (ts, (no_slots, refl, (t ∷ ts, no_gap t ts p.0, (t, refl, same_kind-is t.kind k.EndTag both.0, bytes_eq_is (end_name_of t.text) n both.1))), r.1)
+          | inr r ↦ never r.1
+        ]
+      ]
+    ]
+
+-- where a block may nest, its opening and what follows it are found
+abbrev FindOpened : ℕ → Type 0
+FindOpened depth = (n : Text) (ds : List Due) (t : Token) (ts : List Token) → is_slot_opening t ≡ true → fed (slot_due depth n [] (slot_name t.text)) ds ts ≡ true → Found (SomeSlots depth n []) ds (t ∷ ts)
+
+none_opened : FindOpened zero
+none_opened n ds t ts e h = by_name (slot_name t.text) h where
+  by_name : (o : Option Text) → fed (slot_due zero n [] o) ds ts ≡ true → Found (SomeSlots zero n []) ds (t ∷ ts)
+  by_name None g = never g
+  by_name (Some m) g = never g
+
+some_opened : (depth : ℕ) → FindBody depth → FindOpened (suc depth)
+some_opened depth bodies n ds t ts e h = let l : length (t ∷ ts) ≤ suc (length ts) = omega arith in opened_slots depth (length ts) bodies (slots_found depth bodies (length ts)) n [] ds t ts l e h
+
+-- statements after a gap
+body_gap : (depth : ℕ) (t : Token) (ts : List Token) (b : Body) (us : List Token) → is_gap t ≡ true → AreStmts depth ts b us → (c : Body) × AreStmts depth (t ∷ ts) c us
+body_gap depth t ts b us e are = by_token (is_silent t) refl where
+  silent : is_silent t ≡ true → (c : Body) → AreStmts depth ts c us → AreStmts depth (t ∷ ts) c us
+  silent f end are = let same : after_silent (t ∷ ts) ≡ after_silent ts = rw f refl in same ∙ are
+  silent f (stmt s c) (vs, is, more) = let same : after_silent ts ≡ after_silent (t ∷ ts) = rw f refl in (vs, subst (λ l. IsStmt depth l s vs) same is, more)
+
+  by_token : (x : Bool) → is_silent t ≡ x → (c : Body) × AreStmts depth (t ∷ ts) c us
+  by_token true f = (b, silent f b are)
+  by_token false f =
+      let s = flat_stmt depth t ts (gap_flat t e) f in
+      let same : t ∷ ts ≡ after_silent (t ∷ ts) = rw f refl in
+      (stmt s.0 b, (ts, subst (λ l. IsStmt depth l s.0 ts) same s.1, are))
+
+filled_gap : (depth : ℕ) (n : Text) (t : Token) (ts us : List Token) → is_gap t ≡ true → Filled depth n [] ts us → Filled depth n [] (t ∷ ts) us
+filled_gap depth n t ts us e (no_slots, (vs, inl own, closing)) = absurd own
+filled_gap depth n t ts us e (block x params b no_slots, (vs, inl (f, g, are), closing)) = let c = body_gap depth t ts b vs e are in (block x params c.0 no_slots, (vs, inl (f, g, c.1), closing))
+filled_gap depth n t ts us e (block x params b (block y ms c ss), (vs, inl own, closing)) = absurd own
+filled_gap depth n t ts us e (ss, (vs, inr (none, some, new, are), closing)) = (ss, (vs, inr (none, some, new, slots_gap depth t ts ss vs e are), closing))
+
+abbrev FindFilled : ℕ → ℕ → Type 0
+FindFilled depth limit = (n : Text) (ds : List Due) (ts : List Token) → length ts ≤ limit → accepts (d.filling depth n ∷ ds) ts ≡ true → Found (Filled depth n []) ds ts
+
+filled_found : (depth : ℕ) → FindsTagged depth → FindOpened depth → (limit : ℕ) → FindFilled depth limit
+unfolding due_after starts_filling
+filled_found depth tagged opened limit n ds [] l h = never h
+filled_found depth tagged opened zero n ds (t ∷ ts) l h = absurd (omega (arith, l))
+filled_found depth tagged opened (suc limit) n ds (t ∷ ts) l h =
+    elim (fed_if (is_gap t) (Some (d.filling depth n ∷ [])) _ ds ts (came (d.filling depth n) ds t ts h)) [
+      | inl p ↦ let r = filled_found depth tagged opened limit n ds ts (omega (arith, l)) p.1 in (r.0, filled_gap depth n t ts r.0 p.0 r.1, r.2)
+      | inr p ↦ elim (fed_if (is_slot_opening t) (slot_due depth n [] (slot_name t.text)) (starts_content depth (d.tag n) t) ds ts p.1) [
+        | inl q ↦ by_slots (opened n ds t ts q.0 q.1)
+        | inr q ↦ by_body (tagged n ds (t ∷ ts) (accepts_step (d.content depth (d.tag n)) ds t ts ∙ q.1))
+      ]
+    ] where
+      by_slots : Found (SomeSlots depth n []) ds (t ∷ ts) → Found (Filled depth n []) ds (t ∷ ts)
+      by_slots (us, (ss, some, new, (vs, are, closing)), g) = (us, (ss, (vs, inr (refl, some, new, are), closing)), g)
+
+      by_body : Found (Tagged depth n) ds (t ∷ ts) → Found (Filled depth n []) ds (t ∷ ts)
+      by_body (us, (b, (vs, are, closing)), g) = (us, (block (codes "default") [] b no_slots, (vs, inl (refl, refl, are), closing)), g)
+
+finds_filled : (depth : ℕ) → FindBody depth → FindOpened depth → FindsFilled depth
+finds_filled depth bodies opened n ds ts h = let l : length ts ≤ length ts = omega arith in filled_found depth (tagged_found depth bodies) opened (length ts) n ds ts l h
+
+-- all at every depth
+record AllFound (depth : ℕ) : Type 0 where
+  bodies : FindBody depth
+  heads : FindChained depth
+  filled : FindsFilled depth
+
+all_found : (depth : ℕ) → AllFound depth
+all_found zero = let bodies = whole_found zero no_nested no_chained in record { bodies = bodies; heads = no_chained; filled = finds_filled zero bodies none_opened }
+all_found (suc depth) =
+    let p = all_found depth in
+    let heads = chained_found depth p.bodies in
+    let bodies = whole_found (suc depth) (nested_found depth p.bodies p.filled) heads in
+    record { bodies = bodies; heads = heads; filled = finds_filled (suc depth) bodies (some_opened depth p.bodies) }
 
 -- what meets the due of content is statements and what ends them
 pub finds_body : (depth : ℕ) → FindBody depth
-finds_body depth = (both_found depth).0
+finds_body depth = (all_found depth).bodies

@@ -1,12 +1,14 @@
 -- Both ways for content: statements and what ends them.
-use Rattle.std.proofs.Common.{◌≡◌, ◌⊎◌, ◌-◌, ℕ, zero, suc, List, [], ◌∷◌, Bool, true, false, ◌&&◌, ◌||◌, inl, inr, Some, map, refl, sym, ap, ◌∙◌, subst, arith}
+use Rattle.std.proofs.Common.{◌≡◌, ◌⊎◌, ◌-◌, ℕ, zero, suc, List, [], ◌∷◌, ◌++◌, not, Bool, true, false, ◌&&◌, ◌||◌, inl, inr, Some, map, refl, sym, ap, ◌∙◌, subst, arith}
 use Rattle.std.specs.Prelude.{if◌then◌else◌, codes, ◌==◌}
 use Rattle.std.proofs.lemmas.Bool.Decides.{nat_tests}
+use Rattle.std.specs.List.{list_all}
+use Rattle.gl_base.specs.Names.{has_text}
 use Rattle.gl_base.specs.Texts.{Text}
-use Rattle.gl_ast.specs.Grammar.{deepest_calls, Mark, Word, IsExpr, AreExprs, IsMustache, part_item, AreParameters, IsClosing, if_word, is_silent, is_empty_text, after_silent, AreStmts, IsStmt, IsChained, is_some_expr}
-use Rattle.gl_ast.specs.Marks.{is_small, is_capital}
+use Rattle.gl_ast.specs.Grammar.{deepest_calls, Mark, Word, IsExpr, AreExprs, IsMustache, part_item, AreParameters, IsClosing, IsEndTag, if_word, is_silent, is_empty_text, after_silent, is_gap, after_gaps, AreStmts, IsStmt, IsChained, IsOwnBlock, AreSlots, are_new, slot_names, is_some_expr}
+use Rattle.gl_ast.specs.Marks.{is_white, is_small, is_capital}
 use Rattle.gl_ast.specs.Settling.{is_comment, is_text}
-use Rattle.gl_ast.specs.Template.{Expr, Exprs, no_exprs, expr, Stmt, text_stmt, comment_stmt, put, element, component_stmt, if_stmt, each, let_stmt, yield, Body, end, stmt}
+use Rattle.gl_ast.specs.Template.{Expr, Exprs, no_exprs, expr, Stmt, text_stmt, comment_stmt, put, element, component_stmt, if_stmt, each, let_stmt, yield, Body, end, stmt, Slots, no_slots, block}
 use Rattle.gl_ast.specs.TokenText.{end_name_of, leads}
 use Rattle.gl_ast.specs.declared.token.Token.{Token}
 use Rattle.gl_ast.specs.declared.token.TokenKind.{TokenKind}
@@ -15,15 +17,17 @@ use Rattle.gl_exprs.specs.Take.{same_kind, stands, stands_word}
 use Rattle.gl_exprs.proofs.Firsts.{is_same}
 use Rattle.gl_exprs.proofs.FirstTokens.{is_bytes_eq}
 use Rattle.gl_parse.specs.Due as d
-use Rattle.gl_parse.specs.Due.{Due, Dues, Stop, and_then, due_after, is_path_word, is_flat, is_end_of, takes_closing, takes_else, after_opening, starts_inner, starts_nested, starts_content, starts_opened, starts_head, starts_chained, starts_after_else, test_head, each_head, let_head}
-use Rattle.gl_parse.specs.ReadStmt.{stands_opened, word_of}
+use Rattle.gl_parse.specs.Due.{Due, Dues, Stop, and_then, due_after, is_path_word, is_flat, is_end_of, takes_closing, takes_else, after_opening, starts_inner, starts_nested, starts_content, starts_opened, starts_head, starts_chained, starts_after_else, starts_filling, starts_slots, starts_slot_tag, slot_due, test_head, each_head, let_head}
+use Rattle.gl_parse.specs.ReadStmt.{stands_opened, word_of, slot_name, is_slot_opening, stands_slot, stands_next}
 use Rattle.gl_parse.proofs.Accepts.{accepts, fed, accepts_step, fed_then}
 use Rattle.gl_parse.proofs.BlockLaws.{IsOtherwise, IsHead, IsBlock, stmt_block, chained_only}
 use Rattle.gl_parse.proofs.FlatLaws.{mustache_no_else, mustache_no_yield}
+use Rattle.gl_parse.proofs.Gaps.{skip_gap, no_gap, opens_slot, end_tag_no_next, stmts_no_next}
+use Rattle.gl_parse.proofs.Labels.{names_slot}
 use Rattle.gl_parse.proofs.HeadWays.{KeyTo, passes_key, ValuesTo, passes_values_to}
 use Rattle.gl_parse.proofs.ItemLaws.{parts_allowed, all_allowed}
 use Rattle.gl_parse.proofs.TagLaws.{not_capital}
-use Rattle.gl_parse.proofs.TagWays.{PassesTagged, comment_is, passes_tag}
+use Rattle.gl_parse.proofs.TagWays.{PassesTagged, PassesFilled, comment_is, passes_tag}
 use Rattle.gl_parse.proofs.Ways.{never, passes_token, passes_kind, is_word, passes_word, passes_expr, passes_inner, Values, passes_values}
 
 -- What a token leaves due.
@@ -219,7 +223,7 @@ none_pass : PassStmt zero
 none_pass stop ds ts (text_stmt x) us h = text_pass zero stop ds ts us (h.0, h.1, h.2)
 none_pass stop ds ts (comment_stmt x) us h = comment_pass zero stop ds ts us (h.0, h.1, h.2)
 none_pass stop ds ts (put e) us h = put_pass zero stop ds ts e us h
-none_pass stop ds ts (yield es to) us (e, (vs, ws, xs, m, w, are, n)) = yield_pass zero stop ds ts vs ws us m w (es, (xs, are, n))
+none_pass stop ds ts (yield es to) us (vs, ws, xs, ys, m, w, are, t, n) = yield_pass zero stop ds ts vs ws us m w (es, to, (xs, ys, are, t, n))
 none_pass stop ds ts s us h = absurd h
 
 -- statements with others in them
@@ -232,20 +236,20 @@ block_pass depth bodies chained s stop ds ts us (vs, ws, m, h, closing) =
     passes_token (d.content (suc depth) stop) ds (d.head depth ∷ d.content (suc depth) stop ∷ []) m.0 ts vs m.1 (block_due depth stop m.0 m.2)
     ∙ head_pass depth bodies chained s (d.content (suc depth) stop ∷ ds) vs ws us h closing
 
-some_pass : (depth : ℕ) → PassBody depth → PassChained depth → PassStmt (suc depth)
-some_pass depth bodies chained stop ds ts (text_stmt x) us h = text_pass (suc depth) stop ds ts us (h.0, h.1, h.2)
-some_pass depth bodies chained stop ds ts (comment_stmt x) us h = comment_pass (suc depth) stop ds ts us (h.0, h.1, h.2)
-some_pass depth bodies chained stop ds ts (put e) us h = put_pass (suc depth) stop ds ts e us h
-some_pass depth bodies chained stop ds ts (yield es to) us (e, (vs, ws, xs, m, w, are, n)) = yield_pass (suc depth) stop ds ts vs ws us m w (es, (xs, are, n))
-some_pass depth bodies chained stop ds ts (element n ps b) us (vs, ws, o, are, r) =
+some_pass : (depth : ℕ) → PassBody depth → PassChained depth → PassesFilled depth → PassStmt (suc depth)
+some_pass depth bodies chained filled stop ds ts (text_stmt x) us h = text_pass (suc depth) stop ds ts us (h.0, h.1, h.2)
+some_pass depth bodies chained filled stop ds ts (comment_stmt x) us h = comment_pass (suc depth) stop ds ts us (h.0, h.1, h.2)
+some_pass depth bodies chained filled stop ds ts (put e) us h = put_pass (suc depth) stop ds ts e us h
+some_pass depth bodies chained filled stop ds ts (yield es to) us (vs, ws, xs, ys, m, w, are, t, n) = yield_pass (suc depth) stop ds ts vs ws us m w (es, to, (xs, ys, are, t, n))
+some_pass depth bodies chained filled stop ds ts (element n ps b) us (vs, ws, o, are, r) =
     passes_token (d.content (suc depth) stop) ds (d.items n false depth ∷ d.content (suc depth) stop ∷ []) o.0 ts vs o.1 (element_due depth stop o.0 n o.2 o.3.0 o.3.1)
-    ∙ passes_tag false n depth (tagged_pass depth bodies) (d.content (suc depth) stop ∷ ds) vs us (map part_item ps, (ws, are, parts_allowed ps, (b, r)))
-some_pass depth bodies chained stop ds ts (component_stmt n ps given ss) us (is, ns, (vs, ws, xs, o, are, e, f, params, r)) =
+    ∙ passes_tag false n depth (tagged_pass depth bodies) filled (d.content (suc depth) stop ∷ ds) vs us (map part_item ps, (ws, are, parts_allowed ps, (b, r)))
+some_pass depth bodies chained filled stop ds ts (component_stmt n ps given ss) us (is, ns, (vs, ws, xs, o, are, e, f, params, r)) =
     passes_token (d.content (suc depth) stop) ds (d.items n true depth ∷ d.content (suc depth) stop ∷ []) o.0 ts vs o.1 (component_due depth stop o.0 n o.2 o.3.0 o.3.1)
-    ∙ passes_tag true n depth (tagged_pass depth bodies) (d.content (suc depth) stop ∷ ds) vs us (is, (ws, are, all_allowed is, (ns, ss, (xs, params, r))))
-some_pass depth bodies chained stop ds ts (if_stmt e unless b c) us h = block_pass depth bodies chained (if_stmt e unless b c) stop ds ts us (stmt_block depth ts (if_stmt e unless b c) us refl h)
-some_pass depth bodies chained stop ds ts (each e key ns b c) us h = block_pass depth bodies chained (each e key ns b c) stop ds ts us (stmt_block depth ts (each e key ns b c) us refl h)
-some_pass depth bodies chained stop ds ts (let_stmt es ns b) us h = block_pass depth bodies chained (let_stmt es ns b) stop ds ts us (stmt_block depth ts (let_stmt es ns b) us refl h)
+    ∙ passes_tag true n depth (tagged_pass depth bodies) filled (d.content (suc depth) stop ∷ ds) vs us (is, (ws, are, all_allowed is, (ns, ss, (xs, params, r))))
+some_pass depth bodies chained filled stop ds ts (if_stmt e unless b c) us h = block_pass depth bodies chained (if_stmt e unless b c) stop ds ts us (stmt_block depth ts (if_stmt e unless b c) us refl h)
+some_pass depth bodies chained filled stop ds ts (each e key ns b c) us h = block_pass depth bodies chained (each e key ns b c) stop ds ts us (stmt_block depth ts (each e key ns b c) us refl h)
+some_pass depth bodies chained filled stop ds ts (let_stmt es ns b) us h = block_pass depth bodies chained (let_stmt es ns b) stop ds ts us (stmt_block depth ts (let_stmt es ns b) us refl h)
 
 -- one statement after another
 
@@ -280,13 +284,137 @@ heads_pass depth bodies chained w ds ts c us zs h closing =
 no_head : PassChained zero
 no_head w ds ts c us zs h closing = absurd h
 
-both_pass : (depth : ℕ) → PassStmt depth × PassChained depth
-both_pass zero = (none_pass, no_head)
-both_pass (suc depth) =
-    let p = both_pass depth in
-    let bodies : PassBody depth = λ stop ds ts b us h. body_pass depth p.0 b stop ds ts us h in
-    (some_pass depth bodies p.1, heads_pass depth bodies p.1)
+-- Blocks that are passed.
+
+pub gap_flat : (t : Token) → is_gap t ≡ true → is_flat t ≡ true
+gap_flat t e = by_kind (is_comment t.kind) (is_text t.kind) refl refl e where
+  by_kind : (a b : Bool) → is_comment t.kind ≡ a → is_text t.kind ≡ b → (a || (b && list_all is_white t.text)) ≡ true → is_flat t ≡ true
+  by_kind true b f g h = rw (comment_is t.kind f) refl
+  by_kind false true f g h = rw (text_kind t.kind g) refl
+  by_kind false false f g h = never h
+
+gap_due : (depth : ℕ) (n : Text) (t : Token) → is_gap t ≡ true → due_after (d.filling depth n) t ≡ Some (d.filling depth n ∷ [])
+unfolding due_after starts_filling
+gap_due depth n t e = rw e refl
+
+later_gap : (depth : ℕ) (n : Text) (taken : List Text) (t : Token) → is_gap t ≡ true → due_after (d.slots depth n taken) t ≡ Some (d.slots depth n taken ∷ [])
+unfolding due_after starts_slots
+later_gap depth n taken t e = rw e refl
+
+-- gaps are passed over
+over_gaps : (x : Due) → ((t : Token) → is_gap t ≡ true → due_after x t ≡ Some (x ∷ [])) → (ds : List Due) (ts : List Token) → accepts (x ∷ ds) ts ≡ accepts (x ∷ ds) (after_gaps ts)
+over_gaps x due ds [] = refl
+over_gaps x due ds (t ∷ ts) = by_token (is_gap t) refl (over_gaps x due ds ts) where
+  by_token : (b : Bool) → is_gap t ≡ b → accepts (x ∷ ds) ts ≡ accepts (x ∷ ds) (after_gaps ts) → accepts (x ∷ ds) (t ∷ ts) ≡ accepts (x ∷ ds) (if b then after_gaps ts else t ∷ ts)
+  by_token true e more = passes_token x ds (x ∷ []) t (t ∷ ts) ts refl (due t e) ∙ more
+  by_token false e more = refl
+
+content_instead : (depth : ℕ) (n : Text) (t : Token) → is_gap t ≡ false → is_slot_opening t ≡ false → due_after (d.filling depth n) t ≡ due_after (d.content depth (d.tag n)) t
+unfolding due_after starts_filling
+content_instead depth n t e f = rw (e, f) refl
+
+-- where no block comes next, statements do
+filling_content : (depth : ℕ) (n : Text) (ds : List Due) (ts : List Token) → stands_next ts ≡ false → accepts (d.filling depth n ∷ ds) ts ≡ accepts (d.content depth (d.tag n) ∷ ds) ts
+unfolding stands_slot
+filling_content depth n [] [] e = refl
+filling_content depth n (x ∷ ds) [] e = refl
+filling_content depth n ds (t ∷ ts) e = by_token (is_gap t) refl (λ f. filling_content depth n ds ts f) where
+  by_token : (b : Bool) → is_gap t ≡ b → (stands_next ts ≡ false → accepts (d.filling depth n ∷ ds) ts ≡ accepts (d.content depth (d.tag n) ∷ ds) ts) → accepts (d.filling depth n ∷ ds) (t ∷ ts) ≡ accepts (d.content depth (d.tag n) ∷ ds) (t ∷ ts)
+  by_token true f more =
+      passes_token (d.filling depth n) ds (d.filling depth n ∷ []) t (t ∷ ts) ts refl (gap_due depth n t f) ∙ more (ap stands_slot (sym (skip_gap t ts f)) ∙ e)
+      ∙ sym (passes_token (d.content depth (d.tag n)) ds (d.content depth (d.tag n) ∷ []) t (t ∷ ts) ts refl (flat_due depth (d.tag n) t (gap_flat t f)))
+  by_token false f more =
+      let no_slot : is_slot_opening t ≡ false = ap stands_slot (sym (no_gap t ts f)) ∙ e in
+      accepts_step (d.filling depth n) ds t ts ∙ ap (λ o. fed o ds ts) (content_instead depth n t f no_slot) ∙ sym (accepts_step (d.content depth (d.tag n)) ds t ts)
+
+-- the opening of a block
+named_due : (depth : ℕ) (n m : Text) (taken : List Text) (t : Token) → t.text ≡ 60 ∷ 58 ∷ m → has_text m taken ≡ false → slot_due (suc depth) n taken (slot_name t.text) ≡ Some (d.slot_tag depth (58 ∷ m) ∷ d.slots (suc depth) n (taken ++ m ∷ []) ∷ [])
+named_due depth n m taken t e f = rw (names_slot t.text m e, f, is_left depth, one_less depth) refl
+
+opening_no_gap : (t : Token) → t.kind ≡ k.TagOpening → is_gap t ≡ false
+opening_no_gap t e = rw e refl
+
+first_due : (depth : ℕ) (n m : Text) (t : Token) → t.kind ≡ k.TagOpening → t.text ≡ 60 ∷ 58 ∷ m → due_after (d.filling (suc depth) n) t ≡ Some (d.slot_tag depth (58 ∷ m) ∷ d.slots (suc depth) n (m ∷ []) ∷ [])
+unfolding due_after starts_filling
+first_due depth n m t e f = rw (opening_no_gap t e, opens_slot t m e f) (named_due depth n m [] t f refl)
+
+later_due : (depth : ℕ) (n m : Text) (taken : List Text) (t : Token) → t.kind ≡ k.TagOpening → t.text ≡ 60 ∷ 58 ∷ m → has_text m taken ≡ false → due_after (d.slots (suc depth) n taken) t ≡ Some (d.slot_tag depth (58 ∷ m) ∷ d.slots (suc depth) n (taken ++ m ∷ []) ∷ [])
+unfolding due_after starts_slots
+later_due depth n m taken t e f g = rw (opening_no_gap t e, opens_slot t m e f) (named_due depth n m taken t f g)
+
+pub slots_end_due : (depth : ℕ) (n : Text) (taken : List Text) (t : Token) → t.kind ≡ k.EndTag → end_name_of t.text ≡ n → due_after (d.slots depth n taken) t ≡ Some []
+unfolding due_after starts_slots
+slots_end_due depth n taken t e f = rw (e, is_bytes_eq (end_name_of t.text) n f) refl
+
+tag_end_due : (depth : ℕ) (n : Text) (t : Token) → t.kind ≡ k.TagEnd → due_after (d.slot_tag depth n) t ≡ Some (d.content depth (d.tag n) ∷ [])
+unfolding due_after starts_slot_tag
+tag_end_due depth n t e = rw e refl
+
+names_due : (depth : ℕ) (n : Text) (t : Token) → t.kind ≡ k.Parameters → due_after (d.slot_tag depth n) t ≡ Some (d.kind k.TagEnd ∷ d.content depth (d.tag n) ∷ [])
+unfolding due_after starts_slot_tag
+names_due depth n t e = rw e refl
+
+-- a block after its opening
+slot_pass : (depth : ℕ) → PassBody depth → (n : Text) (ns : List Text) (b : Body) (ds : List Due) (ts vs xs ys us : List Token) → AreParameters ts ns vs → Mark k.TagEnd vs xs → AreStmts depth xs b ys → IsEndTag ys n us → accepts (d.slot_tag depth n ∷ ds) ts ≡ accepts ds us
+slot_pass depth bodies n ns b ds ts vs xs ys us (inl (e, f)) m are t =
+    ap (accepts (d.slot_tag depth n ∷ ds)) e ∙ passes_token (d.slot_tag depth n) ds (d.content depth (d.tag n) ∷ []) m.0 vs xs m.1 (tag_end_due depth n m.0 m.2) ∙ tagged_pass depth bodies n ds xs us (b, (ys, are, t))
+slot_pass depth bodies n ns b ds ts vs xs ys us (inr p) m are t =
+    passes_token (d.slot_tag depth n) ds (d.kind k.TagEnd ∷ d.content depth (d.tag n) ∷ []) p.0 ts vs p.1 (names_due depth n p.0 p.2)
+    ∙ passes_kind k.TagEnd (d.content depth (d.tag n) ∷ ds) vs xs m ∙ tagged_pass depth bodies n ds xs us (b, (ys, are, t))
+
+no_more_taken : (b c : Bool) → (not b && c) ≡ true → (b ≡ false) × (c ≡ true)
+no_more_taken true c e = never e
+no_more_taken false c e = (refl, e)
+
+-- the blocks after some of these names, and the end tag
+slots_pass : (depth : ℕ) → PassBody depth → (n : Text) (ss : Slots) (taken : List Text) (ds : List Due) (ts vs us : List Token) → are_new taken (slot_names ss) ≡ true → AreSlots (suc depth) ts ss vs → IsEndTag vs n us → accepts (d.slots (suc depth) n taken ∷ ds) ts ≡ accepts ds us
+slots_pass depth bodies n no_slots taken ds ts vs us new e t =
+    over_gaps (d.slots (suc depth) n taken) (later_gap (suc depth) n taken) ds ts ∙ ap (accepts (d.slots (suc depth) n taken ∷ ds)) e
+    ∙ passes_token (d.slots (suc depth) n taken) ds [] t.0 vs us t.1 (slots_end_due (suc depth) n taken t.0 t.2 t.3)
+slots_pass depth bodies n (block m ns b ss) taken ds ts vs us new (ws, (x1, x2, x3, x4, o, params, mark, are, closing), more) t =
+    let apart = no_more_taken (has_text m taken) (are_new (taken ++ m ∷ []) (slot_names ss)) new in
+    over_gaps (d.slots (suc depth) n taken) (later_gap (suc depth) n taken) ds ts
+    ∙ passes_token (d.slots (suc depth) n taken) ds (d.slot_tag depth (58 ∷ m) ∷ d.slots (suc depth) n (taken ++ m ∷ []) ∷ []) o.0 (after_gaps ts) x1 o.1 (later_due depth n m taken o.0 o.2 o.3 apart.0)
+    ∙ slot_pass depth bodies (58 ∷ m) ns b (d.slots (suc depth) n (taken ++ m ∷ []) ∷ ds) x1 x2 x3 x4 ws params mark are closing
+    ∙ slots_pass depth bodies n ss (taken ++ m ∷ []) ds ws vs us apart.1 more t
+
+own_pass : (depth : ℕ) → PassBody depth → (n : Text) (ss : Slots) (ds : List Due) (ts vs us : List Token) → IsOwnBlock depth [] ts ss vs → IsEndTag vs n us → accepts (d.filling depth n ∷ ds) ts ≡ accepts ds us
+own_pass depth bodies n (block x params b no_slots) ds ts vs us (e, f, are) t =
+    filling_content depth n ds ts (stmts_no_next depth ts b vs are (end_tag_no_next vs n us t)) ∙ tagged_pass depth bodies n ds ts us (b, (vs, are, t))
+own_pass depth bodies n ss ds ts vs us h t = absurd h
+
+none_filled : PassBody zero → PassesFilled zero
+none_filled bodies n ds ts us (ss, (vs, inl own, t)) = own_pass zero bodies n ss ds ts vs us own t
+none_filled bodies n ds ts us (no_slots, (vs, inr (none, some, new, h), t)) = never some
+none_filled bodies n ds ts us (block m ns b ss, (vs, inr (none, some, new, h), t)) = absurd h
+
+some_filled : (depth : ℕ) → PassBody depth → PassBody (suc depth) → PassesFilled (suc depth)
+some_filled depth bodies more n ds ts us (ss, (vs, inl own, t)) = own_pass (suc depth) more n ss ds ts vs us own t
+some_filled depth bodies more n ds ts us (no_slots, (vs, inr (none, some, new, h), t)) = never some
+some_filled depth bodies more n ds ts us (block m ns b ss, (vs, inr (none, some, new, (ws, (x1, x2, x3, x4, o, params, mark, are, closing), next)), t)) =
+    over_gaps (d.filling (suc depth) n) (gap_due (suc depth) n) ds ts
+    ∙ passes_token (d.filling (suc depth) n) ds (d.slot_tag depth (58 ∷ m) ∷ d.slots (suc depth) n (m ∷ []) ∷ []) o.0 (after_gaps ts) x1 o.1 (first_due depth n m o.0 o.2 o.3)
+    ∙ slot_pass depth bodies (58 ∷ m) ns b (d.slots (suc depth) n (m ∷ []) ∷ ds) x1 x2 x3 x4 ws params mark are closing
+    ∙ slots_pass depth bodies n ss (m ∷ []) ds ws vs us new next t
+
+-- all at every depth
+record AllPass (depth : ℕ) : Type 0 where
+  stmts : PassStmt depth
+  heads : PassChained depth
+  filled : PassesFilled depth
+
+all_pass : (depth : ℕ) → AllPass depth
+all_pass zero = record { stmts = none_pass; heads = no_head; filled = none_filled (λ stop ds ts b us h. body_pass zero none_pass b stop ds ts us h) }
+all_pass (suc depth) =
+    let p = all_pass depth in
+    let bodies : PassBody depth = λ stop ds ts b us h. body_pass depth p.stmts b stop ds ts us h in
+    let stmts : PassStmt (suc depth) = some_pass depth bodies p.heads p.filled in
+    record {
+      stmts = stmts;
+      heads = heads_pass depth bodies p.heads;
+      filled = some_filled depth bodies (λ stop ds ts b us h. body_pass (suc depth) stmts b stop ds ts us h);
+    }
 
 -- statements meet what is due for content, which is due still after them
 pub passes_body : (depth : ℕ) → PassBody depth
-passes_body depth stop ds ts b us h = body_pass depth (both_pass depth).0 b stop ds ts us h
+passes_body depth stop ds ts b us h = body_pass depth (all_pass depth).stmts b stop ds ts us h

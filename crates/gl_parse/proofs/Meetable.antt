@@ -1,5 +1,5 @@
 -- What is due in a template can be met, but for what its end closes.
-use Rattle.std.proofs.Common.{◌≡◌, ◌+◌, ℕ, suc, List, [], ◌∷◌, ◌++◌, Bool, true, false, not, take, refl, ap, ◌∙◌, append_assoc, arith}
+use Rattle.std.proofs.Common.{◌≡◌, ◌+◌, ℕ, suc, List, [], ◌∷◌, ◌++◌, Bool, true, false, not, Some, take, refl, ap, ◌∙◌, append_assoc, arith}
 use Rattle.std.specs.Prelude.{if◌then◌else◌, codes}
 use Rattle.std.specs.List.{prefix_len}
 use Rattle.gl_base.specs.Texts.{Text}
@@ -12,9 +12,9 @@ use Rattle.gl_exprs.specs.ReadExpr.{token_expr}
 use Rattle.gl_exprs.specs.Take.{same_kind}
 use Rattle.gl_exprs.proofs.Firsts.{same_kind-self}
 use Rattle.gl_parse.specs.Due as d
-use Rattle.gl_parse.specs.Due.{Due, Dues, Stop, Quoted, nothing, text, texts, live, and_then, may_end, step, run, due_after, starts_one, starts_arguments, starts_after_name, starts_called, starts_named, starts_inner, starts_value, starts_quoted, starts_item, starts_given, ends_tag, starts_content, starts_nested, starts_opened, starts_head, starts_chained, starts_after_else, starts_values, starts_first, starts_more, starts_each_parameters, starts_key, after_opening, after_paren, takes_closing, takes_else, test_head, each_head, let_head, is_lone_path, is_operand, is_path_word, is_at_name, is_plain, is_flat, is_end_of, has_body, and_text}
+use Rattle.gl_parse.specs.Due.{Due, Dues, Stop, Quoted, nothing, text, texts, live, and_then, may_end, step, run, due_after, starts_one, starts_arguments, starts_after_name, starts_called, starts_named, starts_inner, starts_value, starts_quoted, starts_item, starts_given, ends_tag, starts_content, starts_nested, starts_opened, starts_head, starts_chained, starts_after_else, starts_values, starts_after_to, starts_target, starts_filling, starts_slots, starts_slot_tag, starts_first, starts_more, starts_each_parameters, starts_key, after_opening, after_paren, takes_closing, takes_else, test_head, each_head, let_head, is_lone_path, is_operand, is_path_word, is_at_name, is_plain, is_flat, is_end_of, has_body, and_text}
 use Rattle.gl_parse.proofs.Accepts.{accepts}
-use Rattle.gl_parse.proofs.ContentWays.{closing_pass, end_tag_due}
+use Rattle.gl_parse.proofs.ContentWays.{closing_pass, end_tag_due, slots_end_due}
 use Rattle.gl_parse.proofs.TagNames.{IsTagName}
 use Rattle.gl_parse.proofs.Ways.{passes_token, is_word}
 
@@ -39,11 +39,16 @@ IsIn (d.after_name calls end) = IsEnd end
 IsIn (d.named calls end) = IsEnd end
 IsIn d.inner = Unit {0}
 IsIn d.values = Unit {0}
+IsIn d.after_to = Unit {0}
+IsIn d.target = Unit {0}
 IsIn d.value = Unit {0}
 IsIn (d.quoted q) = Unit {0}
 IsIn (d.items n component depth) = IsTagName n
 IsIn (d.given n component depth) = IsTagName n
-IsIn (d.tag_end n component depth) = IsTagName n
+IsIn (d.tag_end n bare depth) = IsTagName n
+IsIn (d.filling depth n) = IsTagName n
+IsIn (d.slots depth n taken) = IsTagName n
+IsIn (d.slot_tag depth n) = IsTagName n
 IsIn (d.content depth stop) = Closes stop
 IsIn (d.opened depth stop) = Closes stop
 IsIn (d.after_else depth w) = Unit {0}
@@ -107,6 +112,17 @@ met_values : IsMet d.values (close ∷ [])
 unfolding due_after starts_values
 met_values ds ts = passes_token d.values ds [] close (close ∷ ts) ts refl refl
 
+met_after_to : IsMet d.after_to (close ∷ [])
+unfolding due_after starts_after_to starts_values
+met_after_to ds ts = passes_token d.after_to ds [] close (close ∷ ts) ts refl refl
+
+abbrev name_string : Token
+name_string = token_of k.StringLit (codes "\"a\"")
+
+met_target : IsMet d.target (name_string ∷ [])
+unfolding due_after starts_target
+met_target ds ts = passes_token d.target ds [] name_string (name_string ∷ ts) ts refl refl
+
 met_value : IsMet d.value (token_of k.Unquoted [] ∷ [])
 unfolding due_after starts_value
 met_value ds ts = passes_token d.value ds [] (token_of k.Unquoted []) (token_of k.Unquoted [] ∷ ts) ts refl refl
@@ -141,9 +157,9 @@ unfolding due_after starts_given starts_item ends_tag
 met_given n true depth ds ts = passes_token (d.given n true depth) ds [] self_end (self_end ∷ ts) ts refl refl
 met_given n false depth ds ts = passes_token (d.given n false depth) ds [] self_end (self_end ∷ ts) ts refl refl
 
-met_tag_end : (n : Text) (c : Bool) (depth : ℕ) → IsMet (d.tag_end n c depth) (self_end ∷ [])
+met_tag_end : (n : Text) (bare : Bool) (depth : ℕ) → IsMet (d.tag_end n bare depth) (self_end ∷ [])
 unfolding due_after ends_tag
-met_tag_end n c depth ds ts = passes_token (d.tag_end n c depth) ds [] self_end (self_end ∷ ts) ts refl refl
+met_tag_end n bare depth ds ts = passes_token (d.tag_end n bare depth) ds [] self_end (self_end ∷ ts) ts refl refl
 
 -- the end tag of a name
 end_name : (n : Text) → IsTagName n → take (prefix_len (λ c. not (ends_tag_name c)) n) n ≡ n
@@ -160,6 +176,25 @@ end_tag n = token_of k.EndTag (60 ∷ 47 ∷ n)
 
 met_tag : (depth : ℕ) (n : Text) → IsTagName n → IsMet (d.content depth (d.tag n)) (end_tag n ∷ [])
 met_tag depth n h ds ts = passes_token (d.content depth (d.tag n)) ds [] (end_tag n) (end_tag n ∷ ts) ts refl (end_tag_due depth n (end_tag n) refl (end_name n h))
+
+-- and so do what stands in a component and blocks that are passed
+filling_end : (depth : ℕ) (n : Text) → IsTagName n → due_after (d.filling depth n) (end_tag n) ≡ Some []
+unfolding due_after starts_filling
+filling_end depth n h = end_tag_due depth n (end_tag n) refl (end_name n h)
+
+met_filling : (depth : ℕ) (n : Text) → IsTagName n → IsMet (d.filling depth n) (end_tag n ∷ [])
+met_filling depth n h ds ts = passes_token (d.filling depth n) ds [] (end_tag n) (end_tag n ∷ ts) ts refl (filling_end depth n h)
+
+met_slots : (depth : ℕ) (n : Text) (taken : List Text) → IsTagName n → IsMet (d.slots depth n taken) (end_tag n ∷ [])
+met_slots depth n taken h ds ts = passes_token (d.slots depth n taken) ds [] (end_tag n) (end_tag n ∷ ts) ts refl (slots_end_due depth n taken (end_tag n) refl (end_name n h))
+
+abbrev tag_end : Token
+tag_end = token_of k.TagEnd []
+
+met_slot_tag : (depth : ℕ) (n : Text) → IsTagName n → IsMet (d.slot_tag depth n) (tag_end ∷ end_tag n ∷ [])
+unfolding due_after starts_slot_tag
+met_slot_tag depth n h ds ts =
+    passes_token (d.slot_tag depth n) ds (d.content depth (d.tag n) ∷ []) tag_end (tag_end ∷ end_tag n ∷ ts) (end_tag n ∷ ts) refl refl ∙ met_tag depth n h ds ts
 
 abbrev open_closing : Token
 open_closing = token_of k.OpenClosing []
@@ -222,11 +257,16 @@ met (d.after_name calls end) h = (token_of end [] ∷ [], met_after_name calls e
 met (d.named calls end) h = (token_of end [] ∷ [], met_named calls end)
 met d.inner h = (one ∷ close ∷ [], met_inner)
 met d.values h = (close ∷ [], met_values)
+met d.after_to h = (close ∷ [], met_after_to)
+met d.target h = (name_string ∷ [], met_target)
 met d.value h = (token_of k.Unquoted [] ∷ [], met_value)
 met (d.quoted q) h = met_quoted q
 met (d.items n c depth) h = (self_end ∷ [], met_items n c depth)
 met (d.given n c depth) h = (self_end ∷ [], met_given n c depth)
-met (d.tag_end n c depth) h = (self_end ∷ [], met_tag_end n c depth)
+met (d.tag_end n bare depth) h = (self_end ∷ [], met_tag_end n bare depth)
+met (d.filling depth n) h = (end_tag n ∷ [], met_filling depth n h)
+met (d.slots depth n taken) h = (end_tag n ∷ [], met_slots depth n taken h)
+met (d.slot_tag depth n) h = (tag_end ∷ end_tag n ∷ [], met_slot_tag depth n h)
 met (d.content depth stop) h = met_content depth stop h
 met (d.opened depth stop) h = then_content (d.opened depth stop) (one ∷ close ∷ []) depth stop h (opened_brings depth stop)
 met (d.after_else depth w) h = then_content (d.after_else depth w) (close ∷ []) depth (d.block w false) tt (else_brings depth w)

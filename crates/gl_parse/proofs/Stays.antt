@@ -1,19 +1,24 @@
 -- What a token leaves due can be met, where what it was taken off can.
-use Rattle.std.proofs.Common.{◌≡◌, ◌-◌, ℕ, List, [], ◌∷◌, ◌++◌, Bool, true, false, not, ◌&&◌, ◌||◌, Some, None, length, refl, sym, ap, ◌∙◌, subst, append-nil}
-use Rattle.std.specs.Prelude.{if◌then◌else◌, option_map, codes, nat_le, ◌==◌}
+use Rattle.std.proofs.Common.{◌≡◌, ◌-◌, ℕ, List, [], ◌∷◌, ◌++◌, Bool, true, false, not, ◌&&◌, ◌||◌, Option, Some, None, length, refl, sym, ap, ◌∙◌, subst, append-nil}
+use Rattle.std.specs.Prelude.{if◌then◌else◌, option_map, codes, nat_le, ◌==◌, is_some}
+use Rattle.std.specs.Str.{bytes_eq}
+use Rattle.gl_base.specs.Names.{has_text}
 use Rattle.gl_base.specs.Answers.{◌>>=◌}
 use Rattle.gl_base.specs.Texts.{Text}
-use Rattle.gl_ast.specs.Grammar.{deepest_calls}
+use Rattle.gl_ast.specs.Grammar.{deepest_calls, is_gap}
 use Rattle.gl_ast.specs.Marks.{is_small, is_capital}
-use Rattle.gl_ast.specs.TokenText.{leads, parameters_of}
+use Rattle.gl_ast.specs.TokenText.{leads, parameters_of, string_of, is_block_name, end_name_of}
 use Rattle.gl_ast.specs.declared.token.Token.{Token}
 use Rattle.gl_ast.specs.declared.token.TokenKind.{TokenKind}
 use Rattle.gl_ast.specs.declared.token.TokenKind.TheVariants as k
 use Rattle.gl_exprs.specs.Take.{same_kind}
 use Rattle.gl_exprs.proofs.Firsts.{same_kind-is}
 use Rattle.gl_parse.specs.Due as d
-use Rattle.gl_parse.specs.Due.{Due, Dues, Stop, Quoted, and_then, may_end, and_text, step, run, due_after, starts_one, starts_arguments, starts_after_name, starts_called, starts_named, starts_inner, starts_value, starts_quoted, starts_item, starts_given, ends_tag, starts_content, starts_nested, starts_opened, starts_head, starts_chained, starts_after_else, starts_values, starts_first, starts_more, starts_each_parameters, starts_key, after_opening, after_paren, takes_closing, takes_else, test_head, each_head, let_head, is_lone_path, is_operand, is_path_word, is_at_name, is_plain, is_flat, is_end_of, has_body}
+use Rattle.gl_parse.specs.Due.{Due, Dues, Stop, Quoted, and_then, may_end, and_text, step, run, due_after, starts_one, starts_arguments, starts_after_name, starts_called, starts_named, starts_inner, starts_value, starts_quoted, starts_item, starts_given, ends_tag, starts_content, starts_nested, starts_opened, starts_head, starts_chained, starts_after_else, starts_values, starts_after_to, starts_target, starts_filling, starts_slots, starts_slot_tag, slot_due, inside, starts_first, starts_more, starts_each_parameters, starts_key, after_opening, after_paren, takes_closing, takes_else, test_head, each_head, let_head, is_lone_path, is_operand, is_path_word, is_at_name, is_plain, is_flat, is_end_of, has_body}
 use Rattle.gl_parse.proofs.Accepts.{accepts}
+use Rattle.gl_parse.specs.ReadStmt.{is_no_name, slot_name, is_slot_opening}
+use Rattle.gl_exprs.proofs.FirstTokens.{and_true}
+use Rattle.gl_parse.proofs.Labels.{slot_name_is}
 use Rattle.gl_parse.proofs.ContentFinds.{sign_is}
 use Rattle.gl_parse.proofs.Meetable.{IsEnd, Closes, IsIn, met, one, close, opened_brings}
 use Rattle.gl_parse.proofs.TagNames.{IsTagName, IsGood, AreGood}
@@ -78,7 +83,17 @@ inner_in t =
 
 values_in : (t : Token) → InIf (starts_values t)
 unfolding starts_values
-values_in t = if_in (same_kind t.kind k.CloseMustache) (Some []) (and_then d.values (starts_one deepest_calls t)) tt (then_in d.values (starts_one deepest_calls t) tt (one_in deepest_calls t))
+values_in t =
+    if_in (same_kind t.kind k.CloseMustache) (Some []) _ tt
+    (if_in (is_path_word (codes "to") t) (Some (d.after_to ∷ [])) (and_then d.values (starts_one deepest_calls t)) (tt, tt) (then_in d.values (starts_one deepest_calls t) tt (one_in deepest_calls t)))
+
+after_to_in : (t : Token) → InIf (starts_after_to t)
+unfolding starts_after_to
+after_to_in t = if_in (same_kind t.kind k.Equals) (Some (d.target ∷ d.kind k.CloseMustache ∷ [])) (starts_values t) (tt, (tt, tt)) (values_in t)
+
+target_in : (t : Token) → InIf (starts_target t)
+unfolding starts_target
+target_in t = if_in (same_kind t.kind k.StringLit && is_block_name (string_of t.text)) (Some []) None tt tt
 
 -- tags
 
@@ -93,14 +108,18 @@ quoted_in q t =
     if_in (same_kind t.kind k.CloseQuote) (if may_end q then Some [] else None) _ (if_in (may_end q) (Some []) None tt tt)
     (if_in (same_kind t.kind k.Text) (Some (d.quoted (and_text q) ∷ [])) _ (tt, tt) (if_in (same_kind t.kind k.OpenMustache) (Some (d.inner ∷ d.quoted d.live ∷ [])) None (tt, (tt, tt)) tt))
 
-body_in : (n : Text) (depth : ℕ) (b : Bool) → IsTagName n → AreIn (if b then d.content depth (d.tag n) ∷ [] else [])
-body_in n depth true h = (h, tt)
-body_in n depth false h = tt
+inside_in : (n : Text) (depth : ℕ) (bare : Bool) → IsTagName n → IsIn (inside bare depth n)
+inside_in n depth true h = h
+inside_in n depth false h = h
 
-ends_in : (n : Text) (c : Bool) (depth : ℕ) (t : Token) → IsTagName n → InIf (ends_tag n c depth t)
+body_in : (n : Text) (bare : Bool) (depth : ℕ) (b : Bool) → IsTagName n → AreIn (if b then inside bare depth n ∷ [] else [])
+body_in n bare depth true h = (inside_in n depth bare h, tt)
+body_in n bare depth false h = tt
+
+ends_in : (n : Text) (c bare : Bool) (depth : ℕ) (t : Token) → IsTagName n → InIf (ends_tag n c bare depth t)
 unfolding ends_tag
-ends_in n c depth t h =
-    if_in (same_kind t.kind k.SelfEnd) (Some []) _ tt (if_in (same_kind t.kind k.TagEnd) (Some (if has_body n c then d.content depth (d.tag n) ∷ [] else [])) None (body_in n depth (has_body n c) h) tt)
+ends_in n c bare depth t h =
+    if_in (same_kind t.kind k.SelfEnd) (Some []) _ tt (if_in (same_kind t.kind k.TagEnd) (Some (if has_body n c then inside bare depth n ∷ [] else [])) None (body_in n bare depth (has_body n c) h) tt)
 
 item_in : (n : Text) (c : Bool) (depth : ℕ) (t : Token) → IsTagName n → InIf (starts_item n c depth t)
 unfolding starts_item
@@ -108,7 +127,7 @@ item_in n c depth t h =
     if_in (same_kind t.kind k.Attribute || (c && is_at_name t)) (Some (d.given n c depth ∷ [])) _ (h, tt)
     (if_in (same_kind t.kind k.OpenMustache) (Some (d.called deepest_calls k.CloseMustache ∷ d.items n c depth ∷ [])) _ (refl, (h, tt))
     (if_in (is_plain t) (Some (d.items n c depth ∷ [])) _ (h, tt)
-    (if_in (c && same_kind t.kind k.Parameters) (Some (d.tag_end n c depth ∷ [])) (ends_tag n c depth t) (h, tt) (ends_in n c depth t h))))
+    (if_in (c && same_kind t.kind k.Parameters) (Some (d.tag_end n (is_no_name (parameters_of t.text)) depth ∷ [])) (ends_tag n c c depth t) (h, tt) (ends_in n c c depth t h))))
 
 given_in : (n : Text) (c : Bool) (depth : ℕ) (t : Token) → IsTagName n → InIf (starts_given n c depth t)
 unfolding starts_given
@@ -187,6 +206,32 @@ content_in depth stop t good h =
     (λ e. if_in (depth == 0) None _ tt (then_in (d.content depth stop) _ h (nested_in (depth - 1) t good e)))
     (λ e. if_in (same_kind t.kind k.EndTag) (if is_end_of stop t then Some [] else None) _ (if_in (is_end_of stop t) (Some []) None tt tt) (if_in (same_kind t.kind k.OpenClosing) (takes_closing stop) None (closing_in stop) tt))))
 
+-- blocks that are passed
+
+slot_in : (depth : ℕ) (n : Text) (taken : List Text) (o : Option Text) → IsTagName n → ((m : Text) → o ≡ Some m → IsTagName (58 ∷ m)) → InIf (slot_due depth n taken o)
+slot_in depth n taken None h good = tt
+slot_in depth n taken (Some m) h good = if_in (depth == 0 || has_text m taken) None (Some (d.slot_tag (depth - 1) (58 ∷ m) ∷ d.slots depth n (taken ++ m ∷ []) ∷ [])) tt (good m refl, (h, tt))
+
+label_good : (t : Token) → IsGood t → is_slot_opening t ≡ true → (m : Text) → slot_name t.text ≡ Some m → IsTagName (58 ∷ m)
+label_good t good e m f = good (same_kind-is t.kind k.TagOpening (and_true (same_kind t.kind k.TagOpening) (is_some (slot_name t.text)) e).0) (58 ∷ m) (slot_name_is t.text m f)
+
+filling_in : (depth : ℕ) (n : Text) (t : Token) → IsGood t → IsTagName n → InIf (starts_filling depth n t)
+unfolding starts_filling
+filling_in depth n t good h =
+    if_in (is_gap t) (Some (d.filling depth n ∷ [])) _ (h, tt)
+    (if_when InIf (is_slot_opening t) (slot_due depth n [] (slot_name t.text)) (starts_content depth (d.tag n) t) (λ e. slot_in depth n [] (slot_name t.text) h (label_good t good e)) (λ e. content_in depth (d.tag n) t good h))
+
+slots_in : (depth : ℕ) (n : Text) (taken : List Text) (t : Token) → IsGood t → IsTagName n → InIf (starts_slots depth n taken t)
+unfolding starts_slots
+slots_in depth n taken t good h =
+    if_in (is_gap t) (Some (d.slots depth n taken ∷ [])) _ (h, tt)
+    (if_when InIf (is_slot_opening t) (slot_due depth n taken (slot_name t.text)) _ (λ e. slot_in depth n taken (slot_name t.text) h (label_good t good e)) (λ e. if_in (same_kind t.kind k.EndTag && bytes_eq (end_name_of t.text) n) (Some []) None tt tt))
+
+slot_tag_in : (depth : ℕ) (n : Text) (t : Token) → IsTagName n → InIf (starts_slot_tag depth n t)
+unfolding starts_slot_tag
+slot_tag_in depth n t h =
+    if_in (same_kind t.kind k.TagEnd) (Some (d.content depth (d.tag n) ∷ [])) _ (h, tt) (if_in (same_kind t.kind k.Parameters) (Some (d.kind k.TagEnd ∷ d.content depth (d.tag n) ∷ [])) None (tt, (h, tt)) tt)
+
 opened_in : (depth : ℕ) (stop : Stop) (t : Token) → Closes stop → InIf (starts_opened depth stop t)
 unfolding starts_opened
 opened_in depth stop t h =
@@ -204,11 +249,16 @@ after_in (d.after_name calls end) t good h = after_name_in calls end t h
 after_in (d.named calls end) t good h = named_in calls end t h
 after_in d.inner t good h = inner_in t
 after_in d.values t good h = values_in t
+after_in d.after_to t good h = after_to_in t
+after_in d.target t good h = target_in t
 after_in d.value t good h = value_in t
 after_in (d.quoted q) t good h = quoted_in q t
 after_in (d.items n c depth) t good h = item_in n c depth t h
 after_in (d.given n c depth) t good h = given_in n c depth t h
-after_in (d.tag_end n c depth) t good h = ends_in n c depth t h
+after_in (d.tag_end n bare depth) t good h = ends_in n true bare depth t h
+after_in (d.filling depth n) t good h = filling_in depth n t good h
+after_in (d.slots depth n taken) t good h = slots_in depth n taken t good h
+after_in (d.slot_tag depth n) t good h = slot_tag_in depth n t h
 after_in (d.content depth stop) t good h = content_in depth stop t good h
 after_in (d.opened depth stop) t good h = opened_in depth stop t h
 after_in (d.after_else depth w) t good h = after_else_in depth w t

@@ -2,17 +2,18 @@
 use Rattle.std.proofs.Common.{◌≡◌, ◌<◌, ◌≤◌, ℕ, zero, suc, List, [], ◌∷◌, Bool, true, false, Some, ◌⊎◌, inl, inr, length, refl, sym, ap, subst, arith}
 use Rattle.std.specs.Prelude.{codes}
 use Rattle.gl_ast.specs.Grammar.{Mark, IsStmt, AreStmts, is_silent}
-use Rattle.gl_ast.specs.Template.{Stmt, text_stmt, comment_stmt, put, element, component_stmt, if_stmt, each, let_stmt, yield, Body, end, stmt, body_of}
+use Rattle.gl_ast.specs.Template.{Stmt, text_stmt, comment_stmt, put, element, component_stmt, if_stmt, each, let_stmt, yield, Body, end, stmt, Slots, no_slots, block, body_of}
 use Rattle.gl_ast.specs.declared.token.Token.{Token}
 use Rattle.gl_ast.specs.declared.token.TokenKind.{TokenKind}
 use Rattle.gl_ast.specs.declared.token.TokenKind.TheVariants as k
-use Rattle.gl_parse.specs.ReadStmt.{Reader, ends_body, is_end, stands_opened, read_stmts, read_body, read_flat, read_nested, read_block_with, read_else, read_stmt, read_chained}
+use Rattle.gl_parse.specs.ReadStmt.{Reader, ends_body, is_end, stands_opened, read_stmts, read_body, read_slot, read_flat, read_nested, read_block_with, read_else, read_stmt, read_filling, read_chained}
 use Rattle.gl_exprs.specs.Take.{same_kind, stands}
 use Rattle.gl_parse.proofs.BlockLaws.{SoundHead, CompleteHead, head_is, else_is, reads_head, reads_else, block_is, reads_block, block_first, is_block}
-use Rattle.gl_parse.proofs.Falls.{stmt_falls}
+use Rattle.gl_parse.proofs.Falls.{stmt_falls, body_falls, slot_falls}
 use Rattle.gl_exprs.proofs.FirstTokens.{stands_mark}
 use Rattle.gl_parse.proofs.FlatLaws.{IsRead, read_flat_is, reads_flat, is_flat, mustache_no_else, not_opened, opened_other}
-use Rattle.gl_parse.proofs.TagLaws.{Sound, Complete, tag_is, reads_tag, tag_first, is_tag}
+use Rattle.gl_parse.proofs.SlotLaws.{Named, slot_is, slots_sound, slots_complete}
+use Rattle.gl_parse.proofs.TagLaws.{Sound, Complete, SoundFilling, CompleteFilling, tag_is, reads_tag, tag_first, is_tag}
 use Rattle.gl_exprs.proofs.Takings.{first_gave, under_gave, one_gave, some_is}
 
 -- statements that are read are spelled
@@ -77,7 +78,7 @@ first_of_flat : (depth : ℕ) (ts : List Token) (s : Stmt) (us : List Token) →
 first_of_flat depth ts (text_stmt x) us f h = (k.Text, us, (h.0, h.1, h.2), refl, refl)
 first_of_flat depth ts (comment_stmt x) us f h = (k.HtmlComment, us, (h.0, h.1, h.2), refl, refl)
 first_of_flat depth ts (put e) us f h = (k.OpenMustache, h.0, h.2, refl, refl)
-first_of_flat depth ts (yield es to) us f h = (k.OpenMustache, h.1.0, h.1.3, refl, refl)
+first_of_flat depth ts (yield es to) us f h = (k.OpenMustache, h.0, h.4, refl, refl)
 first_of_flat depth ts s us f h = let r : ⊥ = cc in absurd r
 
 -- a statement begins where no body ends
@@ -85,7 +86,7 @@ flat_no_end : (depth : ℕ) (ts : List Token) (s : Stmt) (us : List Token) → i
 flat_no_end depth ts (text_stmt x) us f h = no_end_other k.Text ts us (h.0, h.1, h.2) refl refl refl
 flat_no_end depth ts (comment_stmt x) us f h = no_end_other k.HtmlComment ts us (h.0, h.1, h.2) refl refl refl
 flat_no_end depth ts (put e) us f h = no_end_mark k.OpenMustache ts h.0 h.2 refl refl (mustache_no_else ts e us h)
-flat_no_end depth ts (yield es to) us f h = no_end_mark k.OpenMustache ts h.1.0 h.1.3 refl refl (opened_other (codes "else") (codes "yield") ts h.1.0 h.1.1 h.1.3 h.1.4 refl)
+flat_no_end depth ts (yield es to) us f h = no_end_mark k.OpenMustache ts h.0 h.4 refl refl (opened_other (codes "else") (codes "yield") ts h.0 h.1 h.4 h.5 refl)
 flat_no_end depth ts s us f h = let r : ⊥ = cc in absurd r
 
 no_end : (depth : ℕ) (ts : List Token) (s : Stmt) (us : List Token) → IsStmt depth ts s us → ends_body ts ≡ false
@@ -143,12 +144,12 @@ pub bodies_complete : (depth : ℕ) (one : Reader Stmt) → CompleteStmt depth o
 bodies_complete depth one complete ts b us ends are = reads_body depth one complete ts b us (ends_is_end us ends) are
 
 -- a statement with others in it
-nested_is : (depth : ℕ) (inner : Reader Body) (head : Reader Stmt) → Sound depth inner → SoundHead (suc depth) head → SoundStmt (suc depth) (read_nested inner head)
+nested_is : (depth : ℕ) (inner : Reader Body) (filling : Reader Slots) (head : Reader Stmt) → Sound depth inner → SoundFilling depth filling → SoundHead (suc depth) head → SoundStmt (suc depth) (read_nested inner filling head)
 unfolding read_nested
-nested_is depth inner head sound sound_head ts p e =
+nested_is depth inner filling head sound sound_filling sound_head ts p e =
     elim (one_gave (stands k.OpenBlock ts) _ _ p e) [
       | inl h ↦ block_is depth head sound_head ts p h.1
-      | inr f ↦ elim (one_gave (stands k.TagOpening ts) _ _ p f.1) [ inl h ↦ tag_is depth inner sound ts p h.1 | inr h ↦ read_flat_is (suc depth) ts p h.1 ]
+      | inr f ↦ elim (one_gave (stands k.TagOpening ts) _ _ p f.1) [ inl h ↦ tag_is depth inner filling sound sound_filling ts p h.1 | inr h ↦ read_flat_is (suc depth) ts p h.1 ]
     ]
 
 abbrev shape : Stmt → Type 0
@@ -165,20 +166,20 @@ shape_of (if_stmt e unless b c) = inr (inr refl)
 shape_of (each e key ns b c) = inr (inr refl)
 shape_of (let_stmt es ns b) = inr (inr refl)
 
-reads_nested_case : (depth : ℕ) (inner : Reader Body) (head : Reader Stmt) → Complete depth inner → CompleteHead (suc depth) head → (ts : List Token) (s : Stmt) (us : List Token) → shape s → IsStmt (suc depth) ts s us → read_nested inner head ts ≡ Some (s, us)
+reads_nested_case : (depth : ℕ) (inner : Reader Body) (filling : Reader Slots) (head : Reader Stmt) → Complete depth inner → CompleteFilling depth filling → CompleteHead (suc depth) head → (ts : List Token) (s : Stmt) (us : List Token) → shape s → IsStmt (suc depth) ts s us → read_nested inner filling head ts ≡ Some (s, us)
 unfolding read_nested
-reads_nested_case depth inner head complete complete_head ts s us (inl f) h =
+reads_nested_case depth inner filling head complete fills complete_head ts s us (inl f) h =
     let (kind, vs, m, a, b) = first_of_flat (suc depth) ts s us f h in
     rw (stands_mark kind k.OpenBlock ts vs m, a, stands_mark kind k.TagOpening ts vs m, b) (reads_flat (suc depth) ts s us f h)
-reads_nested_case depth inner head complete complete_head ts s us (inr (inl f)) h =
+reads_nested_case depth inner filling head complete fills complete_head ts s us (inr (inl f)) h =
     let m = tag_first depth ts s us f h in
-    rw (stands_mark k.TagOpening k.OpenBlock ts m.0 m.1, stands_mark k.TagOpening k.TagOpening ts m.0 m.1) (reads_tag depth inner complete ts s us f h)
-reads_nested_case depth inner head complete complete_head ts s us (inr (inr f)) h =
+    rw (stands_mark k.TagOpening k.OpenBlock ts m.0 m.1, stands_mark k.TagOpening k.TagOpening ts m.0 m.1) (reads_tag depth inner filling complete fills ts s us f h)
+reads_nested_case depth inner filling head complete fills complete_head ts s us (inr (inr f)) h =
     let m = block_first depth ts s us f h in
     rw (stands_mark k.OpenBlock k.OpenBlock ts m.0 m.1) (reads_block depth head complete_head ts s us f h)
 
-reads_nested : (depth : ℕ) (inner : Reader Body) (head : Reader Stmt) → Complete depth inner → CompleteHead (suc depth) head → CompleteStmt (suc depth) (read_nested inner head)
-reads_nested depth inner head complete complete_head ts s us h = reads_nested_case depth inner head complete complete_head ts s us (shape_of s) h
+reads_nested : (depth : ℕ) (inner : Reader Body) (filling : Reader Slots) (head : Reader Stmt) → Complete depth inner → CompleteFilling depth filling → CompleteHead (suc depth) head → CompleteStmt (suc depth) (read_nested inner filling head)
+reads_nested depth inner filling head complete fills complete_head ts s us h = reads_nested_case depth inner filling head complete fills complete_head ts s us (shape_of s) h
 
 -- a block from its word on
 blocks_are : (depth : ℕ) (one chained : Reader Stmt) → SoundStmt depth one → SoundHead depth chained → SoundHead (suc depth) (read_block_with one chained)
@@ -203,35 +204,69 @@ flat_complete ts (put e) us h = reads_flat zero ts (put e) us refl h
 flat_complete ts (yield es to) us h = reads_flat zero ts (yield es to) us refl h
 flat_complete ts s us h = absurd h
 
--- both at every depth
-all_sound : (depth : ℕ) → SoundStmt depth (read_stmt depth) × SoundHead depth (read_chained depth)
-unfolding read_stmt read_chained
-all_sound zero = (flat_sound, λ ts p e. let r : ⊥ = cc in absurd r)
+-- no block is passed where none may nest
+no_filling : SoundFilling zero (read_filling zero)
+unfolding read_filling
+no_filling ts p starts e = let r : ⊥ = cc in absurd r
+
+no_fills : CompleteFilling zero (read_filling zero)
+no_fills ts no_slots us none some new are = let r : ⊥ = cc in absurd r
+no_fills ts (block name ns b ss) us none some new are = absurd are
+
+-- all at every depth
+record AllSound (depth : ℕ) : Type 0 where
+  stmts : SoundStmt depth (read_stmt depth)
+  filling : SoundFilling depth (read_filling depth)
+  heads : SoundHead depth (read_chained depth)
+
+all_sound : (depth : ℕ) → AllSound depth
+unfolding read_stmt read_filling read_chained
+all_sound zero = record { stmts = flat_sound; filling = no_filling; heads = λ ts p e. let r : ⊥ = cc in absurd r }
 all_sound (suc depth) =
     let p = all_sound depth in
-    let heads = blocks_are depth (read_stmt depth) (read_chained depth) p.0 p.1 in
-    (nested_is depth (read_body (read_stmt depth)) (read_block_with (read_stmt depth) (read_chained depth)) (bodies_sound depth (read_stmt depth) p.0) heads, heads)
+    let heads = blocks_are depth (read_stmt depth) (read_chained depth) p.stmts p.heads in
+    let bodies = bodies_sound depth (read_stmt depth) p.stmts in
+    record {
+      stmts = nested_is depth (read_body (read_stmt depth)) (read_filling depth) (read_block_with (read_stmt depth) (read_chained depth)) bodies p.filling heads;
+      filling = slots_sound depth (read_body (read_stmt depth)) bodies;
+      heads = heads;
+    }
 
-all_complete : (depth : ℕ) → CompleteStmt depth (read_stmt depth) × CompleteHead depth (read_chained depth)
-unfolding read_stmt read_chained
-all_complete zero = (flat_complete, λ ts s us closes h. absurd h)
+record AllComplete (depth : ℕ) : Type 0 where
+  stmts : CompleteStmt depth (read_stmt depth)
+  filling : CompleteFilling depth (read_filling depth)
+  heads : CompleteHead depth (read_chained depth)
+
+all_complete : (depth : ℕ) → AllComplete depth
+unfolding read_stmt read_filling read_chained
+all_complete zero = record { stmts = flat_complete; filling = no_fills; heads = λ ts s us closes h. absurd h }
 all_complete (suc depth) =
     let p = all_complete depth in
-    let heads = reads_blocks depth (read_stmt depth) (read_chained depth) p.0 p.1 in
-    (reads_nested depth (read_body (read_stmt depth)) (read_block_with (read_stmt depth) (read_chained depth)) (bodies_complete depth (read_stmt depth) p.0) heads, heads)
+    let heads = reads_blocks depth (read_stmt depth) (read_chained depth) p.stmts p.heads in
+    let bodies = bodies_complete depth (read_stmt depth) p.stmts in
+    record {
+      stmts = reads_nested depth (read_body (read_stmt depth)) (read_filling depth) (read_block_with (read_stmt depth) (read_chained depth)) bodies p.filling heads;
+      filling = slots_complete depth (read_body (read_stmt depth)) (body_falls depth) bodies;
+      heads = heads;
+    }
 
 pub read_stmt_is : (depth : ℕ) → SoundStmt depth (read_stmt depth)
-read_stmt_is depth = (all_sound depth).0
+read_stmt_is depth = (all_sound depth).stmts
 
 pub reads_stmt : (depth : ℕ) → CompleteStmt depth (read_stmt depth)
-reads_stmt depth = (all_complete depth).0
+reads_stmt depth = (all_complete depth).stmts
 
 pub read_chained_is : (depth : ℕ) → SoundHead depth (read_chained depth)
-read_chained_is depth = (all_sound depth).1
+read_chained_is depth = (all_sound depth).heads
 
 pub reads_chained : (depth : ℕ) → CompleteHead depth (read_chained depth)
-reads_chained depth = (all_complete depth).1
+reads_chained depth = (all_complete depth).heads
 
 -- what is read leaves fewer tokens
 pub read_stmt_falls : (depth : ℕ) (ts : List Token) (s : Stmt) (us : List Token) → read_stmt depth ts ≡ Some (s, us) → length us < length ts
 read_stmt_falls depth ts s us e = stmt_falls depth ts s us (read_stmt_is depth ts (s, us) e)
+
+pub read_slot_falls : (depth : ℕ) (ts : List Token) (x : Named) (us : List Token) → read_slot (read_body (read_stmt depth)) ts ≡ Some (x, us) → length us < length ts
+read_slot_falls depth ts x us e =
+    let bodies = bodies_sound depth (read_stmt depth) (read_stmt_is depth) in
+    slot_falls depth (body_falls depth) ts x.0 x.1.0 x.1.1 us (slot_is depth (read_body (read_stmt depth)) bodies ts (x, us) e)

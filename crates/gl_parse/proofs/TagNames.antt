@@ -1,20 +1,21 @@
 -- The tokens of a text that open tags have names in which nothing ends the name of an end tag.
 use Rattle.std.proofs.Common.{◌≡◌, ◌≤◌, ◌<◌, ◌-◌, ◌+◌, ℕ, zero, suc, List, [], ◌∷◌, ◌++◌, Bool, true, false, not, ◌&&◌, inl, inr, Option, Some, None, length, take, refl, sym, ap, ◌∙◌, subst, append_assoc, length-append, arith}
 use Rattle.std.specs.Prelude.{if◌then◌else◌, codes}
+use Rattle.std.specs.List.{list_all}
 use Rattle.std.specs.Str.{chars}
 use Rattle.std.proofs.Math.Seq.{take-append_seam}
 use Rattle.std.proofs.lemmas.Bool.Decides.{nat_tests}
 use Rattle.gl_base.specs.Names.{or_else}
 use Rattle.gl_base.specs.Texts.{Text, is_ascii_text, bytes_of}
 use Rattle.gl_base.proofs.Chars.{chars_of_ascii}
-use Rattle.gl_ast.specs.Marks.{is_capital, is_small, in_class, in_tag}
+use Rattle.gl_ast.specs.Marks.{is_capital, is_small, starts_name, in_name, in_class, in_tag}
 use Rattle.gl_ast.specs.Modes.{Found, found, token, spaced}
 use Rattle.gl_ast.specs.Scans.{after, after_all, after_word, after_pieces}
 use Rattle.gl_ast.specs.Settling.{settled, settle_from, settled_token, within_tag, edge_after, is_text, kept, next_edge}
 use Rattle.gl_ast.specs.TokenReading.{width, token_at, stands_white}
-use Rattle.gl_ast.specs.TokenText.{ends_tag_name}
+use Rattle.gl_ast.specs.TokenText.{is_name, ends_tag_name}
 use Rattle.gl_ast.specs.Tokens.{forms, IsOneOf}
-use Rattle.gl_ast.specs.Words.{after_class_part, after_more_class, after_parts, after_class, after_tag, after_element_name, after_tag_opening}
+use Rattle.gl_ast.specs.Words.{after_class_part, after_more_class, after_parts, after_class, after_tag, after_element_name, after_block_name, after_slot_name, after_label, after_tag_opening}
 use Rattle.gl_ast.specs.declared.edge.Edge.{Edge}
 use Rattle.gl_ast.specs.declared.edge.Edge.TheVariants.{Keep}
 use Rattle.gl_ast.specs.declared.mode.Mode.{Mode}
@@ -22,7 +23,8 @@ use Rattle.gl_ast.specs.declared.mode.Mode.TheVariants as m
 use Rattle.gl_ast.specs.declared.token.Token.{Token}
 use Rattle.gl_ast.specs.declared.token.TokenKind.{TokenKind}
 use Rattle.gl_ast.specs.declared.token.TokenKind.TheVariants as k
-use Rattle.gl_ast.proofs.Forward.{Moves, bind_some, if_some, piece_step, piece_end}
+use Rattle.gl_ast.proofs.BlockNames.{block_read}
+use Rattle.gl_ast.proofs.Forward.{Moves, both, bind_some, if_some, piece_step, piece_end}
 use Rattle.gl_ast.proofs.Longest.{found_left, after_is_front}
 use Rattle.gl_ast.proofs.Progress.{more_class_moves}
 use Rattle.gl_ast.proofs.Readings.{token_longest}
@@ -121,11 +123,37 @@ element_written : (bs rest : List ℕ) → after_element_name bs ≡ Some rest �
 unfolding after_element_name
 element_written bs rest e = one_written (after_tag bs) (after_class bs) bs rest (word_written is_small in_tag small_sign tag_sign bs rest) (class_written bs rest) e
 
+name_sign : (b : ℕ) → in_name b ≡ true → IsNameSign b
+name_sign b e = (grind (arith, nat_tests), grind (arith, nat_tests))
+
+start_sign : (b : ℕ) → starts_name b ≡ true → IsNameSign b
+start_sign b e = (grind (arith, nat_tests), grind (arith, nat_tests))
+
+rest_good : (n : Text) → list_all in_name n ≡ true → IsTagName n
+rest_good [] e = tt
+rest_good (c ∷ cs) e = let k = both (in_name c) (list_all in_name cs) e in let q = name_sign c k.0 in (q.0, q.1, rest_good cs k.1)
+
+name_good : (n : Text) → is_name n ≡ true → IsTagName n
+name_good [] e = tt
+name_good (c ∷ cs) e = let k = both (starts_name c) (list_all in_name cs) e in let q = start_sign c k.0 in (q.0, q.1, rest_good cs k.1)
+
+slot_written : (bs rest : List ℕ) → after_slot_name bs ≡ Some rest → Written bs rest
+unfolding after_slot_name
+slot_written bs rest e =
+    let b = bind_some (after (codes ":") bs) after_block_name rest e in
+    let colon : IsNameSign 58 = (omega arith, refl) in
+    let r = block_read b.0 rest b.2 in
+    written_then bs b.0 rest (codes ":", after_is_front (codes ":") bs b.0 b.1, (colon.0, colon.1, tt)) (r.0, r.1, name_good r.0 (both (is_name r.0) _ r.2).0)
+
+label_written : (bs rest : List ℕ) → after_label bs ≡ Some rest → Written bs rest
+unfolding after_label
+label_written bs rest e = one_written (after_element_name bs) (after_slot_name bs) bs rest (element_written bs rest) (slot_written bs rest) e
+
 opening_written : (bs rest : List ℕ) → after_tag_opening bs ≡ Some rest → (n : List ℕ) × (bs ≡ (60 ∷ n) ++ rest) × IsTagName n
 unfolding after_tag_opening
 opening_written bs rest e =
-    let b = bind_some (after (codes "<") bs) after_element_name rest e in
-    let w = element_written b.0 rest b.2 in
+    let b = bind_some (after (codes "<") bs) after_label rest e in
+    let w = label_written b.0 rest b.2 in
     (w.0, after_is_front (codes "<") bs b.0 b.1 ∙ ap (λ l. 60 ∷ l) w.1, w.2)
 
 -- Which tokens open tags.

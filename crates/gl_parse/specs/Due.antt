@@ -3,15 +3,17 @@
 use Rattle.std.specs.Prelude.{ℕ, List, [], ◌∷◌, ◌++◌, ◌-◌, Bool, true, false, not, ◌&&◌, ◌||◌, nat_le, codes, length, if◌then◌else◌, Option, Some, None, option_map, is_some, unwrap_or, ◌==◌}
 use Rattle.std.specs.Str.{bytes_eq}
 use Rattle.gl_base.specs.Answers.{◌>>=◌}
+use Rattle.gl_base.specs.Names.{has_text}
 use Rattle.gl_base.specs.Texts.{Text}
-use Rattle.gl_ast.specs.Grammar.{deepest_calls, deepest_nesting, is_void}
+use Rattle.gl_ast.specs.Grammar.{deepest_calls, deepest_nesting, is_void, is_gap}
 use Rattle.gl_ast.specs.Marks.{is_small, is_capital}
-use Rattle.gl_ast.specs.TokenText.{end_name_of, parameters_of, leads}
+use Rattle.gl_ast.specs.TokenText.{end_name_of, parameters_of, leads, string_of, is_block_name}
 use Rattle.gl_ast.specs.declared.token.Token.{Token}
 use Rattle.gl_ast.specs.declared.token.TokenKind.{TokenKind}
 use Rattle.gl_ast.specs.declared.token.TokenKind.TheVariants as k
 use Rattle.gl_exprs.specs.ReadExpr.{token_expr, is_lone}
 use Rattle.gl_exprs.specs.Take.{same_kind}
+use Rattle.gl_parse.specs.ReadStmt.{slot_name, is_slot_opening, is_no_name}
 
 -- what ends statements: the end of the text, the end tag of a name, or the end of the block of a word, where an else
 -- may stand before it or not
@@ -42,17 +44,25 @@ pub data Due : Type 0 where
   named : ℕ → TokenKind → Due
   -- what stands in a mustache, and its end
   inner : Due
-  -- expressions up to the end of a mustache
+  -- the expressions of a yield up to the end of its mustache; after `to`, which is one of them or stands before `=`; and
+  -- the name of a block in a string
   values : Due
+  after_to : Due
+  target : Due
   -- what stands after `=` in a tag
   value : Due
   -- the rest of a quoted value
   quoted : Quoted → Due
   -- the rest of a tag of this name, a component or not, in which elements and blocks may nest so deep; after the name of
-  -- an attribute or argument; and after the parameters
+  -- an attribute or argument; and after the parameters of a component, where these are none or not
   items : Text → Bool → ℕ → Due
   given : Text → Bool → ℕ → Due
   tag_end : Text → Bool → ℕ → Due
+  -- what stands in a component of this name: gaps, and then statements or blocks that are passed; after blocks of these
+  -- names; and the rest of the opening of such a block, which is named with its `:`
+  filling : ℕ → Text → Due
+  slots : ℕ → Text → List Text → Due
+  slot_tag : ℕ → Text → Due
   -- statements and what ends them; after `{{` among them; and after else
   content : ℕ → Stop → Due
   opened : ℕ → Stop → Due
@@ -141,10 +151,14 @@ starts_quoted q t =
 abbrev pub has_body : Text → Bool → Bool
 has_body n component = component || not (is_void n)
 
-unfoldable pub ends_tag : Text → Bool → ℕ → Token → Dues
-ends_tag n component depth t =
+-- what stands in a tag; where `bare` is true it is a component's without parameters, in which blocks may be passed
+abbrev pub inside : Bool → ℕ → Text → Due
+inside bare depth n = if bare then filling depth n else content depth (tag n)
+
+unfoldable pub ends_tag : Text → Bool → Bool → ℕ → Token → Dues
+ends_tag n component bare depth t =
     if same_kind t.kind k.SelfEnd then Some []
-    else (if same_kind t.kind k.TagEnd then Some (if has_body n component then content depth (tag n) ∷ [] else []) else None)
+    else (if same_kind t.kind k.TagEnd then Some (if has_body n component then inside bare depth n ∷ [] else []) else None)
 
 abbrev pub is_at_name : Token → Bool
 is_at_name t = same_kind t.kind k.Argument && leads (λ c. c == 64) t.text
@@ -157,8 +171,8 @@ starts_item n component depth t =
     if same_kind t.kind k.Attribute || (component && is_at_name t) then Some (given n component depth ∷ [])
     else (if same_kind t.kind k.OpenMustache then Some (called deepest_calls k.CloseMustache ∷ items n component depth ∷ [])
     else (if is_plain t then Some (items n component depth ∷ [])
-    else (if component && same_kind t.kind k.Parameters then Some (tag_end n component depth ∷ [])
-    else ends_tag n component depth t)))
+    else (if component && same_kind t.kind k.Parameters then Some (tag_end n (is_no_name (parameters_of t.text)) depth ∷ [])
+    else ends_tag n component component depth t)))
 
 unfoldable pub starts_given : Text → Bool → ℕ → Token → Dues
 starts_given n component depth t =
@@ -197,6 +211,27 @@ starts_content depth stop t =
     else (if same_kind t.kind k.OpenBlock || same_kind t.kind k.TagOpening then starts_nested depth stop t
     else (if same_kind t.kind k.EndTag then (if is_end_of stop t then Some [] else None)
     else (if same_kind t.kind k.OpenClosing then takes_closing stop else None))))
+
+-- the opening of a block that is passed, where none of the names is its own
+abbrev pub slot_due : ℕ → Text → List Text → Option Text → Dues
+slot_due depth n taken None = None
+slot_due depth n taken (Some m) = if depth == 0 || has_text m taken then None else Some (slot_tag (depth - 1) (58 ∷ m) ∷ slots depth n (taken ++ m ∷ []) ∷ [])
+
+unfoldable pub starts_filling : ℕ → Text → Token → Dues
+starts_filling depth n t =
+    if is_gap t then Some (filling depth n ∷ [])
+    else (if is_slot_opening t then slot_due depth n [] (slot_name t.text) else starts_content depth (tag n) t)
+
+unfoldable pub starts_slots : ℕ → Text → List Text → Token → Dues
+starts_slots depth n taken t =
+    if is_gap t then Some (slots depth n taken ∷ [])
+    else (if is_slot_opening t then slot_due depth n taken (slot_name t.text)
+    else (if same_kind t.kind k.EndTag && bytes_eq (end_name_of t.text) n then Some [] else None))
+
+unfoldable pub starts_slot_tag : ℕ → Text → Token → Dues
+starts_slot_tag depth n t =
+    if same_kind t.kind k.TagEnd then Some (content depth (tag n) ∷ [])
+    else (if same_kind t.kind k.Parameters then Some (kind k.TagEnd ∷ content depth (tag n) ∷ []) else None)
 
 abbrev pub takes_else : ℕ → Stop → Dues
 takes_else depth (block w true) = Some (after_else depth w ∷ [])
@@ -239,7 +274,15 @@ starts_after_else depth w t =
     else (if depth == 0 then None else starts_chained w (depth - 1) t)
 
 unfoldable pub starts_values : Token → Dues
-starts_values t = if same_kind t.kind k.CloseMustache then Some [] else and_then values (starts_one deepest_calls t)
+starts_values t =
+    if same_kind t.kind k.CloseMustache then Some []
+    else (if is_path_word (codes "to") t then Some (after_to ∷ []) else and_then values (starts_one deepest_calls t))
+
+unfoldable pub starts_after_to : Token → Dues
+starts_after_to t = if same_kind t.kind k.Equals then Some (target ∷ kind k.CloseMustache ∷ []) else starts_values t
+
+unfoldable pub starts_target : Token → Dues
+starts_target t = if same_kind t.kind k.StringLit && is_block_name (string_of t.text) then Some [] else None
 
 unfoldable pub starts_first : ℕ → Stop → Token → Dues
 starts_first depth stop t = and_then (more_values depth stop) (starts_one deepest_calls t)
@@ -271,11 +314,16 @@ due_after (after_name calls end) t = starts_after_name calls end t
 due_after (named calls end) t = starts_named calls end t
 due_after inner t = starts_inner t
 due_after values t = starts_values t
+due_after after_to t = starts_after_to t
+due_after target t = starts_target t
 due_after value t = starts_value t
 due_after (quoted q) t = starts_quoted q t
 due_after (items n component depth) t = starts_item n component depth t
 due_after (given n component depth) t = starts_given n component depth t
-due_after (tag_end n component depth) t = ends_tag n component depth t
+due_after (tag_end n bare depth) t = ends_tag n true bare depth t
+due_after (filling depth n) t = starts_filling depth n t
+due_after (slots depth n taken) t = starts_slots depth n taken t
+due_after (slot_tag depth n) t = starts_slot_tag depth n t
 due_after (content depth stop) t = starts_content depth stop t
 due_after (opened depth stop) t = starts_opened depth stop t
 due_after (after_else depth w) t = starts_after_else depth w t

@@ -1,19 +1,19 @@
 -- Statements, read from the front of the tokens.
-use Rattle.std.specs.Prelude.{ℕ, zero, suc, List, [], ◌∷◌, Bool, true, false, ◌&&◌, ◌||◌, ◌==◌, drop, length, nat_le, codes, if◌then◌else◌, Option, Some, None, option_map}
+use Rattle.std.specs.Prelude.{ℕ, zero, suc, List, [], ◌∷◌, Bool, true, false, ◌&&◌, ◌||◌, ◌==◌, drop, length, map, nat_le, codes, if◌then◌else◌, Option, Some, None, option_map, is_some}
 use Rattle.std.specs.Str.{bytes_eq, is_utf8}
 use Rattle.gl_base.specs.Answers.{◌>>=◌}
 use Rattle.gl_base.specs.Texts.{Text}
-use Rattle.gl_ast.specs.Grammar.{deepest_calls, deepest_nesting, is_void, is_silent, if_word}
+use Rattle.gl_ast.specs.Grammar.{deepest_calls, deepest_nesting, is_void, is_silent, is_gap, after_gaps, are_new, if_word}
 use Rattle.gl_ast.specs.Marks.{is_small, is_capital}
 use Rattle.gl_ast.specs.Settling.{settled}
-use Rattle.gl_ast.specs.Template.{Expr, Exprs, AttrValue, Part, Stmt, text_stmt, comment_stmt, put, element, component_stmt, if_stmt, each, let_stmt, yield, Body, end, stmt, no_slots, block, body_of, exprs_of}
+use Rattle.gl_ast.specs.Template.{Expr, Exprs, AttrValue, Part, Stmt, text_stmt, comment_stmt, put, element, component_stmt, if_stmt, each, let_stmt, yield, Body, end, stmt, Slots, no_slots, block, slots_of, body_of, exprs_of}
 use Rattle.gl_ast.specs.TokenReading.{template_tokens, lone_tokens}
-use Rattle.gl_ast.specs.TokenText.{decoded, string_of, comment_of, end_name_of, parameters_of, leads}
+use Rattle.gl_ast.specs.TokenText.{decoded, string_of, is_block_name, comment_of, end_name_of, parameters_of, leads}
 use Rattle.gl_ast.specs.declared.token.Token.{Token}
 use Rattle.gl_ast.specs.declared.token.TokenKind.TheVariants as k
 use Rattle.gl_exprs.specs.ReadExpr.{read_exprs, read_expr, read_mustache}
 use Rattle.gl_parse.specs.ReadItem.{read_tag_items}
-use Rattle.gl_exprs.specs.Take.{Taken, stands, stands_word, take_kind, take_word}
+use Rattle.gl_exprs.specs.Take.{Taken, same_kind, stands, stands_word, take_kind, take_word, read_many}
 
 -- how a reader of one statement, of a body and of a block's head look
 abbrev pub Reader : Type 0 → Type 0
@@ -49,14 +49,25 @@ read_stmts one (suc n) (t ∷ ts) =
 unfoldable pub read_body : Reader Stmt → List Token → Taken Body
 read_body one ts = option_map (λ ss. (body_of ss.0, ss.1)) (read_stmts one (length ts) ts)
 
--- `{{`, the word yield, values, `}}`
+-- the block that a yield names
+unfoldable pub read_target : List Token → Taken Text
+read_target ts =
+    if stands_word (codes "to") ts then (do
+      word ← take_word (codes "to") ts
+      mark ← take_kind k.Equals word
+      name ← take_kind k.StringLit mark.1
+      if is_block_name (string_of name.0) then Some (string_of name.0, name.1) else None)
+    else Some (codes "default", ts)
+
+-- `{{`, the word yield, values, the name of a block, `}}`
 unfoldable pub read_yield : List Token → Taken Stmt
 read_yield ts = do
   front ← take_kind k.OpenMustache ts
   word ← take_word (codes "yield") front.1
   values ← read_exprs (read_expr deepest_calls) (length word) word
-  back ← take_kind k.CloseMustache values.1
-  Some (yield (exprs_of values.0) (codes "default"), back.1)
+  target ← read_target values.1
+  back ← take_kind k.CloseMustache target.1
+  Some (yield (exprs_of values.0) target.0, back.1)
 
 -- a statement without another in it
 unfoldable pub read_flat : List Token → Taken Stmt
@@ -97,6 +108,20 @@ abbrev pub full_tag : Opening → Body → Stmt
 full_tag (element_opening n ps) b = element n ps b
 full_tag (component_opening n ps given ns) b = component_stmt n ps given (block (codes "default") ns b no_slots)
 
+-- a component with these blocks
+abbrev pub filled_tag : Opening → Slots → Stmt
+filled_tag (element_opening n ps) ss = element n ps end
+filled_tag (component_opening n ps given ns) ss = component_stmt n ps given ss
+
+abbrev pub is_no_name : List Text → Bool
+is_no_name [] = true
+is_no_name (n ∷ ns) = false
+
+-- blocks with names may stand in it
+abbrev pub takes_slots : Opening → Bool
+takes_slots (element_opening n ps) = false
+takes_slots (component_opening n ps given ns) = is_no_name ns
+
 unfoldable pub read_element : Text → Reader Opening
 read_element n ts = option_map (λ i. (element_opening n i.0.0, i.1)) (read_tag_items false ts)
 
@@ -121,6 +146,58 @@ read_opening ts = do
   name ← opened_name opening.0
   read_named_tag name opening.1
 
+-- the name after `<:`
+abbrev pub after_colon : Text → Option Text
+after_colon [] = None
+after_colon (c ∷ cs) = if c == 58 then Some cs else None
+
+unfoldable pub slot_name : Text → Option Text
+slot_name x = opened_name x >>= after_colon
+
+-- the token opens a block that is passed
+abbrev pub is_slot_opening : Token → Bool
+is_slot_opening t = same_kind t.kind k.TagOpening && is_some (slot_name t.text)
+
+unfoldable pub stands_slot : List Token → Bool
+stands_slot [] = false
+stands_slot (t ∷ ts) = is_slot_opening t
+
+abbrev pub stands_gap : List Token → Bool
+stands_gap [] = false
+stands_gap (t ∷ ts) = is_gap t
+
+-- the opening of a block that is passed: its name and parameters, and its end
+unfoldable pub read_slot_opening : Reader (Text × List Text)
+read_slot_opening ts = do
+  opening ← take_kind k.TagOpening ts
+  name ← slot_name opening.0
+  names ← read_parameters opening.1
+  mark ← take_kind k.TagEnd names.1
+  Some ((name, names.0), mark.1)
+
+-- a block that is passed, where `inner` reads its body
+unfoldable pub read_slot : Reader Body → Reader (Text × (List Text × Body))
+read_slot inner ts = do
+  opening ← read_slot_opening ts
+  body ← inner opening.1
+  rest ← take_end_tag (58 ∷ opening.0.0) body.1
+  Some ((opening.0.0, (opening.0.1, body.0)), rest)
+
+-- one after gaps or none
+abbrev pub stands_next : List Token → Bool
+stands_next ts = stands_slot (after_gaps ts)
+
+abbrev pub read_next : Reader Body → Reader (Text × (List Text × Body))
+read_next inner ts = read_slot inner (after_gaps ts)
+
+abbrev pub names_in : List (Text × (List Text × Body)) → List Text
+names_in ss = map (λ s. s.0) ss
+
+-- blocks that are passed, each of another name, and the gaps round them
+unfoldable pub read_slots : Reader Body → Reader Slots
+read_slots inner ts =
+    read_many stands_next (read_next inner) (length ts) ts >>= λ ss. (if are_new [] (names_in ss.0) then Some (slots_of ss.0, after_gaps ss.1) else None)
+
 -- a body and the end tag
 unfoldable pub read_tagged : Reader Body → Opening → List Token → Taken Stmt
 read_tagged inner o ts = do
@@ -128,14 +205,25 @@ read_tagged inner o ts = do
   rest ← take_end_tag (name_of o) body.1
   Some (full_tag o body.0, rest)
 
--- the end of an opening tag, and what follows
-unfoldable pub read_after_opening : Reader Body → Opening → List Token → Taken Stmt
-read_after_opening inner o ts =
-    if stands k.SelfEnd ts then option_map (λ t. (empty_tag o, t.1)) (take_kind k.SelfEnd ts)
-    else (take_kind k.TagEnd ts >>= λ mark. (if opens_void o then Some (empty_tag o, mark.1) else read_tagged inner o mark.1))
+-- blocks with names and the end tag
+unfoldable pub read_filled : Reader Slots → Opening → List Token → Taken Stmt
+read_filled filling o ts = do
+  slots ← filling ts
+  rest ← take_end_tag (name_of o) slots.1
+  Some (filled_tag o slots.0, rest)
 
-unfoldable pub read_tag : Reader Body → List Token → Taken Stmt
-read_tag inner ts = read_opening ts >>= λ o. read_after_opening inner o.0 o.1
+-- what stands in a tag: where the opening of a block comes after gaps or none, and the tag may have such, they are blocks
+unfoldable pub read_content : Reader Body → Reader Slots → Opening → List Token → Taken Stmt
+read_content inner filling o ts = if takes_slots o && stands_next ts then read_filled filling o ts else read_tagged inner o ts
+
+-- the end of an opening tag, and what follows
+unfoldable pub read_after_opening : Reader Body → Reader Slots → Opening → List Token → Taken Stmt
+read_after_opening inner filling o ts =
+    if stands k.SelfEnd ts then option_map (λ t. (empty_tag o, t.1)) (take_kind k.SelfEnd ts)
+    else (take_kind k.TagEnd ts >>= λ mark. (if opens_void o then Some (empty_tag o, mark.1) else read_content inner filling o mark.1))
+
+unfoldable pub read_tag : Reader Body → Reader Slots → List Token → Taken Stmt
+read_tag inner filling ts = read_opening ts >>= λ o. read_after_opening inner filling o.0 o.1
 
 -- the key of an each
 unfoldable pub read_key : List Token → Taken Text
@@ -241,21 +329,27 @@ read_block head ts = do
   rest ← take_closing (word_of inside.0) inside.1
   Some (inside.0, rest)
 
--- a statement, where `inner` reads the bodies in it and `head` a block after its opening
-unfoldable pub read_nested : Reader Body → Reader Stmt → List Token → Taken Stmt
-read_nested inner head ts =
+-- a statement, where `inner` reads the bodies in it, `filling` the blocks that are passed in it and `head` a block after
+-- its opening
+unfoldable pub read_nested : Reader Body → Reader Slots → Reader Stmt → List Token → Taken Stmt
+read_nested inner filling head ts =
     if stands k.OpenBlock ts then read_block head ts
-    else (if stands k.TagOpening ts then read_tag inner ts else read_flat ts)
+    else (if stands k.TagOpening ts then read_tag inner filling ts else read_flat ts)
 
 -- a block from its word on, where `one` reads the statements in it and `chained` the block that an else has as its head
 unfoldable pub read_block_with : Reader Stmt → Reader Stmt → List Token → Taken Stmt
 read_block_with one chained ts = read_head (read_body one) (read_else (read_body one) chained) ts
 
--- one statement, and a block that an else has as its head, where elements and blocks may nest so deep
+-- one statement, the blocks that are passed in one, and a block that an else has as its head, where elements and blocks
+-- may nest so deep
 unfoldable mutual
   pub read_stmt : ℕ → List Token → Taken Stmt
   read_stmt zero ts = read_flat ts
-  read_stmt (suc depth) ts = read_nested (read_body (read_stmt depth)) (read_block_with (read_stmt depth) (read_chained depth)) ts
+  read_stmt (suc depth) ts = read_nested (read_body (read_stmt depth)) (read_filling depth) (read_block_with (read_stmt depth) (read_chained depth)) ts
+
+  pub read_filling : ℕ → List Token → Taken Slots
+  read_filling zero ts = None
+  read_filling (suc depth) ts = read_slots (read_body (read_stmt depth)) ts
 
   pub read_chained : ℕ → List Token → Taken Stmt
   read_chained zero ts = None

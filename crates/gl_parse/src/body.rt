@@ -2,15 +2,17 @@
 ghost use Rattle.std.specs.Prelude.{◌≡◌};
 ghost use Rattle.gl_base.specs.Answers.{Gives};
 ghost use Rattle.gl_ast.specs.Grammar.{is_silent};
-ghost use Rattle.gl_ast.specs.Template.{body_of};
-ghost use Rattle.gl_ast.specs.View.{stmt_view};
+ghost use Rattle.gl_ast.specs.Template.{body_of, slots_of};
+ghost use Rattle.gl_ast.specs.View.{stmt_view, slot_view};
 ghost use Rattle.gl_exprs.specs.Fault.{Fails};
-ghost use Rattle.gl_parse.specs.ReadStmt.{is_end, stands_silent, read_body, read_tag, read_block, read_block_with, read_else, read_nested, read_stmt, read_chained};
+ghost use Rattle.gl_parse.specs.ReadStmt.{is_end, stands_silent, read_body, read_tag, read_slot, read_slots, read_filling, read_block, read_block_with, read_else, read_nested, read_stmt, read_chained};
 
 use crate::block::{Front, open_block, take_closing};
+use crate::names::NameSet;
+use crate::slot::{SlotOpening, open_slot, skip_gaps, stands_next, stands_slot};
 use crate::statement::{flat, stands_opened};
-use crate::tag::{open_tag, take_end_tag};
-use gl_ast::{Body, Stmt, Token, TokenKind};
+use crate::tag::{open_tag, take_end_of, take_end_tag};
+use gl_ast::{Block, Body, Slot, Slots, Stmt, Token, TokenKind};
 use gl_exprs::{Cursor, Misread};
 use std::alloc::Global;
 
@@ -79,7 +81,7 @@ fn statement(alloc: Global, tokens: &mut Cursor, depth: u32) -> Result<Stmt, Mis
 #[cycle(nesting)]
 #[tactic(auto, unfolding(crate::specs::ReadStmt::read_nested))]
 fn nested(alloc: Global, tokens: &mut Cursor, depth: u32) -> Result<Stmt, Misread>
-    ensures { Gives Fails (λ s. (stmt_view s, tokens.new)) result (read_nested (read_body (read_stmt depth)) (read_block_with (read_stmt depth) (read_chained depth)) tokens.old) }
+    ensures { Gives Fails (λ s. (stmt_view s, tokens.new)) result (read_nested (read_body (read_stmt depth)) (read_filling depth) (read_block_with (read_stmt depth) (read_chained depth)) tokens.old) }
 {
     if tokens.stands(TokenKind::OpenBlock) {
         return block(alloc, tokens, depth);
@@ -92,9 +94,9 @@ fn nested(alloc: Global, tokens: &mut Cursor, depth: u32) -> Result<Stmt, Misrea
 
 // An element or a component.
 #[cycle(nesting)]
-#[tactic(auto, unfolding(crate::specs::ReadStmt::read_tag, crate::specs::ReadStmt::read_after_opening, crate::specs::ReadStmt::read_tagged))]
+#[tactic(auto, unfolding(crate::specs::ReadStmt::read_tag, crate::specs::ReadStmt::read_after_opening, crate::specs::ReadStmt::read_content, crate::specs::ReadStmt::read_filled, crate::specs::ReadStmt::read_tagged))]
 fn tag(alloc: Global, tokens: &mut Cursor, depth: u32) -> Result<Stmt, Misread>
-    ensures { Gives Fails (λ s. (stmt_view s, tokens.new)) result (read_tag (read_body (read_stmt depth)) tokens.old) }
+    ensures { Gives Fails (λ s. (stmt_view s, tokens.new)) result (read_tag (read_body (read_stmt depth)) (read_filling depth) tokens.old) }
 {
     let opening = open_tag(alloc, tokens)?;
     if tokens.stands(TokenKind::SelfEnd) {
@@ -105,9 +107,60 @@ fn tag(alloc: Global, tokens: &mut Cursor, depth: u32) -> Result<Stmt, Misread>
     if opening.is_void() {
         return Ok(opening.into_empty(alloc));
     }
+    if opening.takes_slots() && stands_next(tokens) {
+        let slots = filling(alloc, tokens, depth)?;
+        take_end_tag(tokens, opening.name())?;
+        return Ok(opening.into_filled(alloc, slots));
+    }
     let body = body(alloc, tokens, depth)?;
     take_end_tag(tokens, opening.name())?;
     Ok(opening.into_full(alloc, body)?)
+}
+
+// Blocks that are passed, where such may stand.
+#[cycle(nesting)]
+fn filling(alloc: Global, tokens: &mut Cursor, depth: u32) -> Result<Slots, Misread>
+    ensures { Gives Fails (λ ss. (slots_of ss, tokens.new)) result (read_filling depth tokens.old) }
+{
+    if depth > 0 {
+        return slots(alloc, tokens, depth - 1);
+    }
+    Err(Misread::NotSpelled)
+}
+
+// Blocks that are passed, each of another name, and the gaps round them.
+#[cycle(nesting)]
+fn slots(alloc: Global, tokens: &mut Cursor, depth: u32) -> Result<Slots, Misread>
+    ensures { Gives Fails (λ ss. (slots_of ss, tokens.new)) result (read_slots (read_body (read_stmt depth)) tokens.old) }
+{
+    let mut list = Slots::new(alloc);
+    let mut names = NameSet::new(alloc);
+    skip_gaps(tokens);
+    while stands_slot(tokens) {
+        let next = slot(alloc, tokens, depth)?;
+        if !names.add(alloc, next.name.as_str())? {
+            return Err(Misread::NotSpelled);
+        }
+        list.push(next)?;
+        skip_gaps(tokens);
+    }
+    Ok(list)
+}
+
+// A block that is passed.
+#[cycle(nesting)]
+#[tactic(auto, unfolding(crate::specs::ReadStmt::read_slot))]
+fn slot(alloc: Global, tokens: &mut Cursor, depth: u32) -> Result<Slot, Misread>
+    ensures { Gives Fails (λ s. (slot_view s, tokens.new)) result (read_slot (read_body (read_stmt depth)) tokens.old) }
+{
+    let opening = open_slot(alloc, tokens)?;
+    let body = body(alloc, tokens, depth)?;
+    take_end_of(tokens, &opening.label)?;
+    let SlotOpening { name, params, .. } = opening;
+    Ok(Slot {
+        name,
+        block: Block { params, body },
+    })
 }
 
 #[cycle(nesting)]

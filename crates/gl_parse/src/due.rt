@@ -1,4 +1,5 @@
 // What a template is still to have after the tokens that were read.
+use crate::names::NameSet;
 use gl_ast::{Str, TokenKind};
 
 /// The words of blocks.
@@ -40,8 +41,9 @@ pub struct Tag<'a> {
     pub depth: u32,
 }
 
-/// What is due next. A number first says how deep calls, or elements and blocks, may nest.
-#[derive(Clone, Copy)]
+/// What is due next. A number first says how deep calls, or elements and blocks, may nest. A component or a block that is
+/// passed is told by its opening.
+#[derive(Drop)]
 pub enum Due<'a> {
     /// A token of this kind.
     Kind(TokenKind),
@@ -58,8 +60,12 @@ pub enum Due<'a> {
     Named(u32, TokenKind),
     /// What stands in a mustache, and its end.
     Inner,
-    /// Expressions up to the end of a mustache.
+    /// The expressions of a yield up to the end of its mustache.
     Values,
+    /// The same after `to`, which is one of them or stands before `=`.
+    AfterTo,
+    /// The name of a block in a string.
+    Target,
     /// What stands after `=` in a tag.
     Value,
     /// The rest of a quoted value.
@@ -68,8 +74,14 @@ pub enum Due<'a> {
     Items(Tag<'a>),
     /// The same after the name of an attribute or argument.
     Given(Tag<'a>),
-    /// The end of a tag.
-    TagEnd(Tag<'a>),
+    /// The end of a component's tag after its parameters, where these are none or not.
+    TagEnd(Tag<'a>, bool),
+    /// What stands in a component: gaps, and then statements or blocks that are passed.
+    Filling(u32, &'a Str),
+    /// The same after blocks of these names.
+    Slots(u32, &'a Str, NameSet),
+    /// The rest of the opening of a block that is passed.
+    SlotTag(u32, &'a Str),
     /// Statements and what ends them.
     Content(u32, Stop<'a>),
     /// The same after `{{`.

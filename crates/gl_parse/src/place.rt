@@ -1,16 +1,29 @@
 // The place at which a text leaves the grammar.
-ghost use Rattle.std.specs.Prelude.{◌≡◌, IfOk, ◌∷◌, []};
+ghost use Rattle.std.specs.Prelude.{◌≡◌, IfOk, ◌∷◌, [], true};
 ghost use Rattle.gl_parse.specs.Due as d;
-ghost use Rattle.gl_parse.specs.Dues.{seen, Meets, IsStep, due_view};
+ghost use Rattle.gl_parse.specs.Dues.{seen, Meets, IsStep, due_view, name_of};
 
-use crate::due::Due;
+use crate::due::{Due, Tag};
 use crate::stack::{due, next};
-use crate::{starts, starts_content as content, starts_tag as tag};
+use crate::{starts, starts_content as content, starts_slots as slots, starts_tag as tag};
 use gl_ast::Token;
 use std::alloc::{AllocError, Global};
 
+// The tag, which is that of a component.
+fn component(tag: Tag) -> Tag
+    ensures name { name_of result ≡ name_of tag.entry }
+    ensures component { result.component ≡ true }
+    ensures depth { result.depth ≡ tag.entry.depth }
+{
+    Tag {
+        opening: tag.opening,
+        component: true,
+        depth: tag.depth,
+    }
+}
+
 // Whether the token can stand where this is due, and then what it leaves due is put in front.
-#[tactic(auto, unfolding(crate::specs::Due::due_after), using(crate::proofs::Meeting::meeting))]
+#[tactic(auto, unfolding(crate::specs::Due::due_after, crate::specs::Due::starts_target), using(crate::proofs::Meeting::meeting))]
 fn takes_first<'a>(
     alloc: Global,
     list: &mut Vec<Due<'a>>,
@@ -29,11 +42,18 @@ fn takes_first<'a>(
         Due::Named(calls, end) => starts::named(list, calls, end, token),
         Due::Inner => starts::inner(alloc, list, token),
         Due::Values => starts::values(alloc, list, token),
+        Due::AfterTo => starts::after_to(alloc, list, token),
+        Due::Target => starts::target(alloc, token),
         Due::Value => tag::value(list, token),
         Due::Quoted(quoted) => tag::quoted(list, quoted, token),
-        Due::Items(tag) => tag::items(list, tag, token),
-        Due::Given(tag) => tag::given(list, tag, token),
-        Due::TagEnd(tag) => tag::tag_end(list, tag, token),
+        Due::Items(tag) => tag::items(alloc, list, tag, token),
+        Due::Given(tag) => tag::given(alloc, list, tag, token),
+        Due::TagEnd(tag, bare) => tag::tag_end(list, component(tag), bare, token),
+        Due::Filling(depth, opening) => slots::filling(alloc, list, depth, opening, token),
+        Due::Slots(depth, opening, names) => {
+            slots::slots(alloc, list, depth, opening, names, token)
+        }
+        Due::SlotTag(depth, opening) => slots::slot_tag(list, depth, opening, token),
         Due::Content(depth, stop) => content::content(list, depth, stop, token),
         Due::Opened(depth, stop) => content::opened(alloc, list, depth, stop, token),
         Due::AfterElse(depth, word) => content::after_else(list, depth, word, token),

@@ -1,6 +1,9 @@
 // What a token leaves due in a mustache or an expression. Each function answers whether the token can stand there, and
 // puts what is due after it in front of the list.
-ghost use Rattle.std.specs.Prelude.{◌≡◌, IsTrue};
+ghost use Rattle.std.specs.Prelude.{◌≡◌, ◌&&◌, IfOk, IsTrue};
+ghost use Rattle.gl_ast.specs.TokenText.{string_of, is_block_name};
+ghost use Rattle.gl_ast.specs.declared.token.TokenKind.TheVariants as k;
+ghost use Rattle.gl_exprs.specs.Take.{same_kind};
 ghost use Rattle.gl_base.specs.Texts.{is_ascii_text};
 ghost use Rattle.gl_parse.specs.Due as d;
 ghost use Rattle.gl_parse.specs.Dues.{seen, Meets};
@@ -9,8 +12,9 @@ use crate::due::Due;
 use crate::stack::due;
 use gl_ast::{Token, TokenKind};
 use gl_exprs::expr::DEEPEST_CALLS;
-use gl_exprs::name::{is_lone, is_text};
+use gl_exprs::name::{is_block_name, is_lone, is_text};
 use gl_exprs::operand::is_operand;
+use gl_exprs::words::string_of;
 use std::alloc::{AllocError, Global};
 
 /// Whether the token is a path of one name that is not reserved.
@@ -150,7 +154,7 @@ pub fn inner(alloc: Global, list: &mut Vec<Due>, token: &Token) -> Result<bool, 
     one(alloc, list, DEEPEST_CALLS, token)
 }
 
-/// A token of expressions up to the end of a mustache.
+/// A token of a yield's expressions up to the end of its mustache.
 #[tactic(auto, unfolding(crate::specs::Due::starts_values), using(crate::proofs::Meeting::meeting))]
 pub fn values(alloc: Global, list: &mut Vec<Due>, token: &Token) -> Result<bool, AllocError>
     ensures { Meets result (d.starts_values token.now) (seen list.old.items) (seen list.new.items) }
@@ -158,6 +162,33 @@ pub fn values(alloc: Global, list: &mut Vec<Due>, token: &Token) -> Result<bool,
     if token.kind == TokenKind::CloseMustache {
         return Ok(true);
     }
+    if is_word("to", token) {
+        due(list, Due::AfterTo)?;
+        return Ok(true);
+    }
     due(list, Due::Values)?;
     one(alloc, list, DEEPEST_CALLS, token)
+}
+
+/// The same after `to`.
+#[tactic(auto, unfolding(crate::specs::Due::starts_after_to), using(crate::proofs::Meeting::meeting))]
+pub fn after_to(alloc: Global, list: &mut Vec<Due>, token: &Token) -> Result<bool, AllocError>
+    ensures { Meets result (d.starts_after_to token.now) (seen list.old.items) (seen list.new.items) }
+{
+    if token.kind == TokenKind::Equals {
+        due(list, Due::Kind(TokenKind::CloseMustache))?;
+        due(list, Due::Target)?;
+        return Ok(true);
+    }
+    values(alloc, list, token)
+}
+
+/// Whether the token is a string that is the name of a block.
+pub fn target(alloc: Global, token: &Token) -> Result<bool, AllocError>
+    ensures { IfOk result (λ b. b ≡ (same_kind token.now.kind k.StringLit && is_block_name (string_of token.now.text))) }
+{
+    if token.kind != TokenKind::StringLit {
+        return Ok(false);
+    }
+    Ok(is_block_name(&string_of(alloc, &token.text)?))
 }

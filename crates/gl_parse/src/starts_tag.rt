@@ -1,7 +1,9 @@
 // What a token leaves due in a tag, as in a mustache.
-ghost use Rattle.std.specs.Prelude.{◌≡◌, drop};
+ghost use Rattle.std.specs.Prelude.{◌≡◌, IfOk, drop};
+ghost use Rattle.gl_ast.specs.TokenText.{parameters_of};
 ghost use Rattle.gl_parse.specs.Due as d;
-ghost use Rattle.gl_parse.specs.Dues.{seen, Meets, quoted_view, name_of};
+ghost use Rattle.gl_parse.specs.Dues.{seen, Meets, quoted_view, name_of, due_view};
+ghost use Rattle.gl_parse.specs.ReadStmt.{is_no_name};
 
 use crate::due::{Due, Quoted, Stop, Tag};
 use crate::stack::due;
@@ -9,7 +11,8 @@ use gl_ast::{Str, Token, TokenKind};
 use gl_exprs::Scan;
 use gl_exprs::expr::DEEPEST_CALLS;
 use gl_exprs::name::is_argument;
-use std::alloc::AllocError;
+use gl_exprs::words::parameters_of;
+use std::alloc::{AllocError, Global};
 
 /// The first token of a value.
 #[tactic(auto, unfolding(crate::specs::Due::starts_value), using(crate::proofs::Meeting::meeting))]
@@ -91,10 +94,26 @@ fn has_body(tag: Tag) -> bool
             .is_some()
 }
 
-/// The end of a tag.
+// What stands in a tag. In a component without parameters blocks may be passed.
+fn inside<'a>(bare: bool, depth: u32, opening: &'a Str) -> Due<'a>
+    ensures { due_view result ≡ d.inside bare depth (drop 1 opening.now) }
+{
+    if bare {
+        Due::Filling(depth, opening)
+    } else {
+        Due::Content(depth, Stop::Tag(opening))
+    }
+}
+
+/// The end of a tag, which may be that of a component without parameters.
 #[tactic(auto, unfolding(crate::specs::Due::ends_tag), using(crate::proofs::Meeting::meeting))]
-pub fn tag_end<'a>(list: &mut Vec<Due<'a>>, tag: Tag<'a>, token: &Token) -> Result<bool, AllocError>
-    ensures { Meets result (d.ends_tag (name_of tag.entry) tag.entry.component tag.entry.depth token.now) (seen list.old.items) (seen list.new.items) }
+pub fn tag_end<'a>(
+    list: &mut Vec<Due<'a>>,
+    tag: Tag<'a>,
+    bare: bool,
+    token: &Token,
+) -> Result<bool, AllocError>
+    ensures { Meets result (d.ends_tag (name_of tag.entry) tag.entry.component bare tag.entry.depth token.now) (seen list.old.items) (seen list.new.items) }
 {
     if token.kind == TokenKind::SelfEnd {
         return Ok(true);
@@ -103,9 +122,16 @@ pub fn tag_end<'a>(list: &mut Vec<Due<'a>>, tag: Tag<'a>, token: &Token) -> Resu
         return Ok(false);
     }
     if has_body(tag) {
-        due(list, Due::Content(tag.depth, Stop::Tag(tag.opening)))?;
+        due(list, inside(bare, tag.depth, tag.opening))?;
     }
     Ok(true)
+}
+
+// Whether the parameters have no name.
+fn are_none(alloc: Global, parameters: &Str) -> Result<bool, AllocError>
+    ensures { IfOk result (λ b. b ≡ is_no_name (parameters_of parameters.now)) }
+{
+    Ok(parameters_of(alloc, parameters)?.len() == 0)
 }
 
 // Whether the token is the name of an argument.
@@ -124,7 +150,12 @@ fn is_plain(token: &Token) -> bool
 
 /// A token between the opening of a tag and its end.
 #[tactic(auto, unfolding(crate::specs::Due::starts_item), using(crate::proofs::Meeting::meeting))]
-pub fn items<'a>(list: &mut Vec<Due<'a>>, tag: Tag<'a>, token: &Token) -> Result<bool, AllocError>
+pub fn items<'a>(
+    alloc: Global,
+    list: &mut Vec<Due<'a>>,
+    tag: Tag<'a>,
+    token: &Token,
+) -> Result<bool, AllocError>
     ensures { Meets result (d.starts_item (name_of tag.entry) tag.entry.component tag.entry.depth token.now) (seen list.old.items) (seen list.new.items) }
 {
     if token.kind == TokenKind::Attribute || (tag.component && is_at_name(token)) {
@@ -141,15 +172,21 @@ pub fn items<'a>(list: &mut Vec<Due<'a>>, tag: Tag<'a>, token: &Token) -> Result
         return Ok(true);
     }
     if tag.component && token.kind == TokenKind::Parameters {
-        due(list, Due::TagEnd(tag))?;
+        let none = are_none(alloc, &token.text)?;
+        due(list, Due::TagEnd(tag, none))?;
         return Ok(true);
     }
-    tag_end(list, tag, token)
+    tag_end(list, tag, tag.component, token)
 }
 
 /// The same after the name of an attribute or argument.
 #[tactic(auto, unfolding(crate::specs::Due::starts_given), using(crate::proofs::Meeting::meeting))]
-pub fn given<'a>(list: &mut Vec<Due<'a>>, tag: Tag<'a>, token: &Token) -> Result<bool, AllocError>
+pub fn given<'a>(
+    alloc: Global,
+    list: &mut Vec<Due<'a>>,
+    tag: Tag<'a>,
+    token: &Token,
+) -> Result<bool, AllocError>
     ensures { Meets result (d.starts_given (name_of tag.entry) tag.entry.component tag.entry.depth token.now) (seen list.old.items) (seen list.new.items) }
 {
     if token.kind == TokenKind::Equals {
@@ -157,7 +194,7 @@ pub fn given<'a>(list: &mut Vec<Due<'a>>, tag: Tag<'a>, token: &Token) -> Result
         due(list, Due::Value)?;
         return Ok(true);
     }
-    items(list, tag, token)
+    items(alloc, list, tag, token)
 }
 
 /// An opening, in the tag of which elements and blocks may nest so deep.

@@ -4,11 +4,12 @@ ghost use Rattle.gl_base.specs.Answers.{Gives};
 ghost use Rattle.gl_base.specs.Texts.{is_ascii_text};
 ghost use Rattle.gl_ast.specs.View.{stmt_view};
 ghost use Rattle.gl_exprs.specs.Fault.{Fails};
-ghost use Rattle.gl_parse.specs.ReadStmt.{stands_opened, read_yield, read_flat};
+ghost use Rattle.gl_parse.specs.ReadStmt.{stands_opened, read_target, read_yield, read_flat};
 
 use gl_ast::{Stmt, Str, TokenKind};
 use gl_exprs::expr::{DEEPEST_CALLS, exprs, mustache};
-use gl_exprs::words::comment_of;
+use gl_exprs::name::is_block_name;
+use gl_exprs::words::{comment_of, string_of};
 use gl_exprs::{Cursor, Misread, decoded};
 use std::alloc::{AllocError, Global};
 
@@ -30,7 +31,26 @@ pub fn ascii(alloc: Global, word: &str) -> Result<Str, AllocError>
     Str::from_str(alloc, word)
 }
 
-// `{{`, the word yield, values, `}}`.
+// The block that a yield names, which is `default` where it is not written.
+#[tactic(auto, unfolding(crate::specs::ReadStmt::read_target))]
+fn target(alloc: Global, tokens: &mut Cursor) -> Result<Str, Misread>
+    ensures { Gives Fails (λ n. (n, tokens.new)) result (read_target tokens.old) }
+{
+    if tokens.stands_word("to") {
+        tokens.take_word("to")?;
+        tokens.take(TokenKind::Equals)?;
+        let raw = tokens.take(TokenKind::StringLit)?;
+        let name = string_of(alloc, raw)?;
+        if !is_block_name(&name) {
+            return Err(Misread::NotSpelled);
+        }
+        Ok(name)
+    } else {
+        Ok(ascii(alloc, "default")?)
+    }
+}
+
+// `{{`, the word yield, values, the name of a block, `}}`.
 #[tactic(auto, unfolding(crate::specs::ReadStmt::read_yield))]
 fn yielding(alloc: Global, tokens: &mut Cursor) -> Result<Stmt, Misread>
     ensures { Gives Fails (λ s. (stmt_view s, tokens.new)) result (read_yield tokens.old) }
@@ -38,8 +58,8 @@ fn yielding(alloc: Global, tokens: &mut Cursor) -> Result<Stmt, Misread>
     tokens.take(TokenKind::OpenMustache)?;
     tokens.take_word("yield")?;
     let values = exprs(alloc, tokens, DEEPEST_CALLS)?;
+    let to = target(alloc, tokens)?;
     tokens.take(TokenKind::CloseMustache)?;
-    let to = ascii(alloc, "default")?;
     Ok(Stmt::Yield { values, to })
 }
 

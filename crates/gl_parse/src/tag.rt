@@ -5,9 +5,9 @@ ghost use Rattle.gl_ast.specs.Grammar.{is_void};
 ghost use Rattle.gl_ast.specs.Marks.{is_capital, is_small};
 ghost use Rattle.gl_ast.specs.TokenText.{leads};
 ghost use Rattle.gl_ast.specs.View.{stmt_view};
-ghost use Rattle.gl_ast.specs.Template.{body_of};
+ghost use Rattle.gl_ast.specs.Template.{body_of, slots_of};
 ghost use Rattle.gl_exprs.specs.Fault.{Fails};
-ghost use Rattle.gl_parse.specs.ReadStmt.{name_of, opens_void, empty_tag, full_tag, read_element, read_component, read_named_tag, opened_name, read_opening, take_end_tag};
+ghost use Rattle.gl_parse.specs.ReadStmt.{name_of, opens_void, empty_tag, full_tag, filled_tag, takes_slots, read_element, read_component, read_named_tag, opened_name, read_opening, take_end_tag};
 ghost use Rattle.gl_parse.specs.View.{opening_view};
 
 use crate::item::{TagItems, items, parameters};
@@ -54,6 +54,16 @@ impl Opening {
         }
     }
 
+    /// Whether blocks with names may stand in it: it is a component without parameters.
+    pub fn takes_slots(&self) -> bool
+        ensures { result ≡ takes_slots (opening_view self.now) }
+    {
+        match self {
+            Opening::Element { .. } => false,
+            Opening::Component { params, .. } => params.len() == 0,
+        }
+    }
+
     /// The statement without a body.
     pub fn into_empty(self, alloc: Global) -> Stmt
         ensures { stmt_view result ≡ empty_tag (opening_view self) }
@@ -95,6 +105,30 @@ impl Opening {
                 args,
                 slots: default_slot(alloc, params, body)?,
             }),
+        }
+    }
+
+    /// A component with these blocks.
+    pub fn into_filled(self, alloc: Global, slots: Slots) -> Stmt
+        ensures { stmt_view result ≡ filled_tag (opening_view self) (slots_of slots) }
+    {
+        match self {
+            Opening::Element { tag, parts } => Stmt::Element {
+                tag,
+                parts,
+                body: Body::new(alloc),
+            },
+            Opening::Component {
+                class,
+                parts,
+                args,
+                params: _,
+            } => Stmt::Component {
+                class,
+                parts,
+                args,
+                slots,
+            },
         }
     }
 }
@@ -194,15 +228,22 @@ pub fn open_tag(alloc: Global, tokens: &mut Cursor) -> Result<Opening, Misread>
     named_tag(alloc, tokens, name)
 }
 
-/// The end tag of this name.
+/// The end tag of the name that these characters are.
 #[tactic(auto, unfolding(crate::specs::ReadStmt::take_end_tag))]
-pub fn take_end_tag(tokens: &mut Cursor, name: &Str) -> Result<(), Misread>
+pub fn take_end_of(tokens: &mut Cursor, name: &Scan) -> Result<(), Misread>
     ensures { Gives Fails (λ _. tokens.new) result (take_end_tag name.now tokens.old) }
 {
     let raw = tokens.take(TokenKind::EndTag)?;
-    if is_end_of(raw, &Scan::new(name)) {
+    if is_end_of(raw, name) {
         Ok(())
     } else {
         Err(Misread::NotSpelled)
     }
+}
+
+/// The end tag of this name.
+pub fn take_end_tag(tokens: &mut Cursor, name: &Str) -> Result<(), Misread>
+    ensures { Gives Fails (λ _. tokens.new) result (take_end_tag name.now tokens.old) }
+{
+    take_end_of(tokens, &Scan::new(name))
 }

@@ -1,19 +1,20 @@
 -- The tokens of the content, each before what may follow it.
 use Rattle.std.proofs.Common.{◌≡◌, ◌<◌, ◌+◌, ℕ, suc, List, [], ◌∷◌, ◌++◌, Bool, true, false, Some, None, cond, eqb, ltb, length, take, refl, sym, ap, subst, ◌∙◌, append_assoc, arith}
-use Rattle.std.specs.Prelude.{◌==◌, ◌||◌, not, codes, is_some}
+use Rattle.std.specs.Prelude.{◌==◌, ◌||◌, ◌&&◌, not, codes, is_some}
 use Rattle.std.specs.List.{list_all, flat_map, prefix_len}
 use Rattle.std.proofs.lemmas.Bool.Decides.{nat_tests}
 use Rattle.gl_base.specs.Answers.{◌>>=◌}
-use Rattle.gl_base.specs.Names.{or_else}
+use Rattle.gl_base.specs.Names.{or_else, has_text}
 use Rattle.gl_base.specs.Texts.{Text, bytes_of, is_ascii_text}
-use Rattle.gl_ast.specs.Marks.{is_capital, is_small, is_letter, in_class, in_tag}
+use Rattle.gl_ast.specs.Marks.{is_capital, is_small, in_class, in_tag, starts_name, in_name}
 use Rattle.gl_ast.specs.Modes.{content_token, content_opening, token}
 use Rattle.gl_ast.specs.Scans.{after, begins, from_first, after_pieces}
-use Rattle.gl_ast.specs.TokenText.{ends_tag_name, end_name_of}
-use Rattle.gl_ast.specs.Words.{after_tag, after_class, after_class_part, after_more_class, after_parts, after_element_name, after_end_tag, after_tag_opening, after_html_comment, after_long_comment, after_short_comment, after_comment, after_opening, ends_text}
+use Rattle.gl_ast.specs.TokenText.{ends_tag_name, end_name_of, is_block_name}
+use Rattle.gl_ast.specs.Words.{after_tag, after_class, after_class_part, after_more_class, after_parts, after_element_name, after_slot_name, after_block_name, if_block, barred, after_label, after_end_tag, after_tag_opening, after_html_comment, after_long_comment, after_short_comment, after_comment, after_opening, ends_text}
 use Rattle.gl_ast.specs.declared.mode.Around.TheVariants as a
 use Rattle.gl_ast.specs.declared.mode.Mode.TheVariants as m
 use Rattle.gl_ast.specs.declared.token.TokenKind.TheVariants as k
+use Rattle.gl_ast.proofs.BlockNames.{block_whole, read_front}
 use Rattle.gl_ast.proofs.Forward.{both, piece_step, piece_end}
 use Rattle.gl_ast.proofs.Progress.{more_class_moves}
 use Rattle.gl_show.specs.Spellable.{is_word, is_class_part, IsClassName, ends_comment}
@@ -110,13 +111,17 @@ pub comment_token : (s rest : List ℕ) → ends_comment s ≡ false → token m
 unfolding token content_token after_html_comment
 comment_token s rest h = rw (comment_end s rest h) refl
 
--- the name of an element or of a class, before what may follow it
+-- what a tag names, before what may follow it
 abbrev pub goes_on_name : ℕ → Bool
-goes_on_name b = in_tag b || b == 58
+goes_on_name b = in_tag b || in_name b || b == 58
 
-abbrev pub NamesElement : Text → Type 0
-NamesElement [] = ⊥
-NamesElement (c ∷ cs) = ((rest : List ℕ) → Stops goes_on_name rest → after_element_name (c ∷ (cs ++ rest)) ≡ Some rest) × (is_ascii_text (c ∷ cs) ≡ true) × (is_letter c ≡ true) × (list_all (λ b. not (ends_tag_name b)) (c ∷ cs) ≡ true)
+-- no `!` and no `/`
+abbrev begins_label : ℕ → Bool
+begins_label b = not (b == 33) && not (b == 47)
+
+abbrev pub NamesTag : Text → Type 0
+NamesTag [] = ⊥
+NamesTag (c ∷ cs) = ((rest : List ℕ) → Stops goes_on_name rest → after_label (c ∷ (cs ++ rest)) ≡ Some rest) × (is_ascii_text (c ∷ cs) ≡ true) × (begins_label c ≡ true) × (list_all (λ b. not (ends_tag_name b)) (c ∷ cs) ≡ true)
 
 stops_as : (p q : ℕ → Bool) → ((b : ℕ) → p b ≡ false → q b ≡ false) → (rest : List ℕ) → Stops p rest → Stops q rest
 stops_as p q h [] s = tt
@@ -144,11 +149,11 @@ no_tag b e = grind (arith, nat_tests)
 no_class : (b : ℕ) → goes_on_name b ≡ false → in_class b ≡ false
 no_class b e = grind (arith, nat_tests)
 
-small_letter : (b : ℕ) → is_small b ≡ true → is_letter b ≡ true
-small_letter b e = grind (arith, nat_tests)
+small_begins : (b : ℕ) → is_small b ≡ true → begins_label b ≡ true
+small_begins b e = grind (arith, nat_tests)
 
-capital_letter : (b : ℕ) → is_capital b ≡ true → is_letter b ≡ true
-capital_letter b e = grind (arith, nat_tests)
+capital_begins : (b : ℕ) → is_capital b ≡ true → begins_label b ≡ true
+capital_begins b e = grind (arith, nat_tests)
 
 small_kept : (b : ℕ) → is_small b ≡ true → not (ends_tag_name b) ≡ true
 small_kept b e = grind (arith, nat_tests)
@@ -169,14 +174,14 @@ word_as : (first more q : ℕ → Bool) → ((b : ℕ) → first b ≡ true → 
 word_as first more q h g [] w = cc
 word_as first more q h g (c ∷ cs) w = let k = both (first c) (list_all more cs) w in let n = h c k.0 in rw n (all_as more q g cs k.1)
 
-pub tag_names : (tag : Text) → is_word is_small in_tag tag ≡ true → NamesElement tag
-unfolding after_element_name
+pub tag_names : (tag : Text) → is_word is_small in_tag tag ≡ true → NamesTag tag
+unfolding after_label after_element_name
 tag_names [] w = cc
 tag_names (c ∷ cs) w =
     let k = both (is_small c) (list_all in_tag cs) w in (
-      λ rest s. ap (λ o. or_else o (after_class (c ∷ (cs ++ rest)))) (word_then is_small in_tag (c ∷ cs) rest w (stops_as goes_on_name in_tag no_tag rest s)),
+      λ rest s. ap (λ o. or_else (or_else o (after_class (c ∷ (cs ++ rest)))) (after_slot_name (c ∷ (cs ++ rest)))) (word_then is_small in_tag (c ∷ cs) rest w (stops_as goes_on_name in_tag no_tag rest s)),
       word_low is_small in_tag small_low tag_low (c ∷ cs) w,
-      small_letter c k.0,
+      small_begins c k.0,
       word_as is_small in_tag (λ b. not (ends_tag_name b)) small_kept tag_kept (c ∷ cs) w,
     )
 
@@ -219,36 +224,85 @@ class_all_kept : (ps : List Text) → list_all is_class_part ps ≡ true → lis
 class_all_kept [] w = refl
 class_all_kept (p ∷ ps) w = let h = both (is_class_part p) (list_all is_class_part ps) w in all_join (λ b. not (ends_tag_name b)) p (class_rest ps) (word_as is_capital in_class (λ b. not (ends_tag_name b)) capital_kept class_kept p h.0) (class_all_kept ps h.1)
 
-part_names : (p : Text) (ps : List Text) → is_class_part p ≡ true → list_all is_class_part ps ≡ true → NamesElement (p ++ class_rest ps)
-unfolding after_element_name after_class
+part_names : (p : Text) (ps : List Text) → is_class_part p ≡ true → list_all is_class_part ps ≡ true → NamesTag (p ++ class_rest ps)
+unfolding after_label after_element_name after_class
 part_names [] ps w ws = cc
 part_names (c ∷ cs) ps w ws =
     let k = both (is_capital c) (list_all in_class cs) w in
     let small = capital_not_small c k.0 in (
       λ rest s.
           let no : after_tag (c ∷ ((cs ++ class_rest ps) ++ rest)) ≡ None = rw small refl in
-          ap (λ o. or_else o (after_class_part (c ∷ ((cs ++ class_rest ps) ++ rest)) >>= after_parts)) no
+          ap (λ o. or_else o (after_slot_name (c ∷ ((cs ++ class_rest ps) ++ rest))))
+          (ap (λ o. or_else o (after_class_part (c ∷ ((cs ++ class_rest ps) ++ rest)) >>= after_parts)) no
           ∙ ap (λ l. after_class_part (c ∷ l) >>= after_parts) (append_assoc cs (class_rest ps) rest)
           ∙ ap (λ o. o >>= after_parts) (word_then is_capital in_class (c ∷ cs) (class_rest ps ++ rest) w (class_stops ps rest s))
-          ∙ ap Some (classes_then ps rest ws s),
+          ∙ ap Some (classes_then ps rest ws s)),
       ascii_append (c ∷ cs) (class_rest ps) (word_low is_capital in_class capital_low class_low (c ∷ cs) w) (class_ascii ps ws),
-      capital_letter c k.0,
+      capital_begins c k.0,
       all_join (λ b. not (ends_tag_name b)) (c ∷ cs) (class_rest ps) (word_as is_capital in_class (λ b. not (ends_tag_name b)) capital_kept class_kept (c ∷ cs) w) (class_all_kept ps ws),
     )
 
-pub class_names : (c : Text) → IsClassName c → NamesElement c
-class_names c is = subst (λ (n : Text). NamesElement n) (sym is.4) (part_names is.0 is.1 is.2 is.3)
+pub class_names : (c : Text) → IsClassName c → NamesTag c
+class_names c is = subst (λ (n : Text). NamesTag n) (sym is.4) (part_names is.0 is.1 is.2 is.3)
 
-letter_no_mark : (b : ℕ) → is_letter b ≡ true → (eqb 33 b ≡ false) × (eqb 47 b ≡ false)
-letter_no_mark b e = (grind (arith, nat_tests), grind (arith, nat_tests))
+-- a block that is passed
+name_low : (b : ℕ) → starts_name b ≡ true → b < 128
+name_low b e = grind (arith, nat_tests)
+
+in_name_low : (b : ℕ) → in_name b ≡ true → b < 128
+in_name_low b e = grind (arith, nat_tests)
+
+name_kept : (b : ℕ) → starts_name b ≡ true → not (ends_tag_name b) ≡ true
+name_kept b e = grind (arith, nat_tests)
+
+in_name_kept : (b : ℕ) → in_name b ≡ true → not (ends_tag_name b) ≡ true
+in_name_kept b e = grind (arith, nat_tests)
+
+no_name : (b : ℕ) → goes_on_name b ≡ false → in_name b ≡ false
+no_name b e = grind (arith, nat_tests)
+
+block_word : (n : Text) → is_block_name n ≡ true → (is_word starts_name in_name n ≡ true) × (has_text n barred ≡ false)
+block_word [] b = let r : ⊥ = cc in absurd r
+block_word (c ∷ cs) b = let k = both (starts_name c && list_all in_name cs) (not (has_text (c ∷ cs) barred)) b in (k.0, is_false (has_text (c ∷ cs) barred) k.1)
+  where
+    is_false : (t : Bool) → not t ≡ true → t ≡ false
+    is_false true e = cc
+    is_false false e = refl
+
+block_then : (n rest : List ℕ) → is_block_name n ≡ true → Stops in_name rest → after_block_name (n ++ rest) ≡ Some rest
+unfolding after_block_name
+block_then n rest b s =
+    let w = block_word n b in
+    ap (λ o. o >>= if_block (n ++ rest)) (word_then starts_name in_name n rest w.0 s) ∙ block_whole (n ++ rest) rest (ap (λ l. has_text l barred) (read_front n rest) ∙ w.1)
+
+pub block_ascii : (n : Text) → is_block_name n ≡ true → is_ascii_text n ≡ true
+block_ascii n b = word_low starts_name in_name name_low in_name_low n (block_word n b).0
+
+-- its first letter goes on with a name too
+pub block_in_name : (n : Text) → is_block_name n ≡ true → list_all in_name n ≡ true
+block_in_name n b = word_as starts_name in_name in_name name_in (λ c e. e) n (block_word n b).0
+  where
+    name_in : (c : ℕ) → starts_name c ≡ true → in_name c ≡ true
+    name_in c e = grind (arith, nat_tests)
+
+pub block_names : (n : Text) → is_block_name n ≡ true → NamesTag (58 ∷ n)
+unfolding after_label after_element_name after_class after_slot_name
+block_names n b =
+    let w = block_word n b in
+    let low : is_ascii_text n ≡ true = block_ascii n b in
+    let kept : list_all (λ c. not (ends_tag_name c)) n ≡ true = word_as starts_name in_name (λ c. not (ends_tag_name c)) name_kept in_name_kept n w.0 in
+    (λ rest s. block_then n rest b (stops_as goes_on_name in_name no_name rest s), low, refl, kept)
+
+begins_no_mark : (b : ℕ) → begins_label b ≡ true → (eqb 33 b ≡ false) × (eqb 47 b ≡ false)
+begins_no_mark b e = (grind (arith, nat_tests), grind (arith, nat_tests))
 
 -- `<` and a name
-pub opening_token : (c : ℕ) (cs rest : List ℕ) → NamesElement (c ∷ cs) → Stops goes_on_name rest → token m.Content (60 ∷ c ∷ (cs ++ rest)) ≡ Some (k.TagOpening, rest, m.Tag)
+pub opening_token : (c : ℕ) (cs rest : List ℕ) → NamesTag (c ∷ cs) → Stops goes_on_name rest → token m.Content (60 ∷ c ∷ (cs ++ rest)) ≡ Some (k.TagOpening, rest, m.Tag)
 unfolding token content_token after_html_comment after_end_tag after_tag_opening
-opening_token c cs rest n s = let h = letter_no_mark c n.2 in let h0 = h.0 in let h1 = h.1 in rw (h0, h1, n.0 rest s) refl
+opening_token c cs rest n s = let h = begins_no_mark c n.2 in let h0 = h.0 in let h1 = h.1 in rw (h0, h1, n.0 rest s) refl
 
 -- an end tag
-pub end_token : (c : ℕ) (cs rest : List ℕ) → NamesElement (c ∷ cs) → token m.Content (60 ∷ 47 ∷ c ∷ (cs ++ (62 ∷ rest))) ≡ Some (k.EndTag, rest, m.Content)
+pub end_token : (c : ℕ) (cs rest : List ℕ) → NamesTag (c ∷ cs) → token m.Content (60 ∷ 47 ∷ c ∷ (cs ++ (62 ∷ rest))) ≡ Some (k.EndTag, rest, m.Content)
 unfolding token content_token after_html_comment after_end_tag
 end_token c cs rest n = rw (n.0 (62 ∷ rest) refl) refl
 

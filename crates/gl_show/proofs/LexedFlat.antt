@@ -1,30 +1,35 @@
 -- The spelling of texts, comments, mustaches and of the pieces of blocks is read as tokens that spell them.
 use Rattle.std.proofs.Common.{◌≡◌, ◌<◌, ◌-◌, inl, inr, ℕ, List, [], ◌∷◌, ◌++◌, Bool, true, false, Some, refl, sym, ap, subst, ◌∙◌, append_assoc, length, take, length-append, arith}
-use Rattle.std.specs.Prelude.{codes, if◌then◌else◌}
+use Rattle.std.specs.Prelude.{codes, ◌==◌, if◌then◌else◌}
 use Rattle.std.specs.List.{list_all}
-use Rattle.std.specs.Str.{chars, all_scalars}
+use lib.Utf8.{scalar}
+use Rattle.std.specs.Str.{bytes_eq, chars, all_scalars}
+use Rattle.std.proofs.lemmas.Bool.Decides.{nat_tests}
+use Rattle.std.proofs.lemmas.Slice.Eq.{bytes_eq-Decides}
 use Rattle.std.proofs.lemmas.Str.{chars-encodes, length-le-encodes, encodes-append}
 use Rattle.gl_base.specs.Texts.{Text, bytes_of, is_ascii_text}
 use Rattle.gl_base.proofs.Chars.{chars_of_ascii}
-use Rattle.gl_ast.specs.Canon.{inner_text, text_from, exprs_text, end_tag_text, closing_text, is_text_stmt, body_text, stmt_text, slots_text, else_text, parts_text, arguments_text, parameters_text, expr_text, string_text}
-use Rattle.gl_ast.specs.Grammar.{deepest_calls, Mark, Stands, Word, AreExprs, IsEndTag, IsClosing, IsElse, if_word, is_void, is_empty_text, after_silent, Reach}
+use Rattle.gl_ast.specs.Canon.{ends_backslash, target_text, inner_text, text_from, exprs_text, end_tag_text, closing_text, is_text_stmt, body_text, stmt_text, slots_text, else_text, parts_text, arguments_text, parameters_text, expr_text, string_text}
+use Rattle.gl_ast.specs.Grammar.{deepest_calls, Mark, Stands, Word, AreExprs, IsTarget, IsEndTag, IsClosing, IsElse, if_word, is_void, is_empty_text, after_silent, Reach}
+use Rattle.gl_ast.specs.Marks.{in_name}
 use Rattle.gl_ast.specs.Modes.{token}
 use Rattle.gl_ast.specs.Settling.{is_text, is_comment}
 use Rattle.gl_ast.specs.Template.{Stmt, text_stmt, comment_stmt, put, element, component_stmt, if_stmt, each, let_stmt, yield, Body, end, stmt, Exprs}
 use Rattle.gl_ast.specs.TokenReading.{stands_white}
-use Rattle.gl_ast.specs.TokenText.{decoded, comment_of, end_name_of}
+use Rattle.gl_ast.specs.TokenText.{decoded, comment_of, end_name_of, is_block_name}
 use Rattle.gl_ast.specs.Words.{ends_text}
 use Rattle.gl_ast.specs.declared.mode.Around.TheVariants as a
 use Rattle.gl_ast.specs.declared.mode.Mode.TheVariants as m
 use Rattle.gl_ast.specs.declared.token.Token.{Token}
 use Rattle.gl_ast.specs.declared.token.TokenKind.{TokenKind}
 use Rattle.gl_ast.specs.declared.token.TokenKind.TheVariants as k
-use Rattle.gl_show.specs.Spellable.{is_name, IsTextual, CanExprs, ends_comment}
-use Rattle.gl_show.proofs.ContentTokens.{text_token, put_token, block_token, closing_token, silent_token, comment_token, goes_on_name, NamesElement, opening_token, end_token, end_name}
+use Rattle.gl_ast.proofs.Forward.{both}
+use Rattle.gl_show.specs.Spellable.{is_name, IsTextual, IsString, CanExprs, ends_comment}
+use Rattle.gl_show.proofs.ContentTokens.{block_in_name, text_token, put_token, block_token, closing_token, silent_token, comment_token, goes_on_name, NamesTag, opening_token, end_token, end_name}
 use Rattle.gl_show.proofs.Decoding.{text_from_writes, text_tight}
-use Rattle.gl_show.proofs.ExprTokens.{Breaks, in_mustache}
+use Rattle.gl_show.proofs.ExprTokens.{Breaks, in_mustache, equals_token}
 use Rattle.gl_show.proofs.Lexed.{Lexed, Then, IsTight, lexed_as, lexed_bytes, lexed_token, lexed_plain, lexed_piece, marked}
-use Rattle.gl_show.proofs.LexedExpr.{ascii_utf8, ascii_append, scalars_append, join2, low2, lexed_join, lexed_low, lexed_last, lexed_word, lexed_exprs, stands_as, breaks_exprs, breaks_last}
+use Rattle.gl_show.proofs.LexedExpr.{ascii_utf8, ascii_append, scalars_append, join2, low2, lexed_join, lexed_low, lexed_last, lexed_word, lexed_exprs, lexed_string, expr_blank, mark_token, blank_breaks, stands_as, breaks_exprs, breaks_low, breaks_last}
 use Rattle.gl_show.proofs.LexedTag.{OpensMustache, lexed_opening, lexed_close, breaks_close}
 use Rattle.gl_show.proofs.Numbers.{take_front}
 use Rattle.gl_show.proofs.Runs.{in_content, RunEnds}
@@ -128,27 +133,74 @@ lexed_closing {P} word rest w l =
 pub closing_ends : (word : Text) (rest : List ℕ) → text_ends (bytes_of (closing_text word) ++ rest)
 closing_ends word rest = subst (λ (x : List ℕ). text_ends x) (sym (low2 (codes "{{/") (word ++ codes "}}") rest refl)) refl
 
+-- the name of a block is a string
+name_scalar : (b : ℕ) → in_name b ≡ true → scalar b ≡ true
+name_scalar b e = grind (arith, nat_tests)
+
+no_backslash : (b : ℕ) → in_name b ≡ true → (b == 92) ≡ false
+no_backslash b e = grind (arith, nat_tests)
+
+names_textual : (n : Text) → list_all in_name n ≡ true → IsTextual n
+names_textual [] a = refl
+names_textual (c ∷ cs) a = let h = both (in_name c) (list_all in_name cs) a in let k : scalar c ≡ true = name_scalar c h.0 in rw k (names_textual cs h.1)
+
+names_end : (n : Text) → list_all in_name n ≡ true → ends_backslash n ≡ false
+names_end [] a = refl
+names_end (c ∷ []) a = no_backslash c (both (in_name c) true a).0
+names_end (c ∷ d ∷ cs) a = names_end (d ∷ cs) (both (in_name c) (list_all in_name (d ∷ cs)) a).1
+
+block_string : (n : Text) → is_block_name n ≡ true → IsString n
+block_string n b = let a = block_in_name n b in (names_textual n a, names_end n a)
+
+-- the block that a yield names
+target_breaks : (to xs : Text) (rest : List ℕ) → Breaks (bytes_of xs ++ rest) → Breaks (bytes_of (target_text to ++ xs) ++ rest)
+target_breaks to xs rest be = default_case (bytes_eq to (codes "default"))
+  where
+    default_case : (t : Bool) → Breaks (bytes_of ((if t then [] else codes " to=" ++ string_text to) ++ xs) ++ rest)
+    default_case true = be
+    default_case false = breaks_low (codes " to=") (string_text to ++ xs) rest refl (blank_breaks (codes "to=" ++ (bytes_of (string_text to ++ xs) ++ rest)) refl)
+
+lexed_target : {P : List Token → Type 0} (to xs : Text) (rest : List ℕ) → is_block_name to ≡ true → Lexed (m.Mustache a.Content) false (bytes_of xs ++ rest) P
+    → Lexed (m.Mustache a.Content) false (bytes_of (target_text to ++ xs) ++ rest) (Then (λ ts us. IsTarget ts to us) P)
+lexed_target {P} to xs rest is l = default_case (bytes_eq to (codes "default")) refl
+  where
+    default_case : (t : Bool) → bytes_eq to (codes "default") ≡ t → Lexed (m.Mustache a.Content) false (bytes_of ((if t then [] else codes " to=" ++ string_text to) ++ xs) ++ rest) (Then (λ ts us. IsTarget ts to us) P)
+    default_case true e = let same = (bytes_eq-Decides to (codes "default")).0 e in lexed_as (m.Mustache a.Content) false (bytes_of xs ++ rest) (λ ts h. (ts, inl (refl, same), h)) l
+    default_case false e =
+        let reads = in_mustache a.Content in
+        lexed_as (m.Mustache a.Content) false (bytes_of (codes " to=" ++ (string_text to ++ xs)) ++ rest)
+        (λ ts h. (h.2.2.0, inr (h.0, h.2.0, h.1, h.2.1, (h.2.2.1.0, h.2.2.1.1, h.2.2.1.2, (h.2.2.1.3, is))), h.2.2.2))
+        (lexed_low (m.Mustache a.Content) false (codes " to=") (string_text to ++ xs) rest refl
+        (expr_blank (m.Mustache a.Content) reads false (codes "to" ++ (61 ∷ (bytes_of (string_text to ++ xs) ++ rest)))
+        (lexed_word (m.Mustache a.Content) reads false (codes "to") (61 ∷ (bytes_of (string_text to ++ xs) ++ rest)) refl (refl, refl)
+        (mark_token (m.Mustache a.Content) reads false k.Equals 61 (bytes_of (string_text to ++ xs) ++ rest) refl refl refl refl refl (equals_token (m.Mustache a.Content) (bytes_of (string_text to ++ xs) ++ rest))
+        (lexed_join (m.Mustache a.Content) false (string_text to) xs rest
+        (lexed_string (m.Mustache a.Content) reads false to (bytes_of xs ++ rest) (block_string to is) l))))))
+
 -- a yield
-pub lexed_yield : {P : List Token → Type 0} (es : Exprs) (rest : List ℕ) → CanExprs deepest_calls es → Lexed m.Content false rest P
-    → Lexed m.Content false (bytes_of (codes "{{yield" ++ (exprs_text es ++ codes "}}")) ++ rest) (Then (Mark k.OpenMustache) (Then (Word (codes "yield")) (Then (λ ts us. AreExprs deepest_calls ts es us) (Then (Mark k.CloseMustache) P))))
-lexed_yield es rest can l =
+pub lexed_yield : {P : List Token → Type 0} (es : Exprs) (to : Text) (rest : List ℕ) → CanExprs deepest_calls es → is_block_name to ≡ true → Lexed m.Content false rest P
+    → Lexed m.Content false (bytes_of (codes "{{yield" ++ (exprs_text es ++ (target_text to ++ codes "}}"))) ++ rest)
+    (Then (Mark k.OpenMustache) (Then (Word (codes "yield")) (Then (λ ts us. AreExprs deepest_calls ts es us) (Then (λ ts us. IsTarget ts to us) (Then (Mark k.CloseMustache) P)))))
+lexed_yield es to rest can is l =
     let ends = lexed_last (m.Mustache a.Content) false (codes "}}") rest refl (lexed_ends rest l) in
-    let be = breaks_last (codes "}}") rest refl (breaks_close (125 ∷ rest)) in
-    let args = lexed_join (m.Mustache a.Content) false (exprs_text es) (codes "}}") rest (lexed_exprs (m.Mustache a.Content) (in_mustache a.Content) false deepest_calls es (bytes_of (codes "}}") ++ rest) can be ends) in
-    let bw : Breaks (bytes_of (exprs_text es ++ codes "}}") ++ rest) = subst (λ (x : List ℕ). Breaks x) (sym (join2 (exprs_text es) (codes "}}") rest)) (breaks_exprs deepest_calls es (bytes_of (codes "}}") ++ rest) can be) in
-    lexed_low m.Content false (codes "{{yield") (exprs_text es ++ codes "}}") rest refl
-    (lexed_opening m.Content a.Content false (codes "yield" ++ (bytes_of (exprs_text es ++ codes "}}") ++ rest)) content_opens refl
-    (lexed_word (m.Mustache a.Content) (in_mustache a.Content) false (codes "yield") (bytes_of (exprs_text es ++ codes "}}") ++ rest) refl bw args))
+    let target = lexed_target to (codes "}}") rest is ends in
+    let tail = target_text to ++ codes "}}" in
+    let be : Breaks (bytes_of tail ++ rest) = target_breaks to (codes "}}") rest (breaks_last (codes "}}") rest refl (breaks_close (125 ∷ rest))) in
+    let args = lexed_join (m.Mustache a.Content) false (exprs_text es) tail rest (lexed_exprs (m.Mustache a.Content) (in_mustache a.Content) false deepest_calls es (bytes_of tail ++ rest) can be target) in
+    let bw : Breaks (bytes_of (exprs_text es ++ tail) ++ rest) = subst (λ (x : List ℕ). Breaks x) (sym (join2 (exprs_text es) tail rest)) (breaks_exprs deepest_calls es (bytes_of tail ++ rest) can be) in
+    lexed_low m.Content false (codes "{{yield") (exprs_text es ++ tail) rest refl
+    (lexed_opening m.Content a.Content false (codes "yield" ++ (bytes_of (exprs_text es ++ tail) ++ rest)) content_opens refl
+    (lexed_word (m.Mustache a.Content) (in_mustache a.Content) false (codes "yield") (bytes_of (exprs_text es ++ tail) ++ rest) refl bw args))
 
 -- tags
-pub lexed_tag_opening : {P : List Token → Type 0} (n : Text) (rest : List ℕ) → NamesElement n → Stops goes_on_name rest → Lexed m.Tag true rest P → Lexed m.Content false (60 ∷ (n ++ rest)) (Then (Stands k.TagOpening (λ x. x ≡ 60 ∷ n)) P)
+pub lexed_tag_opening : {P : List Token → Type 0} (n : Text) (rest : List ℕ) → NamesTag n → Stops goes_on_name rest → Lexed m.Tag true rest P → Lexed m.Content false (60 ∷ (n ++ rest)) (Then (Stands k.TagOpening (λ x. x ≡ 60 ∷ n)) P)
 lexed_tag_opening [] rest names s l = absurd names
 lexed_tag_opening {P} (c ∷ cs) rest names s l =
     let low : is_ascii_text (60 ∷ c ∷ cs) ≡ true = names.1 in
     lexed_as m.Content false (60 ∷ c ∷ (cs ++ rest)) (λ ts h. stands_as k.TagOpening (λ x. x ≡ chars (60 ∷ c ∷ cs)) (λ x. x ≡ 60 ∷ c ∷ cs) ts (λ x e. e ∙ chars_of_ascii (60 ∷ c ∷ cs) low) h)
     (lexed_token m.Content m.Tag false true k.TagOpening 60 (c ∷ cs) rest refl (opening_token c cs rest names s) (ascii_utf8 (60 ∷ c ∷ cs) low) tt refl l)
 
-pub lexed_end_tag : {P : List Token → Type 0} (n : Text) (rest : List ℕ) → NamesElement n → Lexed m.Content false rest P → Lexed m.Content false (bytes_of (end_tag_text n) ++ rest) (Then (λ ts us. IsEndTag ts n us) P)
+pub lexed_end_tag : {P : List Token → Type 0} (n : Text) (rest : List ℕ) → NamesTag n → Lexed m.Content false rest P → Lexed m.Content false (bytes_of (end_tag_text n) ++ rest) (Then (λ ts us. IsEndTag ts n us) P)
 lexed_end_tag [] rest names l = absurd names
 lexed_end_tag {P} (c ∷ cs) rest names l =
     let low : is_ascii_text (codes "</" ++ ((c ∷ cs) ++ codes ">")) ≡ true = ascii_append (c ∷ cs) (codes ">") names.1 refl in
@@ -194,7 +246,7 @@ stmt_ends (component_stmt c ps given ss) l n = first_less (c ++ (arguments_text 
 stmt_ends (if_stmt e unless b c) l n = first_braces (35 ∷ (if_word unless ++ (32 ∷ (expr_text e ++ (codes "}}" ++ (body_text false b ++ (else_text c ++ closing_text (if_word unless)))))))) l
 stmt_ends (each e key ns b c) l n = first_braces (codes "#each " ++ (expr_text e ++ (codes " key=" ++ (string_text key ++ (parameters_text ns ++ (codes "}}" ++ (body_text false b ++ (else_text c ++ closing_text (codes "each"))))))))) l
 stmt_ends (let_stmt es ns b) l n = first_braces (codes "#let" ++ (exprs_text es ++ (parameters_text ns ++ (codes "}}" ++ (body_text false b ++ closing_text (codes "let")))))) l
-stmt_ends (yield es to) l n = first_braces (codes "yield" ++ (exprs_text es ++ codes "}}")) l
+stmt_ends (yield es to) l n = first_braces (codes "yield" ++ (exprs_text es ++ (target_text to ++ codes "}}"))) l
 
 pub body_ends : (b : Body) (rest : List ℕ) → text_ends rest → text_ends (bytes_of (body_text true b) ++ rest)
 body_ends end rest e = e

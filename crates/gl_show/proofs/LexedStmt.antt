@@ -2,21 +2,23 @@
 use Rattle.std.proofs.Common.{◌≡◌, inl, inr, ℕ, zero, suc, List, [], ◌∷◌, ◌++◌, Bool, true, false, refl, sym, ap, subst, ◌∙◌, append_assoc, length, ◌≤◌}
 use Rattle.std.specs.Prelude.{codes, map, if◌then◌else◌, ◌&&◌}
 use Rattle.std.specs.List.{list_all}
+use Rattle.std.proofs.lemmas.Slice.Eq.{bytes_eq-Decides}
 use Rattle.gl_base.specs.Texts.{Text, bytes_of, is_ascii_text}
-use Rattle.gl_ast.specs.Canon.{mustache_text, names_text, part_text, argument_text, expr_text, exprs_text, string_text, parts_text, arguments_text, parameters_text, end_tag_text, closing_text, is_text_stmt, body_text, stmt_text, slots_text, else_text}
-use Rattle.gl_ast.specs.Grammar.{deepest_calls, Mark, Stands, part_item, AreItems, AreParameters, after_comments, IsEndTag, IsClosing, IsKey, IsComponentRest, IsElse, IsChained, AreStmts, IsStmt, Reach, if_word, is_void, is_some_expr, after_silent}
+use Rattle.gl_ast.specs.Canon.{mustache_text, names_text, part_text, argument_text, expr_text, exprs_text, string_text, parts_text, arguments_text, parameters_text, end_tag_text, closing_text, is_text_stmt, body_text, stmt_text, is_own_block, slot_text, slots_text, blocks_text, else_text}
+use Rattle.gl_ast.specs.Grammar.{deepest_calls, Mark, Stands, part_item, AreItems, AreParameters, after_comments, after_gaps, IsSlot, IsOwnBlock, AreSlots, is_some_slot, are_new, slot_names, IsEndTag, IsClosing, IsKey, IsComponentRest, IsElse, IsChained, AreStmts, IsStmt, Reach, if_word, is_void, is_some_expr, after_silent}
 use Rattle.gl_ast.specs.Marks.{is_capital, is_small, in_class, in_tag}
-use Rattle.gl_ast.specs.Settling.{is_comment}
+use Rattle.gl_ast.specs.Settling.{is_text, is_comment}
 use Rattle.gl_ast.specs.Template.{Expr, Exprs, Stmt, text_stmt, comment_stmt, put, element, component_stmt, if_stmt, each, let_stmt, yield, Body, end, stmt, Slots, no_slots, block, Part, AttrValue}
-use Rattle.gl_ast.specs.TokenText.{leads, comment_of, end_name_of, parameters_of}
+use Rattle.gl_ast.specs.TokenText.{leads, is_block_name, comment_of, end_name_of, parameters_of}
 use Rattle.gl_ast.specs.declared.mode.Around.TheVariants as a
 use Rattle.gl_ast.specs.declared.mode.Mode.TheVariants as m
 use Rattle.gl_ast.specs.declared.token.Token.{Token}
 use Rattle.gl_ast.specs.declared.token.TokenKind.{TokenKind}
 use Rattle.gl_ast.specs.declared.token.TokenKind.TheVariants as k
 use Rattle.gl_ast.proofs.Forward.{both}
-use Rattle.gl_show.specs.Spellable.{is_word, is_name, is_class_part, IsClassName, IsString, AreFreeNames, CanExpr, CanExprs, CanParts, CanArguments, CanBody, CanStmt, CanSlots}
-use Rattle.gl_show.proofs.ContentTokens.{small_low, tag_low, goes_on_name, NamesElement, tag_names, class_names, class_rest}
+use Rattle.gl_show.specs.Spellable.{is_word, is_name, is_class_part, IsClassName, IsString, AreFreeNames, CanExpr, CanExprs, CanParts, CanArguments, CanBody, CanStmt, CanSlots, CanBlocks}
+use Rattle.gl_show.proofs.ContentTokens.{small_low, tag_low, goes_on_name, NamesTag, tag_names, class_names, block_names, class_rest}
+use Rattle.gl_show.proofs.Deeper.{deeper_body}
 use Rattle.gl_show.proofs.ExprTokens.{Breaks, in_mustache, equals_token}
 use Rattle.gl_show.proofs.Lexed.{Lexed, Then, lexed_as}
 use Rattle.gl_show.proofs.LexedExpr.{join2, low2, low1, lexed_join, lexed_low, lexed_word, lexed_expr, lexed_exprs, lexed_string, expr_blank, mark_token, blank_breaks, opens_expr, breaks_exprs, breaks_join, breaks_low, Opens}
@@ -41,7 +43,7 @@ capital_leads (c ∷ cs) rest w = (both (is_capital c) (list_all in_class cs) w)
 class_leads : (c : Text) → IsClassName c → leads is_capital c ≡ true
 class_leads c is = ap (λ n. leads is_capital n) is.4 ∙ capital_leads is.0 (class_rest is.1) is.2
 
-names_ascii : (n : Text) → NamesElement n → is_ascii_text n ≡ true
+names_ascii : (n : Text) → NamesTag n → is_ascii_text n ≡ true
 names_ascii [] names = absurd names
 names_ascii (c ∷ cs) names = names.1
 
@@ -71,7 +73,11 @@ parameters_stop (n ∷ ns) xs rest =
 
 slots_stop : (c : Text) (ss : Slots) (rest : List ℕ) → Stops goes_on_name (bytes_of (slots_text c ss) ++ rest)
 slots_stop c no_slots rest = subst (λ (x : List ℕ). Stops goes_on_name x) (sym (low1 (codes " />") rest refl)) refl
-slots_stop c (block name ns b ss) rest = parameters_stop ns (body_text false b ++ end_tag_text c) rest
+slots_stop c (block name ns b ss) rest = own_case (is_own_block name ss)
+  where
+    own_case : (t : Bool) → Stops goes_on_name (bytes_of (if t then parameters_text ns ++ (62 ∷ (body_text false b ++ end_tag_text c)) else 62 ∷ ((slot_text name ns (body_text false b) ++ blocks_text ss) ++ end_tag_text c)) ++ rest)
+    own_case true = parameters_stop ns (body_text false b ++ end_tag_text c) rest
+    own_case false = end_stops ((slot_text name ns (body_text false b) ++ blocks_text ss) ++ end_tag_text c) rest
 
 -- joined pieces in a tag
 tag_join : {P : List Token → Type 0} (xs ys : Text) (rest : List ℕ) → InTag (bytes_of xs ++ (bytes_of ys ++ rest)) P → InTag (bytes_of (xs ++ ys) ++ rest) P
@@ -175,7 +181,7 @@ lexed_element : {P : List Token → Type 0} (depth : ℕ) (tag : Text) (ps : Lis
     → Lexed m.Content false (bytes_of (stmt_text (element tag ps b)) ++ rest) (Then (λ ts us. (after_silent ts ≡ ts) × IsStmt (suc depth) ts (element tag ps b) us) P)
 lexed_element {P} depth tag ps b rest can l body = void_case (is_void tag) refl
   where
-    names : NamesElement tag
+    names : NamesTag tag
     names = tag_names tag can.0
 
     opening : {Q : List Token → Type 0} (xs : Text) → InTag (bytes_of xs ++ rest) Q → ((us : List Token) → Q us → after_comments us ≡ us) → Stops goes_on_name (bytes_of xs ++ rest)
@@ -201,20 +207,23 @@ lexed_element {P} depth tag ps b rest can l body = void_case (is_void tag) refl
         (λ ts h. (h.2.2.2.2.0, (stands_quiet k.TagOpening refl refl (λ x. x ≡ 60 ∷ tag) ts h.0 h.1, (h.0, h.2.0, (h.1.0, h.1.1, h.1.2, (h.1.3, small_leads in_tag tag can.0)), h.2.1, inr (inr (v, (h.2.2.0, h.2.2.2.0, h.2.2.1, h.2.2.2.1, h.2.2.2.2.1))))), h.2.2.2.2.2))
         (opening (62 ∷ (body_text false b ++ end_tag_text tag)) more (λ us g. no_comment k.TagEnd refl us g.0 g.1) (end_stops (body_text false b ++ end_tag_text tag) rest))
 
--- what follows the items of a component's tag is no comment
-rest_no_comment : {P : List Token → Type 0} (depth : ℕ) (c : Text) (ss : Slots) (us : List Token) → ((ns : List Text) × Then (λ xs vs. AreParameters xs ns vs) (Then (λ xs vs. IsComponentRest depth xs c ns ss vs) P) us) → after_comments us ≡ us
+-- what follows the items of a component's tag
+abbrev RestOf : ℕ → List Token → Text → List Text → Slots → List Token → Type 0
+RestOf depth ts c ns ss us = IsComponentRest (λ xs ys. IsOwnBlock depth ns xs ss ys) (λ xs ys. AreSlots depth xs ss ys) ts c ns ss us
+
+-- and that is no comment
+rest_no_comment : {P : List Token → Type 0} (depth : ℕ) (c : Text) (ss : Slots) (us : List Token) → ((ns : List Text) × Then (λ xs vs. AreParameters xs ns vs) (Then (λ xs vs. RestOf depth xs c ns ss vs) P) us) → after_comments us ≡ us
 rest_no_comment {P} depth c ss us g = elim g.1.1 [
-  | inl n ↦ ap after_comments n.0 ∙ slots_case ss g.1.0 g.1.2.0 g.1.2.1 ∙ sym n.0
+  | inl n ↦ ap after_comments n.0 ∙ rest_case g.1.0 g.1.2.0 g.1.2.1 ∙ sym n.0
   | inr p ↦ stands_no_comment k.Parameters refl (λ x. parameters_of x ≡ g.0) us g.1.0 p
 ]
   where
-    slots_case : (ss : Slots) (xs vs : List Token) → IsComponentRest depth xs c g.0 ss vs → after_comments xs ≡ xs
-    slots_case no_slots xs vs r = no_comment k.SelfEnd refl xs vs r
-    slots_case (block name ns b no_slots) xs vs r = no_comment k.TagEnd refl xs r.2.0 r.2.2
-    slots_case (block name ns b (block x y z ws)) xs vs r = absurd r
+    rest_case : (xs vs : List Token) → RestOf depth xs c g.0 ss vs → after_comments xs ≡ xs
+    rest_case xs vs (inl r) = no_comment k.SelfEnd refl xs vs r.0
+    rest_case xs vs (inr r) = no_comment k.TagEnd refl xs r.0 r.2
 
 lexed_component : {P : List Token → Type 0} (depth : ℕ) (c : Text) (ps : List Part) (given : List (Text × AttrValue)) (ss : Slots) (rest : List ℕ) → IsClassName c → CanParts ps → CanArguments given
-    → InTag (bytes_of (slots_text c ss) ++ rest) (λ ts. (ns : List Text) × Then (λ xs us. AreParameters xs ns us) (Then (λ xs us. IsComponentRest depth xs c ns ss us) P) ts)
+    → InTag (bytes_of (slots_text c ss) ++ rest) (λ ts. (ns : List Text) × Then (λ xs us. AreParameters xs ns us) (Then (λ xs us. RestOf depth xs c ns ss us) P) ts)
     → Lexed m.Content false (bytes_of (stmt_text (component_stmt c ps given ss)) ++ rest) (Then (λ ts us. (after_silent ts ≡ ts) × IsStmt (suc depth) ts (component_stmt c ps given ss) us) P)
 lexed_component {P} depth c ps given ss rest names can cans l =
     let parts = lexed_parts ps (bytes_of (slots_text c ss) ++ rest) can (rest_no_comment depth c ss) l in
@@ -230,9 +239,96 @@ lexed_component {P} depth c ps given ss rest names can cans l =
       h.2.2.1.2.2,
     ))
     (lexed_low m.Content false (60 ∷ []) (c ++ (arguments_text given ++ (parts_text ps ++ slots_text c ss))) rest refl
-    (subst (λ (x : List ℕ). Lexed m.Content false (60 ∷ x) (Then (Stands k.TagOpening (λ x. x ≡ 60 ∷ c)) (Then (λ ts us. AreItems ts (argument_items given (map part_item ps)) us) (λ ts. (ns : List Text) × Then (λ xs us. AreParameters xs ns us) (Then (λ xs us. IsComponentRest depth xs c ns ss us) P) ts))))
+    (subst (λ (x : List ℕ). Lexed m.Content false (60 ∷ x) (Then (Stands k.TagOpening (λ x. x ≡ 60 ∷ c)) (Then (λ ts us. AreItems ts (argument_items given (map part_item ps)) us) (λ ts. (ns : List Text) × Then (λ xs us. AreParameters xs ns us) (Then (λ xs us. RestOf depth xs c ns ss us) P) ts))))
     (sym (low2 c (arguments_text given ++ (parts_text ps ++ slots_text c ss)) rest (names_ascii c (class_names c names))))
     (lexed_tag_opening c (bytes_of (arguments_text given ++ (parts_text ps ++ slots_text c ss)) ++ rest) (class_names c names) stop items.0)))
+
+-- the one block of a component, which stands for itself, where its body is read
+abbrev RestThen : ℕ → Text → Slots → (List Token → Type 0) → List Token → Type 0
+RestThen depth c ss P ts = (ns : List Text) × Then (λ xs us. AreParameters xs ns us) (Then (λ xs us. RestOf depth xs c ns ss us) P) ts
+
+abbrev own_text : Text → List Text → Body → Text
+own_text c ns b = parameters_text ns ++ (62 ∷ (body_text false b ++ end_tag_text c))
+
+as_own : {P : List Token → Type 0} (depth : ℕ) (c name : Text) (ns : List Text) (b : Body) (ss : Slots) (rest : List ℕ) → is_own_block name ss ≡ true
+    → InTag (bytes_of (own_text c ns b) ++ rest) (RestThen depth c (block name ns b ss) P) → InTag (bytes_of (slots_text c (block name ns b ss)) ++ rest) (RestThen depth c (block name ns b ss) P)
+as_own {P} depth c name ns b ss rest own l =
+    subst (λ (t : Bool). InTag (bytes_of (if t then own_text c ns b else 62 ∷ (blocks_text (block name ns b ss) ++ end_tag_text c)) ++ rest) (RestThen depth c (block name ns b ss) P)) (sym own) l
+
+either_way : {P : List Token → Type 0} (depth : ℕ) (c name : Text) (ns : List Text) (b : Body) (ss : Slots) (rest : List ℕ)
+    → (is_own_block name ss ≡ true → InTag (bytes_of (own_text c ns b) ++ rest) (RestThen depth c (block name ns b ss) P))
+    → InTag (bytes_of (62 ∷ (blocks_text (block name ns b ss) ++ end_tag_text c)) ++ rest) (RestThen depth c (block name ns b ss) P)
+    → InTag (bytes_of (slots_text c (block name ns b ss)) ++ rest) (RestThen depth c (block name ns b ss) P)
+either_way {P} depth c name ns b ss rest own named = own_case (is_own_block name ss) refl
+  where
+    own_case : (t : Bool) → is_own_block name ss ≡ t → InTag (bytes_of (if t then own_text c ns b else 62 ∷ (blocks_text (block name ns b ss) ++ end_tag_text c)) ++ rest) (RestThen depth c (block name ns b ss) P)
+    own_case true e = own e
+    own_case false e = named
+
+lexed_own : {P : List Token → Type 0} (depth : ℕ) (c name : Text) (ns : List Text) (b : Body) (ss : Slots) (rest : List ℕ) → IsClassName c → is_own_block name ss ≡ true → AreFreeNames ns → Lexed m.Content false rest P
+    → (Quiet (Then (λ ts us. IsEndTag ts c us) P) → text_ends (bytes_of (end_tag_text c) ++ rest) → Lexed m.Content false (bytes_of (end_tag_text c) ++ rest) (Then (λ ts us. IsEndTag ts c us) P)
+    → Lexed m.Content false (bytes_of (body_text false b) ++ (bytes_of (end_tag_text c) ++ rest)) (Then (λ ts us. AreStmts depth ts b us) (Then (λ ts us. IsEndTag ts c us) P)))
+    → InTag (bytes_of (own_text c ns b) ++ rest) (RestThen depth c (block name ns b ss) P)
+lexed_own depth c name ns b (block x xs y ys) rest names own free l body = let r : ⊥ = cc in absurd r
+lexed_own {P} depth c name ns b no_slots rest names own free l body =
+    let same = (bytes_eq-Decides name (codes "default")).0 own in
+    let ends = lexed_end_tag c rest (class_names c names) l in
+    let inside = lexed_join m.Content false (body_text false b) (end_tag_text c) rest (body (end_quiet c) (end_tag_ends c rest) ends) in
+    tag_as (bytes_of (own_text c ns b) ++ rest)
+    (λ ts h. (ns, (h.0, h.1, (h.2.2.2.0, inr (h.2.0, h.2.2.0, h.2.1, inl (same, refl, h.2.2.1), h.2.2.2.1), h.2.2.2.2))))
+    (tag_join (parameters_text ns) (62 ∷ (body_text false b ++ end_tag_text c)) rest
+    (tag_parameters ns (bytes_of (62 ∷ (body_text false b ++ end_tag_text c)) ++ rest) free
+    (tag_first (62 ∷ []) (body_text false b ++ end_tag_text c) rest refl (lexed_tag_end (bytes_of (body_text false b ++ end_tag_text c) ++ rest) inside))))
+
+-- tokens that blocks with names may stand before
+abbrev Gapless : (List Token → Type 0) → Type 0
+Gapless P = (us : List Token) → P us → after_gaps us ≡ us
+
+stands_gapless : (kind : TokenKind) → is_comment kind ≡ false → is_text kind ≡ false → (Such : Text → Type 0) (ts us : List Token) → Stands kind Such ts us → after_gaps ts ≡ ts
+stands_gapless kind n o Such ts us g = let e = g.1 in let h = g.2 in rw e (rw (h, n, o) refl)
+
+end_gapless : {P : List Token → Type 0} (n : Text) → Gapless (Then (λ ts us. IsEndTag ts n us) P)
+end_gapless n us h = stands_gapless k.EndTag refl refl (λ x. end_name_of x ≡ n) us h.0 h.1
+
+-- a block with its name, where its body is read
+abbrev SlotThen : ℕ → Text → List Text → Body → (List Token → Type 0) → List Token → Type 0
+SlotThen depth name ns b P = Then (λ ts us. (after_gaps ts ≡ ts) × IsSlot (λ xs ys. AreStmts depth xs b ys) ts name ns us) P
+
+lexed_slot : {P : List Token → Type 0} (depth : ℕ) (name : Text) (ns : List Text) (b : Body) (rest : List ℕ) → is_block_name name ≡ true → AreFreeNames ns → Lexed m.Content false rest P
+    → (Quiet (Then (λ ts us. IsEndTag ts (58 ∷ name) us) P) → text_ends (bytes_of (end_tag_text (58 ∷ name)) ++ rest) → Lexed m.Content false (bytes_of (end_tag_text (58 ∷ name)) ++ rest) (Then (λ ts us. IsEndTag ts (58 ∷ name) us) P)
+    → Lexed m.Content false (bytes_of (body_text false b) ++ (bytes_of (end_tag_text (58 ∷ name)) ++ rest)) (Then (λ ts us. AreStmts depth ts b us) (Then (λ ts us. IsEndTag ts (58 ∷ name) us) P)))
+    → Lexed m.Content false (bytes_of (slot_text name ns (body_text false b)) ++ rest) (SlotThen depth name ns b P)
+lexed_slot {P} depth name ns b rest is free l body =
+    let names = block_names name is in
+    let tail = body_text false b ++ end_tag_text (58 ∷ name) in
+    let ends = lexed_end_tag (58 ∷ name) rest names l in
+    let inside = lexed_join m.Content false (body_text false b) (end_tag_text (58 ∷ name)) rest (body (end_quiet (58 ∷ name)) (end_tag_ends (58 ∷ name) rest) ends) in
+    let more = tag_first (62 ∷ []) tail rest refl (lexed_tag_end (bytes_of tail ++ rest) inside) in
+    let params = tag_join (parameters_text ns) (62 ∷ tail) rest (tag_parameters ns (bytes_of (62 ∷ tail) ++ rest) free more) in
+    lexed_as m.Content false (bytes_of (slot_text name ns (body_text false b)) ++ rest)
+    (λ ts h. (h.2.2.2.2.0, (stands_gapless k.TagOpening refl refl (λ x. x ≡ 60 ∷ 58 ∷ name) ts h.0 h.1, (h.0, h.2.0, h.2.2.0, h.2.2.2.0, h.1, h.2.1, h.2.2.1, h.2.2.2.1, h.2.2.2.2.1)), h.2.2.2.2.2))
+    (lexed_low m.Content false (60 ∷ []) (58 ∷ (name ++ (parameters_text ns ++ (62 ∷ tail)))) rest refl
+    (subst (λ (x : List ℕ). Lexed m.Content false (60 ∷ x) (Then (Stands k.TagOpening (λ x. x ≡ 60 ∷ 58 ∷ name)) (Then (λ ts us. AreParameters ts ns us) (Then (Mark k.TagEnd) (Then (λ ts us. AreStmts depth ts b us) (Then (λ ts us. IsEndTag ts (58 ∷ name) us) P))))))
+    (sym (low2 (58 ∷ name) (parameters_text ns ++ (62 ∷ tail)) rest (names_ascii (58 ∷ name) names)))
+    (lexed_tag_opening (58 ∷ name) (bytes_of (parameters_text ns ++ (62 ∷ tail)) ++ rest) names (parameters_stop ns tail rest) params.0)))
+
+add_slot : {P : List Token → Type 0} (depth : ℕ) (name : Text) (ns : List Text) (b : Body) (ss : Slots) (rest : List ℕ)
+    → Lexed m.Content false (bytes_of (slot_text name ns (body_text false b)) ++ (bytes_of (blocks_text ss) ++ rest)) (SlotThen depth name ns b (Then (λ ts us. AreSlots (suc depth) ts ss us) P))
+    → Lexed m.Content false (bytes_of (blocks_text (block name ns b ss)) ++ rest) (Then (λ ts us. AreSlots (suc depth) ts (block name ns b ss) us) P)
+add_slot {P} depth name ns b ss rest l =
+    lexed_as m.Content false (bytes_of (blocks_text (block name ns b ss)) ++ rest)
+    (λ ts h. (h.2.0, (h.0, subst (λ (xs : List Token). IsSlot (λ ys zs. AreStmts depth ys b zs) xs name ns h.0) (sym h.1.0) h.1.1, h.2.1), h.2.2))
+    (lexed_join m.Content false (slot_text name ns (body_text false b)) (blocks_text ss) rest l)
+
+-- a component with such blocks
+lexed_named : {P : List Token → Type 0} (depth : ℕ) (c : Text) (ss : Slots) (rest : List ℕ) → is_some_slot ss ≡ true → are_new [] (slot_names ss) ≡ true
+    → Lexed m.Content false (bytes_of (blocks_text ss) ++ (bytes_of (end_tag_text c) ++ rest)) (Then (λ ts us. AreSlots (suc depth) ts ss us) (Then (λ ts us. IsEndTag ts c us) P))
+    → InTag (bytes_of (62 ∷ (blocks_text ss ++ end_tag_text c)) ++ rest) (RestThen (suc depth) c ss P)
+lexed_named {P} depth c ss rest some new l =
+    let inside = lexed_join m.Content false (blocks_text ss) (end_tag_text c) rest l in
+    tag_as (bytes_of (62 ∷ (blocks_text ss ++ end_tag_text c)) ++ rest)
+    (λ ts h. ([], (ts, inl (refl, refl), (h.2.2.0, inr (h.0, h.2.0, h.1, inr (refl, some, new, h.2.1), h.2.2.1), h.2.2.2))))
+    (tag_first (62 ∷ []) (blocks_text ss ++ end_tag_text c) rest refl (lexed_tag_end (bytes_of (blocks_text ss ++ end_tag_text c) ++ rest) inside))
 
 -- blocks, where what follows their heads is read
 lexed_if : {P : List Token → Type 0} (depth : ℕ) (x : Expr) (unless : Bool) (b c : Body) (rest : List ℕ) → CanExpr deepest_calls x
@@ -318,8 +414,8 @@ mutual
       (lexed_mustache m.Content a.Content false x rest content_opens can l)
   lexed_stmt {P} depth (yield es to) rest can e l =
       lexed_as m.Content false (bytes_of (stmt_text (yield es to)) ++ rest)
-      (λ ts h. (h.2.2.2.0, (mark_quiet k.OpenMustache refl refl ts h.0 h.1, (can.0, (h.0, h.2.0, h.2.2.0, h.1, h.2.1, h.2.2.1, h.2.2.2.1))), h.2.2.2.2))
-      (lexed_yield es rest can.1 l)
+      (λ ts h. (h.2.2.2.2.0, (mark_quiet k.OpenMustache refl refl ts h.0 h.1, (h.0, h.2.0, h.2.2.0, h.2.2.2.0, h.1, h.2.1, h.2.2.1, h.2.2.2.1, h.2.2.2.2.1)), h.2.2.2.2.2))
+      (lexed_yield es to rest can.1 can.0 l)
   lexed_stmt zero (element tag ps b) rest can e l = absurd can
   lexed_stmt zero (component_stmt c ps given ss) rest can e l = absurd can
   lexed_stmt zero (if_stmt x unless b c) rest can e l = absurd can
@@ -343,14 +439,27 @@ mutual
       (lexed_body depth false b (bytes_of (closing_text (codes "let")) ++ rest) can.3 (closing_quiet (codes "let")) (closing_ends (codes "let") rest) (lexed_closing (codes "let") rest refl l)))
 
   lexed_slots : {P : List Token → Type 0} (depth : ℕ) (c : Text) (ss : Slots) (rest : List ℕ) → IsClassName c → CanSlots depth ss → Lexed m.Content false rest P
-      → InTag (bytes_of (slots_text c ss) ++ rest) (λ ts. (ns : List Text) × Then (λ xs us. AreParameters xs ns us) (Then (λ xs us. IsComponentRest depth xs c ns ss us) P) ts)
-  lexed_slots depth c no_slots rest names can l = tag_as (bytes_of (codes " />") ++ rest) (λ ts h. ([], (ts, inl (refl, refl), h))) (lexed_self_end rest l)
-  lexed_slots {P} depth c (block name ns b no_slots) rest names can l =
-      let ends = lexed_end_tag c rest (class_names c names) l in
-      let body = lexed_join m.Content false (body_text false b) (end_tag_text c) rest (lexed_body depth false b (bytes_of (end_tag_text c) ++ rest) can.2 (end_quiet c) (end_tag_ends c rest) ends) in
-      tag_as (bytes_of (parameters_text ns ++ (62 ∷ (body_text false b ++ end_tag_text c))) ++ rest)
-      (λ ts h. (ns, (h.0, h.1, (h.2.2.2.0, (can.0, refl, (h.2.0, h.2.2.0, h.2.1, h.2.2.1, h.2.2.2.1)), h.2.2.2.2))))
-      (tag_join (parameters_text ns) (62 ∷ (body_text false b ++ end_tag_text c)) rest
-      (tag_parameters ns (bytes_of (62 ∷ (body_text false b ++ end_tag_text c)) ++ rest) can.1
-      (tag_first (62 ∷ []) (body_text false b ++ end_tag_text c) rest refl (lexed_tag_end (bytes_of (body_text false b ++ end_tag_text c) ++ rest) body))))
-  lexed_slots depth c (block name ns b (block x xs y ys)) rest names can l = absurd can
+      → InTag (bytes_of (slots_text c ss) ++ rest) (RestThen depth c ss P)
+  lexed_slots depth c no_slots rest names can l = tag_as (bytes_of (codes " />") ++ rest) (λ ts h. ([], (ts, inl (refl, refl), (h.0, inl (h.1, refl), h.2)))) (lexed_self_end rest l)
+  lexed_slots {P} zero c (block name ns b ss) rest names can l =
+      as_own {P = P} zero c name ns b ss rest can.0
+      (lexed_own zero c name ns b ss rest names can.0 can.1 l (λ q t n. lexed_body zero false b (bytes_of (end_tag_text c) ++ rest) can.2 q t n))
+  lexed_slots {P} (suc depth) c (block name ns b ss) rest names (inl can) l =
+      as_own {P = P} (suc depth) c name ns b ss rest can.0
+      (lexed_own (suc depth) c name ns b ss rest names can.0 can.1 l (λ q t n. lexed_body (suc depth) false b (bytes_of (end_tag_text c) ++ rest) can.2 q t n))
+  lexed_slots {P} (suc depth) c (block name ns b ss) rest names (inr can) l =
+      either_way {P = P} (suc depth) c name ns b ss rest
+      (λ own. lexed_own (suc depth) c name ns b ss rest names own can.2 l (λ q t n. lexed_body (suc depth) false b (bytes_of (end_tag_text c) ++ rest) (deeper_body depth b can.3) q t n))
+      (lexed_named depth c (block name ns b ss) rest refl can.0
+      (add_slot depth name ns b ss (bytes_of (end_tag_text c) ++ rest)
+      (lexed_slot depth name ns b (bytes_of (blocks_text ss) ++ (bytes_of (end_tag_text c) ++ rest)) can.1 can.2
+      (lexed_blocks depth ss (bytes_of (end_tag_text c) ++ rest) can.4 (end_gapless c) (lexed_end_tag c rest (class_names c names) l))
+      (λ q t n. lexed_body depth false b (bytes_of (end_tag_text (58 ∷ name)) ++ (bytes_of (blocks_text ss) ++ (bytes_of (end_tag_text c) ++ rest))) can.3 q t n))))
+
+  lexed_blocks : {P : List Token → Type 0} (depth : ℕ) (ss : Slots) (rest : List ℕ) → CanBlocks depth ss → Gapless P → Lexed m.Content false rest P
+      → Lexed m.Content false (bytes_of (blocks_text ss) ++ rest) (Then (λ ts us. AreSlots (suc depth) ts ss us) P)
+  lexed_blocks depth no_slots rest can g l = lexed_as m.Content false rest (λ ts p. (ts, g ts p, p)) l
+  lexed_blocks depth (block name ns b ss) rest can g l =
+      add_slot depth name ns b ss rest
+      (lexed_slot depth name ns b (bytes_of (blocks_text ss) ++ rest) can.0 can.1 (lexed_blocks depth ss rest can.3 g l)
+      (λ q t n. lexed_body depth false b (bytes_of (end_tag_text (58 ∷ name)) ++ (bytes_of (blocks_text ss) ++ rest)) can.2 q t n))

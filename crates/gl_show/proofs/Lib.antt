@@ -4,6 +4,7 @@ pub mod CanExprs
 pub mod CanStmts
 pub mod ContentTokens
 pub mod Decoding
+pub mod Deeper
 pub mod Edges
 pub mod ExprTokens
 pub mod Lexed

@@ -8,8 +8,9 @@ use Rattle.gl_base.specs.Names.{or_else, has_text}
 use Rattle.gl_ast.specs.Canon.{segments_text}
 use Rattle.gl_ast.specs.Marks.{is_white, is_capital, is_small, is_digit, starts_name, in_name, in_class, in_tag}
 use Rattle.gl_ast.specs.Scans.{after, begins, after_all, after_word, from_first, after_pieces, after_closing}
-use Rattle.gl_ast.specs.TokenText.{is_free}
-use Rattle.gl_ast.specs.Words.{read_part, reserved, if_free, after_white, after_space, after_name, after_free_name, after_class_part, after_more_class, after_parts, after_class, after_tag, after_element_name, after_tag_opening, after_html_comment, after_argument, after_spaced_name, after_more_names, after_names, after_parameters, after_digits, after_head, after_member, after_segment, after_segments, after_path, number_from, greatest, fits, goes_on, if_number, after_natural, after_number, after_string}
+use Rattle.gl_ast.specs.TokenText.{is_free, is_block_name}
+use Rattle.gl_ast.specs.Words.{read_part, reserved, if_free, after_white, after_space, after_name, after_free_name, after_class_part, after_more_class, after_parts, after_class, after_tag, after_element_name, after_slot_name, after_block_name, after_label, after_tag_opening, after_html_comment, after_argument, after_spaced_name, after_more_names, after_names, after_parameters, after_digits, after_head, after_member, after_segment, after_segments, after_path, number_from, greatest, fits, goes_on, if_number, after_natural, after_number, after_string}
+use Rattle.gl_ast.proofs.BlockNames.{block_read}
 use Rattle.gl_ast.proofs.Forward.{Moves, both, bind_some, if_some, same_byte, piece_step, piece_end}
 use Rattle.gl_ast.proofs.Longest.{after_is_front}
 use Rattle.gl_ast.proofs.Progress.{segment_moves, more_class_moves, spaced_name_moves}
@@ -181,12 +182,27 @@ element_name_shape bs rest e = elim (either (after_tag bs) (after_class_part bs 
       )
 ]
 
-pub tag_opening_shape : (bs rest : List ℕ) → after_tag_opening bs ≡ Some rest → Shaped (λ w. (n : List ℕ) × (w ≡ 60 ∷ n) × IsElementName n) bs rest
+-- the name of a block that is passed, after `:`
+abbrev pub IsLabel : List ℕ → Type 0
+IsLabel n = IsElementName n ⊎ ((m : List ℕ) × (n ≡ 58 ∷ m) × (is_block_name m ≡ true))
+
+label_shape : (bs rest : List ℕ) → after_label bs ≡ Some rest → Shaped IsLabel bs rest
+unfolding after_label after_slot_name
+label_shape bs rest e = elim (either (after_element_name bs) (after (codes ":") bs >>= after_block_name) rest e) [
+  | inl h ↦ let s = element_name_shape bs rest h in (s.0, s.1, inl s.2)
+  | inr h ↦
+      let b = bind_some (after (codes ":") bs) after_block_name rest h in
+      let f = after_is_front (codes ":") bs b.0 b.1 in
+      let s = block_read b.0 rest b.2 in
+      (58 ∷ s.0, f ∙ ap (λ l. 58 ∷ l) s.1, inr (s.0, refl, s.2))
+]
+
+pub tag_opening_shape : (bs rest : List ℕ) → after_tag_opening bs ≡ Some rest → Shaped (λ w. (n : List ℕ) × (w ≡ 60 ∷ n) × IsLabel n) bs rest
 unfolding after_tag_opening
 tag_opening_shape bs rest e =
-    let b = bind_some (after (codes "<") bs) after_element_name rest e in
+    let b = bind_some (after (codes "<") bs) after_label rest e in
     let f = after_is_front (codes "<") bs b.0 b.1 in
-    let s = element_name_shape b.0 rest b.2 in
+    let s = label_shape b.0 rest b.2 in
     (60 ∷ s.0, f ∙ ap (λ l. 60 ∷ l) s.1, (s.0, refl, s.2))
 
 -- numbers

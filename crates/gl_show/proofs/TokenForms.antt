@@ -19,7 +19,7 @@ use Rattle.gl_ast.specs.declared.token.TokenKind.TheVariants as k
 use Rattle.gl_ast.proofs.Forward.{both, tail_text}
 use Rattle.gl_show.specs.Marking.{last_is}
 use Rattle.gl_show.specs.Spellable.{is_word, is_name, is_within, IsTextual, IsString, AreFreeNames, ends_comment}
-use Rattle.gl_show.proofs.ContentTokens.{NamesElement, tag_names, class_names}
+use Rattle.gl_show.proofs.ContentTokens.{NamesTag, tag_names, class_names, block_ascii}
 use Rattle.gl_show.proofs.Edges.{last_backslash}
 use Rattle.gl_show.proofs.LexedExpr.{ascii_append, segments_ascii, ascii_utf8}
 use Rattle.gl_show.proofs.LexedFlat.{comment_is}
@@ -27,7 +27,7 @@ use Rattle.gl_show.proofs.Numbers.{IsNumber, digits_ascii, take_front, natural_o
 use Rattle.gl_show.proofs.Parameters.{pieces_front, all_in}
 use Rattle.gl_show.proofs.Runs.{char_bytes}
 use Rattle.gl_show.proofs.Scanning.{name_ascii, word_low, all_low}
-use Rattle.gl_show.proofs.Shapes.{AllForm, IsHead, IsPathText, IsElementName, IsNumberText, IsSpacedName, IsNamesText}
+use Rattle.gl_show.proofs.Shapes.{AllForm, IsHead, IsPathText, IsElementName, IsLabel, IsNumberText, IsSpacedName, IsNamesText}
 use Rattle.gl_show.proofs.Strings.{all_high}
 
 -- what the text of a token of this kind is
@@ -37,7 +37,7 @@ IsProper k.Number x = is_within (integer_of x) ≡ true
 IsProper k.StringLit x = IsString (string_of x)
 IsProper k.Text x = IsTextual x
 IsProper k.HtmlComment x = IsTextual (comment_of x) × (ends_comment (comment_of x) ≡ false)
-IsProper k.TagOpening x = (n : Text) × (x ≡ 60 ∷ n) × IsElementName n
+IsProper k.TagOpening x = (n : Text) × (x ≡ 60 ∷ n) × IsLabel n
 IsProper k.Attribute x = is_word starts_attribute in_attribute x ≡ true
 IsProper k.Argument x = (n : Text) × (x ≡ 64 ∷ n) × (is_name n ≡ true)
 IsProper k.Unquoted x = IsTextual x
@@ -198,7 +198,7 @@ comment_form w p u =
     subst (λ (s : Text). IsTextual s × (ends_comment s ≡ false)) (sym text) (scalars-chars p.0 v, ends_bytes (chars p.0) (ap ends_comment (encodes-chars p.0 v) ∙ p.2))
 
 -- tags
-names_ascii : (n : Text) → NamesElement n → is_ascii_text n ≡ true
+names_ascii : (n : Text) → NamesTag n → is_ascii_text n ≡ true
 names_ascii [] names = absurd names
 names_ascii (c ∷ cs) names = names.1
 
@@ -206,8 +206,12 @@ element_ascii : (n : List ℕ) → IsElementName n → is_ascii_text n ≡ true
 element_ascii n (inl w) = names_ascii n (tag_names n w)
 element_ascii n (inr w) = names_ascii n (class_names n w)
 
-pub opening_form : (w : List ℕ) → ((n : List ℕ) × (w ≡ 60 ∷ n) × IsElementName n) → IsProper k.TagOpening (chars w)
-opening_form w p = (p.0, chars_of_ascii w (ap is_ascii_text p.1 ∙ element_ascii p.0 p.2) ∙ p.1, p.2)
+label_ascii : (n : List ℕ) → IsLabel n → is_ascii_text n ≡ true
+label_ascii n (inl w) = element_ascii n w
+label_ascii n (inr w) = ap is_ascii_text w.1 ∙ block_ascii w.0 w.2
+
+pub opening_form : (w : List ℕ) → ((n : List ℕ) × (w ≡ 60 ∷ n) × IsLabel n) → IsProper k.TagOpening (chars w)
+opening_form w p = (p.0, chars_of_ascii w (ap is_ascii_text p.1 ∙ label_ascii p.0 p.2) ∙ p.1, p.2)
 
 attribute_low : (b : ℕ) → starts_attribute b ≡ true → b < 128
 attribute_low b e = grind (arith, nat_tests)

@@ -1,15 +1,15 @@
 -- Which trees can be spelled: of which names, texts and numbers they are made, and how deep they nest.
-use Rattle.std.specs.Prelude.{◌≡◌, ◌≤◌, ℕ, zero, suc, ℤ, pos, negsuc, List, [], ◌∷◌, ◌++◌, Bool, true, false, ◌&&◌, ◌||◌, nat_le, codes, length}
+use Rattle.std.specs.Prelude.{◌≡◌, ◌≤◌, ◌⊎◌, ℕ, zero, suc, ℤ, pos, negsuc, List, [], ◌∷◌, ◌++◌, Bool, true, false, ◌&&◌, ◌||◌, nat_le, codes, length}
 use Rattle.std.specs.List.{list_all, flat_map}
 use Rattle.std.specs.Str.{all_scalars}
 use Rattle.gl_base.specs.Texts.{Text}
 use Rattle.gl_value.specs.Value as v
-use Rattle.gl_ast.specs.Canon.{ends_backslash}
-use Rattle.gl_ast.specs.Grammar.{deepest_calls, is_some_expr, is_empty_text, is_void}
+use Rattle.gl_ast.specs.Canon.{ends_backslash, is_own_block}
+use Rattle.gl_ast.specs.Grammar.{deepest_calls, is_some_expr, is_empty_text, is_void, are_new, slot_names}
 use Rattle.gl_ast.specs.Marks.{is_capital, is_small, is_digit, starts_name, in_name, in_class, in_tag, starts_attribute, in_attribute}
 use Rattle.gl_ast.specs.Scans.{begins}
 use Rattle.gl_ast.specs.Template.{Plain, Expr, literal, this, argument, bare, call, cat, Exprs, no_exprs, expr, NamedExprs, no_named, named_expr, AttrValue, fixed, live, Part, attribute, modifier, spread, Stmt, text_stmt, comment_stmt, put, element, component_stmt, if_stmt, each, let_stmt, yield, Body, end, stmt, Slots, no_slots, block}
-use Rattle.gl_ast.specs.TokenText.{is_free}
+use Rattle.gl_ast.specs.TokenText.{is_free, is_block_name}
 use Rattle.gl_ast.specs.Words.{greatest}
 
 -- a character that passes the first test, and then others that pass the second
@@ -141,7 +141,7 @@ abbrev mutual
   CanStmt depth (text_stmt s) = IsTextual s × (is_empty_text s ≡ false)
   CanStmt depth (comment_stmt s) = IsTextual s × (ends_comment s ≡ false)
   CanStmt depth (put e) = CanInner e
-  CanStmt depth (yield es to) = (to ≡ codes "default") × CanExprs deepest_calls es
+  CanStmt depth (yield es to) = (is_block_name to ≡ true) × CanExprs deepest_calls es
   CanStmt zero _ = ⊥
   CanStmt (suc depth) (element tag ps b) = (is_word is_small in_tag tag ≡ true) × CanParts ps × (is_void tag ≡ true → b ≡ end) × CanBody depth b
   CanStmt (suc depth) (component_stmt c ps given ss) = IsClassName c × CanParts ps × CanArguments given × CanSlots depth ss
@@ -149,8 +149,15 @@ abbrev mutual
   CanStmt (suc depth) (each e key ns b c) = CanExpr deepest_calls e × IsString key × AreFreeNames ns × (length ns ≤ 2) × CanBody depth b × CanBody depth c
   CanStmt (suc depth) (let_stmt es ns b) = (is_some_expr es ≡ true) × CanExprs deepest_calls es × AreFreeNames ns × CanBody depth b
 
-  -- a component has no block or one, which is named `default`
+  -- A component has no block, one that is named `default` and stands for itself, or several of different names, which are
+  -- nested in it.
   pub CanSlots : ℕ → Slots → Type 0
   CanSlots depth no_slots = Unit {0}
-  CanSlots depth (block name ns b no_slots) = (name ≡ codes "default") × AreFreeNames ns × CanBody depth b
-  CanSlots depth (block name ns b _) = ⊥
+  CanSlots zero (block name ns b ss) = (is_own_block name ss ≡ true) × AreFreeNames ns × CanBody zero b
+  CanSlots (suc depth) (block name ns b ss) =
+      ((is_own_block name ss ≡ true) × AreFreeNames ns × CanBody (suc depth) b)
+      ⊎ ((are_new [] (name ∷ slot_names ss) ≡ true) × (is_block_name name ≡ true) × AreFreeNames ns × CanBody depth b × CanBlocks depth ss)
+
+  pub CanBlocks : ℕ → Slots → Type 0
+  CanBlocks depth no_slots = Unit {0}
+  CanBlocks depth (block name ns b ss) = (is_block_name name ≡ true) × AreFreeNames ns × CanBody depth b × CanBlocks depth ss

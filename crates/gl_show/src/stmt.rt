@@ -1,15 +1,16 @@
 // The spelling of statements.
 ghost use Rattle.std.specs.Prelude.{◌≡◌, ◌∷◌, ◌++◌, ◌<◌, OnOk, IsTrue, codes, false};
 ghost use Rattle.gl_base.specs.Texts.{is_ascii_text};
-ghost use Rattle.gl_ast.specs.Canon.{is_text_stmt, between, end_tag_text, closing_text, body_text, stmt_text, slots_text, else_text, expr_text, exprs_text, string_text, parameters_text};
+ghost use Rattle.gl_ast.specs.Canon.{is_text_stmt, between, end_tag_text, closing_text, body_text, stmt_text, target_text, is_own_block, slot_text, slots_text, blocks_text, else_text, expr_text, string_text, parameters_text};
+ghost use Rattle.std.specs.Str.{bytes_eq};
 ghost use Rattle.gl_ast.specs.Grammar.{is_void, if_word};
-ghost use Rattle.gl_ast.specs.Template.{body_of, slots_of, exprs_of, element, let_stmt};
-ghost use Rattle.gl_ast.specs.View.{expr_view, stmt_view};
+ghost use Rattle.gl_ast.specs.Template.{body_of, slots_of, exprs_of, element, let_stmt, yield};
+ghost use Rattle.gl_ast.specs.View.{expr_view, stmt_view, seen_slots};
 
 use crate::expression::{write_expr, write_exprs, write_mustache};
 use crate::part::{write_args, write_parameters, write_parts};
 use crate::text::{write_string, write_text};
-use gl_ast::{Args, Body, Expr, Exprs, Names, Parts, Slots, Stmt};
+use gl_ast::{Args, Body, Expr, Exprs, Names, Parts, Slot, Slots, Stmt};
 use gl_names::void;
 use gl_value::Text;
 use std::alloc::AllocError;
@@ -66,12 +67,31 @@ fn write_closing(word: &str, out: &mut Text) -> Result<(), AllocError>
     out.push_ascii("}}")
 }
 
-// Adds a slot that a `yield` shows.
-fn write_yield(values: &Exprs, out: &mut Text) -> Result<(), AllocError>
-    ensures { OnOk result (out.new ≡ out.old ++ (codes "{{yield" ++ (exprs_text (exprs_of values.now) ++ codes "}}"))) }
+// Whether this is the name of the block that a component has where it names none.
+fn is_default(name: &Text) -> bool
+    ensures { result ≡ bytes_eq name.now (codes "default") }
+{
+    name.as_str() == "default"
+}
+
+// Adds the block that a `yield` names, where that isn't `default`.
+fn write_target(to: &Text, out: &mut Text) -> Result<(), AllocError>
+    ensures { OnOk result (out.new ≡ out.old ++ target_text to.now) }
+{
+    if is_default(to) {
+        return Ok(());
+    }
+    out.push_ascii(" to=")?;
+    write_string(to, out)
+}
+
+// Adds a block that a `yield` shows.
+fn write_yield(values: &Exprs, to: &Text, out: &mut Text) -> Result<(), AllocError>
+    ensures { OnOk result (out.new ≡ out.old ++ stmt_text (yield (exprs_of values.now) to.now)) }
 {
     out.push_ascii("{{yield")?;
     write_exprs(values, out)?;
+    write_target(to, out)?;
     out.push_ascii("}}")
 }
 
@@ -91,17 +111,59 @@ fn write_element(tag: &Text, parts: &Parts, body: &Body, out: &mut Text) -> Resu
     write_end_tag(tag, out)
 }
 
-// Adds the end of a component's opening tag, and its block.
+// Whether a block stands for itself: where it is named `default`, and there are no others.
+fn is_own_block(name: &Text, others: &[Slot]) -> bool
+    ensures { result ≡ is_own_block name.now (slots_of (seen_slots others.now)) }
+{
+    match others {
+        [] => is_default(name),
+        [_, ..] => false,
+    }
+}
+
+// Adds a block with its name.
+#[cycle(statement)]
+fn write_slot(slot: &Slot, out: &mut Text) -> Result<(), AllocError>
+    ensures { OnOk result (out.new ≡ out.old ++ slot_text slot.now.name slot.now.block.params (body_text false (body_of slot.now.block.body))) }
+{
+    out.push_ascii("<:")?;
+    out.push_text(&slot.name)?;
+    write_parameters(&slot.block.params, out)?;
+    out.push_ascii(">")?;
+    write_body(&slot.block.body, out)?;
+    out.push_ascii("</:")?;
+    out.push_text(&slot.name)?;
+    out.push_ascii(">")
+}
+
+// Adds blocks with their names.
+#[cycle(statement)]
+fn write_blocks(slots: &[Slot], out: &mut Text) -> Result<(), AllocError>
+    ensures { OnOk result (out.new ≡ out.old ++ blocks_text (slots_of (seen_slots slots.now))) }
+{
+    for slot in slots {
+        write_slot(slot, out)?;
+    }
+    Ok(())
+}
+
+// Adds the end of a component's opening tag, and its blocks.
 #[cycle(statement)]
 fn write_slots(class: &Text, slots: &Slots, out: &mut Text) -> Result<(), AllocError>
     ensures { OnOk result (out.new ≡ out.old ++ slots_text class.now (slots_of slots.now)) }
 {
     match slots.as_slice() {
         [] => out.push_ascii(" />"),
-        [slot, ..] => {
-            write_parameters(&slot.block.params, out)?;
+        [slot, others @ ..] => {
+            if is_own_block(&slot.name, others) {
+                write_parameters(&slot.block.params, out)?;
+                out.push_ascii(">")?;
+                write_body(&slot.block.body, out)?;
+                return write_end_tag(class, out);
+            }
             out.push_ascii(">")?;
-            write_body(&slot.block.body, out)?;
+            write_slot(slot, out)?;
+            write_blocks(others, out)?;
             write_end_tag(class, out)
         }
     }
@@ -221,7 +283,7 @@ pub fn write_stmt(stmt: &Stmt, out: &mut Text) -> Result<(), AllocError>
             params,
             body,
         } => write_let(values, params, body, out),
-        Stmt::Yield { values, .. } => write_yield(values, out),
+        Stmt::Yield { values, to } => write_yield(values, to, out),
     }
 }
 

@@ -255,6 +255,39 @@ static TEMPLATES: [(&str, &str); 110] = [
     ),
 ];
 
+// Named blocks, in the same way.
+static BLOCKS: [(&str, &str); 14] = [
+    (
+        "<C><:a></:a \t></C>",
+        "TagOpening 0 2 <C\nTagEnd 2 3 >\nTagOpening 3 6 <:a\nTagEnd 6 7 >\nEndTag 7 14 </:a \t>\nEndTag 14 18 </C>\n",
+    ),
+    (
+        "<:inverse as |x|>",
+        "TagOpening 0 8 <:invers\nAttribute 8 9 e\nParameters 10 16 as |x|\nTagEnd 16 17 >\n",
+    ),
+    (
+        "<:this><:this1><:inverse-s>",
+        "TagOpening 0 5 <:thi\nAttribute 5 6 s\nTagEnd 6 7 >\nTagOpening 7 14 <:this1\nTagEnd 14 15 >\nTagOpening 15 26 <:inverse-s\nTagEnd 26 27 >\n",
+    ),
+    (
+        "<:$_-9{{! c }}/>",
+        "TagOpening 0 6 <:$_-9\nMustacheComment 6 14 {{! c }}\nSelfEnd 14 16 />\n",
+    ),
+    (
+        "</:this1></:else-x>",
+        "EndTag 0 9 </:this1>\nEndTag 9 19 </:else-x>\n",
+    ),
+    ("</:inverse>", "none"),
+    ("</:null>", "none"),
+    ("</: a>", "none"),
+    ("</:a b>", "none"),
+    ("<:>", "none"),
+    ("<:1>", "none"),
+    ("< :a>", "none"),
+    ("<::a>", "none"),
+    ("<p:a>", "none"),
+];
+
 // Expressions that stand alone, in the same way.
 static EXPRESSIONS: [(&str, &str); 9] = [
     ("", ""),
@@ -314,6 +347,14 @@ fn check_expression(rt: &impl Abort, alloc: Global, row: &(&str, &str)) -> Resul
 #[test]
 fn templates(rt: HostRuntime) -> Result<(), Fail> {
     for row in &TEMPLATES {
+        check_template(&rt, rt.alloc(), row)?;
+    }
+    Ok(())
+}
+
+#[test]
+fn blocks(rt: HostRuntime) -> Result<(), Fail> {
+    for row in &BLOCKS {
         check_template(&rt, rt.alloc(), row)?;
     }
     Ok(())

@@ -6,6 +6,8 @@
 #[cfg(test)]
 mod ast;
 #[cfg(test)]
+mod blocks;
+#[cfg(test)]
 mod decode;
 #[cfg(test)]
 mod lex;

@@ -6,7 +6,7 @@ use std::process::Abort;
 use std::test::Fail;
 
 // Templates, and whether each is in the grammar.
-static TEMPLATES: [(&str, bool); 116] = [
+static TEMPLATES: [(&str, bool); 132] = [
     ("", true),
     ("a b\n", true),
     ("a } b }} c", true),
@@ -31,6 +31,22 @@ static TEMPLATES: [(&str, bool); 116] = [
     ("{{yield a (b) 1}}", true),
     ("{{yield a=1}}", false),
     ("{{yield.a}}", false),
+    ("<C><:a></:a></C>", true),
+    ("<C> {{! c }}\n<:a as |x|>{{x}}</:a >\t<:default/>", false),
+    ("<C> {{! c }}\n<:a as |x|>{{x}}</:a >\t</C>", true),
+    ("<C as |x|>{{x}}</C>", true),
+    ("<C as |x|> <:a></:a></C>", false),
+    ("<C><:a></:a><:b></:b><:a></:a></C>", false),
+    ("<C><:a></:a><:b></:b><:default></:default></C>", true),
+    ("<C><:a><C><:a></:a></C></:a></C>", true),
+    ("<C><:inverse></:inverse></C>", false),
+    ("<:a></:a>", false),
+    ("{{yield a to=\"b\"}}", true),
+    ("{{yield to='default'}}", true),
+    ("{{yield to=\"inverse\"}}", false),
+    ("{{yield to=b}}", false),
+    ("{{yield to}}", true),
+    ("{{yield to to='b'}}", true),
     ("{{'a'}}{{\"b\\\"\"}}{{-7}}", true),
     ("{{f 007}}", true),
     ("{{f 9007199254740992}}", false),
@@ -157,7 +173,52 @@ struct Tower {
     is_in: bool,
 }
 
-static TOWERS: [Tower; 18] = [
+static TOWERS: [Tower; 23] = [
+    Tower {
+        first: "",
+        front: "<C><:default>",
+        middle: "b",
+        back: "</:default></C>",
+        last: "",
+        count: 50,
+        is_in: true,
+    },
+    Tower {
+        first: "",
+        front: "<C><:default>",
+        middle: "<br>",
+        back: "</:default></C>",
+        last: "",
+        count: 50,
+        is_in: false,
+    },
+    Tower {
+        first: "<p>",
+        front: "<C>\n<:a>",
+        middle: "{{yield to='a'}}",
+        back: "</:a>\n</C>",
+        last: "</p>",
+        count: 49,
+        is_in: true,
+    },
+    Tower {
+        first: "<C>",
+        front: "<:default>",
+        middle: "b",
+        back: "</:default>",
+        last: "</C>",
+        count: 2,
+        is_in: false,
+    },
+    Tower {
+        first: "{{yield",
+        front: " a",
+        middle: " to='b'",
+        back: "",
+        last: "}}",
+        count: 200,
+        is_in: true,
+    },
     Tower {
         first: "",
         front: "<p>",

@@ -26,14 +26,14 @@ enum Shape {
     Comment(&'static str),
     Put(char),
     Element(&'static str, &'static [Piece]),
-    Component(&'static [Piece], &'static [Piece], bool),
+    Component(&'static [Piece], &'static [Piece], &'static [&'static str]),
     If(bool, &'static str),
     Each(&'static str, &'static [&'static str]),
     Let(&'static str),
-    Yield(&'static str),
+    Yield(&'static str, &'static str),
 }
 
-static ROWS: [(Shape, &str); 48] = [
+static ROWS: [(Shape, &str); 54] = [
     (Shape::Texts(&[]), ""),
     (Shape::Texts(&["a", "b", "c"]), "a{{!}}b{{!}}c"),
     (
@@ -102,18 +102,30 @@ static ROWS: [(Shape, &str); 48] = [
         Shape::Element("p", &[Piece::Cat("bs")]),
         "<p a=\"&amp;&#92;{{\"a\"}}\">t</p>",
     ),
-    (Shape::Component(&[], &[], false), "<Kid />"),
+    (Shape::Component(&[], &[], &[]), "<Kid />"),
     (
         Shape::Component(
             &[Piece::Fixed("v"), Piece::Live('x')],
             &[Piece::Fixed("c")],
-            false,
+            &[],
         ),
         "<Kid @a=\"v\" @a={{x}} a=\"c\" />",
     ),
     (
-        Shape::Component(&[], &[Piece::Spread], true),
+        Shape::Component(&[], &[Piece::Spread], &["default"]),
         "<Kid ...attributes as |p q|>t</Kid>",
+    ),
+    (
+        Shape::Component(&[], &[Piece::Spread], &["a"]),
+        "<Kid ...attributes><:a as |p q|>t</:a></Kid>",
+    ),
+    (
+        Shape::Component(&[], &[], &["default", "b-1"]),
+        "<Kid><:default as |p q|>t</:default><:b-1 as |p q|>t</:b-1></Kid>",
+    ),
+    (
+        Shape::Component(&[], &[], &["b", "default"]),
+        "<Kid><:b as |p q|>t</:b><:default as |p q|>t</:default></Kid>",
     ),
     (Shape::If(false, ""), "{{#if x}}t{{/if}}"),
     (Shape::If(false, "n"), "{{#if x}}t{{else}}n{{/if}}"),
@@ -131,9 +143,12 @@ static ROWS: [(Shape, &str); 48] = [
         "{{#each x key=\"\\\"\" as |r i|}}t{{else}}n{{/each}}",
     ),
     (Shape::Let("xs"), "{{#let x \"a\" as |p q|}}t{{/let}}"),
-    (Shape::Yield(""), "{{yield}}"),
-    (Shape::Yield("x"), "{{yield x}}"),
-    (Shape::Yield("f"), "{{yield (f)}}"),
+    (Shape::Yield("", "default"), "{{yield}}"),
+    (Shape::Yield("x", "default"), "{{yield x}}"),
+    (Shape::Yield("f", "default"), "{{yield (f)}}"),
+    (Shape::Yield("", "a"), "{{yield to=\"a\"}}"),
+    (Shape::Yield("xf", "b-1"), "{{yield x (f) to=\"b-1\"}}"),
+    (Shape::Yield("x", "default1"), "{{yield x to=\"default1\"}}"),
 ];
 
 fn names(alloc: Global, list: &[&'static str]) -> Result<Names, Fail> {
@@ -297,11 +312,11 @@ fn content(alloc: Global, text: &'static str) -> Result<Body, Fail> {
     }
 }
 
-fn slots(alloc: Global, open: bool) -> Result<Slots, Fail> {
+fn slots(alloc: Global, named: &[&'static str]) -> Result<Slots, Fail> {
     let mut slots = Slots::new(alloc);
-    if open {
+    for name in named {
         slots.push(Slot {
-            name: Text::from_str(alloc, "default")?,
+            name: Text::from_str(alloc, name)?,
             block: Block {
                 params: names(alloc, &["p", "q"])?,
                 body: content(alloc, "t")?,
@@ -321,12 +336,17 @@ fn each(alloc: Global, key: &str, params: &[&'static str]) -> Result<Stmt, Fail>
     })
 }
 
-fn component(alloc: Global, args: &[Piece], pieces: &[Piece], open: bool) -> Result<Stmt, Fail> {
+fn component(
+    alloc: Global,
+    args: &[Piece],
+    pieces: &[Piece],
+    named: &[&'static str],
+) -> Result<Stmt, Fail> {
     Ok(Stmt::Component {
         class: Text::from_str(alloc, "Kid")?,
         parts: parts(alloc, pieces)?,
         args: given(alloc, args)?,
-        slots: slots(alloc, open)?,
+        slots: slots(alloc, named)?,
     })
 }
 
@@ -357,13 +377,13 @@ fn statement(alloc: Global, shape: &Shape) -> Result<Stmt, Fail> {
             parts: parts(alloc, pieces)?,
             body: content(alloc, "t")?,
         }),
-        Shape::Component(args, pieces, open) => component(alloc, args, pieces, *open),
+        Shape::Component(args, pieces, named) => component(alloc, args, pieces, named),
         Shape::If(unless, otherwise) => branch(alloc, *unless, otherwise),
         Shape::Each(key, params) => each(alloc, key, params),
         Shape::Let(signs) => named(alloc, signs),
-        Shape::Yield(signs) => Ok(Stmt::Yield {
+        Shape::Yield(signs, to) => Ok(Stmt::Yield {
             values: exprs(alloc, signs)?,
-            to: Text::from_str(alloc, "default")?,
+            to: Text::from_str(alloc, to)?,
         }),
     }
 }

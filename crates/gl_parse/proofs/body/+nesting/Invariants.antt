@@ -1,6 +1,7 @@
 use Rattle.std.proofs.Common.{◌+◌, ◌*◌, length}
-use Rattle.gl_parse.specs.ReadStmt.{read_stmts, read_stmt}
+use Rattle.gl_parse.specs.ReadStmt.{read_stmts, read_body, read_stmt}
 use Rattle.gl_parse.proofs.Bodies.{Goes}
+use Rattle.gl_parse.proofs.Fillings.{AreLeft}
 use Rattle.gl_parse.proofs.body.+nesting.Given as goal
 
 -- the depth, and then the order of the calls at one depth
@@ -9,6 +10,15 @@ decreases-statement l = 7 * l.depth
 
 abbrev pub decreases-body : goal.decreases-body
 decreases-body l = 7 * l.depth + 1
+
+abbrev pub decreases-filling : goal.decreases-filling
+decreases-filling l = 7 * l.depth
+
+abbrev pub decreases-slot : goal.decreases-slot
+decreases-slot l = 7 * l.depth + 2
+
+abbrev pub decreases-slots : goal.decreases-slots
+decreases-slots l = 7 * l.depth + 3
 
 abbrev pub decreases-tag : goal.decreases-tag
 decreases-tag l = 7 * l.depth + 2
@@ -33,3 +43,9 @@ invariant-body-loop-alloc l = Goes (read_stmt l.depth) l.list l.tokens (read_stm
 
 abbrev pub decreases-body-loop-alloc : goal.decreases-body-loop-alloc
 decreases-body-loop-alloc l = length l.tokens
+
+abbrev pub invariant-slots-loop-alloc : goal.invariant-slots-loop-alloc
+invariant-slots-loop-alloc l = AreLeft (read_body (read_stmt l.depth)) l.list l.names l.tokens l.fn.tokens
+
+abbrev pub decreases-slots-loop-alloc : goal.decreases-slots-loop-alloc
+decreases-slots-loop-alloc l = length l.tokens
