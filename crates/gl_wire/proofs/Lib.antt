@@ -1,3 +1,4 @@
 pub mod Elses
+pub mod Named
 pub mod NoFloats
 mod WireRows

@@ -8,7 +8,9 @@ use Rattle.serde_json.specs.Written.{has_float, items_have_float}
 use Rattle.gl_base.specs.Texts.{Text}
 use Rattle.gl_value.specs.Value as v
 use Rattle.gl_ast.specs.Template.{Plain}
-use Rattle.gl_wire.specs.Json.{array_of, text_json, place_json, literal_json, expr_json, exprs_json, named_json, part_json, stmt_rows, body_rows, component_rows, else_rows, end_row, json_of}
+use Rattle.gl_wire.specs.Json.{array_of, text_json, place_json, literal_json, expr_json, exprs_json, named_json, part_json, yield_names, comp_params, ended_rows, component_rows, stmt_rows, body_rows, slots_rows, else_rows, end_row, json_in}
+use Rattle.gl_wire.specs.declared.version.Version.{Version}
+use Rattle.gl_wire.specs.declared.version.Version.TheVariants.{First, Second}
 use Rattle.gl_wire.specs.Wire.{Expr, literal, symbol, this, get, free, call, cat, Exprs, no_exprs, expr, NamedExprs, no_named, named_expr, Part, attribute, live, modifier, spread, Stmt, text_stmt, comment_stmt, put, element, component_stmt, if_stmt, each, let_stmt, yield, Body, end, stmt, Slots, no_slots, block, Wire}
 
 abbrev have : List Data → Bool
@@ -90,30 +92,48 @@ parts (p ∷ ps) = both _ _ (part p) (parts ps)
 ended : (ds : List Data) → have ds ≡ false → have (ds ++ end_row) ≡ false
 ended ds h = have-append ds end_row h refl
 
+-- the row of a component with blocks
+with_params : (version : Version) (c p e : Data) → has_float c ≡ false → has_float p ≡ false → has_float e ≡ false → (is : List ℕ) → have (c ∷ p ∷ e ∷ comp_params version is) ≡ false
+with_params First c p e h k l is = both _ _ h (three p e (array_of (map place_json is)) k l (places is))
+with_params Second c p e h k l is = three c p e h k l
+
+ended_blocks : (version : Version) (ds : List Data) → have ds ≡ false → have (ended_rows version ds) ≡ false
+ended_blocks First ds h = h
+ended_blocks Second ds h = ended ds h
+
+component : (version : Version) (c p e : Data) → has_float c ≡ false → has_float p ≡ false → has_float e ≡ false → (ss : Slots) (inner : List Data) → have inner ≡ false → have (component_rows version (c ∷ p ∷ e ∷ []) ss inner) ≡ false
+component version c p e h k l no_slots inner i = both _ _ (three c p e h k l) refl
+component version c p e h k l (block name is b ss) inner i = both _ _ (with_params version c p e h k l is) (ended_blocks version inner i)
+
+names : (version : Version) (to : Text) → have (yield_names version to) ≡ false
+names First to = refl
+names Second to = refl
+
 mutual
-  statement : (s : Stmt) → have (stmt_rows s) ≡ false
-  statement (text_stmt s) = refl
-  statement (comment_stmt s) = refl
-  statement (put e) = both _ _ (both _ _ (expression e) refl) refl
-  statement (element tag ps b) = both _ _ (both _ _ (parts ps) refl) (ended (body_rows b) (body b))
-  statement (component_stmt c ps es ss) = component (text_json c) (array_of (map part_json ps)) (array_of (named_json es)) refl (parts ps) (pairs es) ss
-  statement (if_stmt e unless b c) = both _ _ (both _ _ (expression e) refl) (have-append (body_rows b) _ (body b) (ended (else_rows c) (otherwise c)))
-  statement (each e key is b c) = both _ _ (both _ _ (expression e) (both _ _ (places is) refl)) (have-append (body_rows b) _ (body b) (ended (else_rows c) (otherwise c)))
-  statement (let_stmt es is b) = both _ _ (both _ _ (expressions es) (both _ _ (places is) refl)) (ended (body_rows b) (body b))
-  statement (yield es to) = both _ _ (both _ _ (expressions es) refl) refl
+  statement : (version : Version) (s : Stmt) → have (stmt_rows version s) ≡ false
+  statement version (text_stmt s) = refl
+  statement version (comment_stmt s) = refl
+  statement version (put e) = both _ _ (both _ _ (expression e) refl) refl
+  statement version (element tag ps b) = both _ _ (both _ _ (parts ps) refl) (ended (body_rows version b) (body version b))
+  statement version (component_stmt c ps es ss) = component version (text_json c) (array_of (map part_json ps)) (array_of (named_json es)) refl (parts ps) (pairs es) ss (slots_rows version ss) (blocks version ss)
+  statement version (if_stmt e unless b c) = both _ _ (both _ _ (expression e) refl) (have-append (body_rows version b) _ (body version b) (ended (else_rows version c) (otherwise version c)))
+  statement version (each e key is b c) = both _ _ (both _ _ (expression e) (both _ _ (places is) refl)) (have-append (body_rows version b) _ (body version b) (ended (else_rows version c) (otherwise version c)))
+  statement version (let_stmt es is b) = both _ _ (both _ _ (expressions es) (both _ _ (places is) refl)) (ended (body_rows version b) (body version b))
+  statement version (yield es to) = both _ _ (both _ _ (expressions es) (names version to)) refl
 
-  body : (b : Body) → have (body_rows b) ≡ false
-  body end = refl
-  body (stmt s b) = have-append (stmt_rows s) (body_rows b) (statement s) (body b)
+  body : (version : Version) (b : Body) → have (body_rows version b) ≡ false
+  body version end = refl
+  body version (stmt s b) = have-append (stmt_rows version s) (body_rows version b) (statement version s) (body version b)
 
-  component : (c p e : Data) → has_float c ≡ false → has_float p ≡ false → has_float e ≡ false → (ss : Slots) → have (component_rows (c ∷ p ∷ e ∷ []) ss) ≡ false
-  component c p e h k l no_slots = both _ _ (three c p e h k l) refl
-  component c p e h k l (block name is b ss) = both _ _ (both _ _ h (three p e (array_of (map place_json is)) k l (places is))) (ended (body_rows b) (body b))
+  blocks : (version : Version) (ss : Slots) → have (slots_rows version ss) ≡ false
+  blocks version no_slots = refl
+  blocks First (block name is b ss) = ended (body_rows First b) (body First b)
+  blocks Second (block name is b ss) = both _ _ (both _ _ (places is) refl) (have-append (body_rows Second b) _ (body Second b) (have-append end_row (slots_rows Second ss) refl (blocks Second ss)))
 
-  otherwise : (c : Body) → have (else_rows c) ≡ false
-  otherwise end = refl
-  otherwise (stmt s b) = have-append (stmt_rows s) (body_rows b) (statement s) (body b)
+  otherwise : (version : Version) (c : Body) → have (else_rows version c) ≡ false
+  otherwise version end = refl
+  otherwise version (stmt s b) = have-append (stmt_rows version s) (body_rows version b) (statement version s) (body version b)
 
-pub no_float : (w : Wire) → has_float (json_of w) ≡ false
-unfolding json_of
-no_float w = both _ _ (body w.body) (both _ _ (texts w.symbols) refl)
+pub no_float : (version : Version) (w : Wire) → has_float (json_in version w) ≡ false
+unfolding json_in
+no_float version w = both _ _ (body version w.body) (both _ _ (texts w.symbols) refl)

@@ -1,4 +1,4 @@
--- The JSON of a wire, in version 1, and its text.
+-- The JSON of a wire in versions 1 and 2, and its text.
 use Rattle.std.specs.Prelude.{ℕ, List, [], ◌∷◌, ◌++◌, Bool, map, codes, if◌then◌else◌}
 use Rattle.std.specs.Str.{chars}
 use Rattle.serde_json.specs.Data as json
@@ -8,6 +8,8 @@ use Rattle.serde_json.specs.Written.{compact_text}
 use Rattle.gl_base.specs.Texts.{Text, bytes_of}
 use Rattle.gl_value.specs.Value as v
 use Rattle.gl_ast.specs.Template.{Plain}
+use Rattle.gl_wire.specs.declared.version.Version.{Version}
+use Rattle.gl_wire.specs.declared.version.Version.TheVariants.{First, Second}
 use Rattle.gl_wire.specs.Wire.{Expr, literal, symbol, this, get, free, call, cat, Exprs, no_exprs, expr, NamedExprs, no_named, named_expr, Part, attribute, live, modifier, spread, Stmt, text_stmt, comment_stmt, put, element, component_stmt, if_stmt, each, let_stmt, yield, Body, end, stmt, Slots, no_slots, block, Wire}
 
 abbrev pub array_of : List json.Data → json.Data
@@ -72,36 +74,66 @@ if_word unless = if unless then codes "unless" else codes "if"
 abbrev pub end_row : List json.Data
 end_row = row (codes "end") [] ∷ []
 
--- Statements are a flat list: what stands in one follows it, up to a row `end`. A component has no block or one.
+-- what the row of a yield has after its expressions: in version 1 nothing, in version 2 the name
+abbrev pub yield_names : Version → Text → List json.Data
+yield_names First to = []
+yield_names Second to = text_json to ∷ []
+
+-- what the row of a component with blocks has after the rest: in version 1 the parameters of its one block
+abbrev pub comp_params : Version → List ℕ → List json.Data
+comp_params First is = places_json is ∷ []
+comp_params Second is = []
+
+-- the rows of blocks, up to the end of their component: in version 1 there is one, which ends there
+abbrev pub ended_rows : Version → List json.Data → List json.Data
+ended_rows First inner = inner
+ended_rows Second inner = inner ++ end_row
+
+-- the rows of a component, by what its row has in any case, its blocks, and the rows of these
+abbrev pub component_rows : Version → List json.Data → Slots → List json.Data → List json.Data
+component_rows version head no_slots inner = row (codes "leaf") head ∷ []
+component_rows version head (block name is b ss) inner = row (codes "comp") (head ++ comp_params version is) ∷ ended_rows version inner
+
+-- Statements are a flat list: what stands in one follows it, up to a row `end`.
 abbrev mutual
-  pub stmt_rows : Stmt → List json.Data
-  stmt_rows (text_stmt s) = row (codes "text") (text_json s ∷ []) ∷ []
-  stmt_rows (comment_stmt s) = row (codes "comment") (text_json s ∷ []) ∷ []
-  stmt_rows (put e) = row (codes "put") (expr_json e ∷ []) ∷ []
-  stmt_rows (element tag ps b) = row (codes "el") (text_json tag ∷ parts_json ps ∷ []) ∷ (body_rows b ++ end_row)
-  stmt_rows (component_stmt c ps es ss) = component_rows (text_json c ∷ parts_json ps ∷ array_of (named_json es) ∷ []) ss
-  stmt_rows (if_stmt e unless b c) = row (if_word unless) (expr_json e ∷ []) ∷ (body_rows b ++ (else_rows c ++ end_row))
-  stmt_rows (each e key is b c) = row (codes "each") (expr_json e ∷ text_json key ∷ places_json is ∷ []) ∷ (body_rows b ++ (else_rows c ++ end_row))
-  stmt_rows (let_stmt es is b) = row (codes "let") (array_of (exprs_json es) ∷ places_json is ∷ []) ∷ (body_rows b ++ end_row)
-  stmt_rows (yield es to) = row (codes "yield") (array_of (exprs_json es) ∷ []) ∷ []
+  pub stmt_rows : Version → Stmt → List json.Data
+  stmt_rows version (text_stmt s) = row (codes "text") (text_json s ∷ []) ∷ []
+  stmt_rows version (comment_stmt s) = row (codes "comment") (text_json s ∷ []) ∷ []
+  stmt_rows version (put e) = row (codes "put") (expr_json e ∷ []) ∷ []
+  stmt_rows version (element tag ps b) = row (codes "el") (text_json tag ∷ parts_json ps ∷ []) ∷ (body_rows version b ++ end_row)
+  stmt_rows version (component_stmt c ps es ss) = component_rows version (text_json c ∷ parts_json ps ∷ array_of (named_json es) ∷ []) ss (slots_rows version ss)
+  stmt_rows version (if_stmt e unless b c) = row (if_word unless) (expr_json e ∷ []) ∷ (body_rows version b ++ (else_rows version c ++ end_row))
+  stmt_rows version (each e key is b c) = row (codes "each") (expr_json e ∷ text_json key ∷ places_json is ∷ []) ∷ (body_rows version b ++ (else_rows version c ++ end_row))
+  stmt_rows version (let_stmt es is b) = row (codes "let") (array_of (exprs_json es) ∷ places_json is ∷ []) ∷ (body_rows version b ++ end_row)
+  stmt_rows version (yield es to) = row (codes "yield") (array_of (exprs_json es) ∷ yield_names version to) ∷ []
 
-  pub body_rows : Body → List json.Data
-  body_rows end = []
-  body_rows (stmt s b) = stmt_rows s ++ body_rows b
+  pub body_rows : Version → Body → List json.Data
+  body_rows version end = []
+  body_rows version (stmt s b) = stmt_rows version s ++ body_rows version b
 
-  -- by what its row has in any case
-  pub component_rows : List json.Data → Slots → List json.Data
-  component_rows head no_slots = row (codes "leaf") head ∷ []
-  component_rows head (block name is b ss) = row (codes "comp") (head ++ places_json is ∷ []) ∷ (body_rows b ++ end_row)
+  -- in version 1 the body of the first block, in version 2 each block
+  pub slots_rows : Version → Slots → List json.Data
+  slots_rows version no_slots = []
+  slots_rows First (block name is b ss) = body_rows First b ++ end_row
+  slots_rows Second (block name is b ss) = row (codes "slot") (text_json name ∷ places_json is ∷ []) ∷ (body_rows Second b ++ (end_row ++ slots_rows Second ss))
 
   -- the else body, where it isn't empty
-  pub else_rows : Body → List json.Data
-  else_rows end = []
-  else_rows (stmt s b) = row (codes "else") [] ∷ (stmt_rows s ++ body_rows b)
+  pub else_rows : Version → Body → List json.Data
+  else_rows version end = []
+  else_rows version (stmt s b) = row (codes "else") [] ∷ (stmt_rows version s ++ body_rows version b)
 
--- the JSON of a wire; the members of an object stand in the order of their keys
-unfoldable pub json_of : Wire → json.Data
-json_of w = json.object (json.member (codes "body") (array_of (body_rows w.body)) (json.member (codes "symbols") (texts_json w.symbols) (json.member (codes "v") (place_json 1) json.no_members)))
+-- the number of a version
+abbrev pub number_of : Version → ℕ
+number_of First = 1
+number_of Second = 2
+
+-- the JSON of a wire in a version; the members of an object stand in the order of their keys
+unfoldable pub json_in : Version → Wire → json.Data
+json_in version w = json.object (json.member (codes "body") (array_of (body_rows version w.body)) (json.member (codes "symbols") (texts_json w.symbols) (json.member (codes "v") (place_json (number_of version)) json.no_members)))
+
+-- the JSON of a wire, which is that of version 2
+abbrev pub json_of : Wire → json.Data
+json_of w = json_in Second w
 
 -- the JSON as text, without white space
 unfoldable pub wire_text : Wire → Text

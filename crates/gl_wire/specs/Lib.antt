@@ -9,6 +9,8 @@ pub mod Size
 pub mod StmtCode
 pub mod StmtFalls
 pub mod Symbols
+pub mod Unnamed
+pub mod Versions
 pub mod View
 pub mod Wire
 pub mod WireOf

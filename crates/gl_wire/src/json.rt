@@ -1,40 +1,59 @@
 // The JSON of a wire, and its text.
 ghost use Rattle.std.specs.Prelude.{◌≡◌, IfOk};
 ghost use Rattle.serde_json.specs.View.{view};
-ghost use Rattle.gl_wire.specs.Json.{array_of, body_rows, json_of, wire_text};
+ghost use Rattle.gl_wire.specs.Json.{array_of, body_rows, number_of, json_in, json_of, wire_text};
 ghost use Rattle.gl_wire.specs.Wire.{body_of};
 ghost use Rattle.gl_wire.specs.View.{wire_view};
 
 use crate::row::{Row, texts_value};
 use crate::stmt_json::push_body;
-use crate::{Wire, WireBody};
+use crate::{Version, Wire, WireBody};
 use gl_value::Text;
 use serde_json::{Map, Value, put};
 use std::alloc::{AllocError, Global};
 
-fn body_value(alloc: Global, body: &WireBody) -> Result<Value, AllocError>
-    ensures { IfOk result (λ v. view v ≡ array_of (body_rows (body_of body.now))) }
+fn body_value(alloc: Global, version: Version, body: &WireBody) -> Result<Value, AllocError>
+    ensures { IfOk result (λ v. view v ≡ array_of (body_rows version (body_of body.now))) }
 {
     let mut rows = Row::new(alloc);
-    push_body(alloc, body, &mut rows)?;
+    push_body(alloc, version, body, &mut rows)?;
     Ok(rows.into_value())
 }
 
-/// The JSON of a wire: an object of its statements as a flat list, its symbols and the version, which is 1.
-#[tactic(auto, unfolding(crate::specs::Json::json_of))]
-pub fn to_json(alloc: Global, wire: &Wire) -> Result<Value, AllocError>
-    ensures { IfOk result (λ v. view v ≡ json_of (wire_view wire.now)) }
+// The number of a version.
+fn number_of(version: Version) -> u32
+    ensures { result ≡ number_of version }
+{
+    match version {
+        Version::First => 1,
+        Version::Second => 2,
+    }
+}
+
+/// The JSON of a wire in a version: an object of its statements as a flat list, its symbols and the number of the version. In version 1
+/// it is the wire's only where that `is_unnamed`.
+#[tactic(auto, unfolding(crate::specs::Json::json_in))]
+pub fn json_in(alloc: Global, version: Version, wire: &Wire) -> Result<Value, AllocError>
+    ensures { IfOk result (λ v. view v ≡ json_in version (wire_view wire.now)) }
 {
     let mut members = Map::new(alloc);
-    put(&mut members, alloc, "body", body_value(alloc, wire.body())?)?;
+    let body = body_value(alloc, version, wire.body())?;
+    put(&mut members, alloc, "body", body)?;
     put(
         &mut members,
         alloc,
         "symbols",
         texts_value(alloc, wire.symbols())?,
     )?;
-    put(&mut members, alloc, "v", Value::from(1u32))?;
+    put(&mut members, alloc, "v", Value::from(number_of(version)))?;
     Ok(Value::Object(members))
+}
+
+/// The JSON of a wire, which is that of version 2.
+pub fn to_json(alloc: Global, wire: &Wire) -> Result<Value, AllocError>
+    ensures { IfOk result (λ v. view v ≡ json_of (wire_view wire.now)) }
+{
+    json_in(alloc, Version::Second, wire)
 }
 
 /// The JSON of a wire as text, without white space.

@@ -15,11 +15,15 @@ mod slots;
 mod stmt;
 mod stmt_json;
 mod symbols;
+mod unnamed;
+mod version;
 mod wire;
 
 pub use expr::{Head, WireExpr, WireExprs, WirePair, WirePairs};
-pub use json::{to_json, to_text};
+pub use json::{json_in, to_json, to_text};
 pub use part::{WirePart, WireParts};
 pub use stmt::{WireBody, WireSlot, WireSlots, WireStmt};
 pub use symbols::Symbols;
+pub use unnamed::is_unnamed;
+pub use version::Version;
 pub use wire::{ExprWire, Wire};

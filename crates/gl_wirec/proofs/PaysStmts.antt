@@ -3,11 +3,11 @@
 use Rattle.std.proofs.Common.{◌≡◌, ◌≤◌, ◌<◌, ◌+◌, ◌⊎◌, inl, inr, ℕ, zero, suc, List, [], ◌∷◌, ◌++◌, Bool, true, false, cond, length, refl, sym, ap, subst, arith, length-append}
 use Rattle.std.specs.Prelude.{codes, map, if◌then◌else◌}
 use Rattle.gl_base.specs.Texts.{Text}
-use Rattle.gl_ast.specs.Grammar.{deepest_calls, deepest_nesting, IsOpening, IsEndTag, IsClosing, IsKey, part_item, AreItems, parts_among, arguments_among, IsElementRest, IsComponentRest, IsIf, IsEach, IsLet, IsElse, IsChained, AreStmts, IsStmt, Reach, if_word, is_silent, after_silent, Spells, SpellsExpr}
+use Rattle.gl_ast.specs.Grammar.{deepest_calls, deepest_nesting, IsOpening, IsEndTag, IsClosing, IsKey, IsTarget, part_item, AreItems, parts_among, arguments_among, IsElementRest, IsSlot, IsComponentRest, IsIf, IsEach, IsLet, IsElse, IsChained, AreStmts, IsStmt, IsOwnBlock, AreSlots, Reach, if_word, is_silent, after_silent, is_gap, after_gaps, Spells, SpellsExpr}
 use Rattle.gl_ast.specs.Marks.{is_capital, is_small}
 use Rattle.gl_ast.specs.Settling.{settled}
 use Rattle.gl_ast.specs.Template.{Expr, Exprs, Stmt, text_stmt, comment_stmt, put, element, component_stmt, if_stmt, each, let_stmt, yield, Body, end, stmt, Slots, no_slots, block, Part, AttrValue}
-use Rattle.gl_ast.specs.TokenText.{decoded, comment_of, end_name_of, string_of, leads}
+use Rattle.gl_ast.specs.TokenText.{decoded, comment_of, end_name_of, string_of, is_block_name, leads}
 use Rattle.gl_ast.specs.declared.mode.Mode.TheVariants as m
 use Rattle.gl_ast.specs.declared.token.Token.{Token}
 use Rattle.gl_ast.specs.declared.token.TokenKind.TheVariants as k
@@ -44,6 +44,15 @@ silent_pay (t ∷ ts) f = silent_case (is_silent t) (silent_pay ts (record { ful
     silent_case true more = record { fits = more.fits; size = omega (arith, more.size); names = omega (arith, more.names) }
     silent_case false more = record { fits = f; size = omega arith; names = omega arith }
 
+-- gaps among blocks
+gaps_pay : (ts : List Token) → Fits ts → Pays 0 0 ts (after_gaps ts)
+gaps_pay [] f = record { fits = f; size = omega arith; names = omega arith }
+gaps_pay (t ∷ ts) f = gap_case (is_gap t) (gaps_pay ts (record { full = f.full.1; proper = f.proper.2 }))
+  where
+    gap_case : (x : Bool) → Pays 0 0 ts (after_gaps ts) → Pays 0 0 (t ∷ ts) (cond x (after_gaps ts) (t ∷ ts))
+    gap_case true more = record { fits = more.fits; size = omega (arith, more.size); names = omega (arith, more.names) }
+    gap_case false more = record { fits = f; size = omega arith; names = omega arith }
+
 opening_pays : (first : ℕ → Bool) (n : Text) (ts us : List Token) → Fits ts → IsOpening first ts n us → Pays 1 1 ts us
 opening_pays first n ts us f g = stands_pays k.TagOpening (λ x. (x ≡ 60 ∷ n) × (leads first n ≡ true)) ts us f g
 
@@ -63,6 +72,15 @@ key_pays key ts us f (inr g) =
     let a = stands_pays k.Path (λ x. x ≡ codes "key") ts g.0 f g.2 in
     let b = mark_pays k.Equals g.0 g.1 a.fits g.3 in
     let c = stands_pays k.StringLit (λ x. string_of x ≡ key) g.1 us b.fits g.4 in
+    less (onward a (onward b c)) (omega arith) (omega arith)
+
+-- the block that a yield names
+target_pays : (to : Text) (ts us : List Token) → Fits ts → IsTarget ts to us → Pays 0 0 ts us
+target_pays to ts us f (inl g) = none_pays ts us g.0 f
+target_pays to ts us f (inr g) =
+    let a = stands_pays k.Path (λ x. x ≡ codes "to") ts g.0 f g.2 in
+    let b = mark_pays k.Equals g.0 g.1 a.fits g.3 in
+    let c = stands_pays k.StringLit (λ x. (string_of x ≡ to) × (is_block_name to ≡ true)) g.1 us b.fits g.4 in
     less (onward a (onward b c)) (omega arith) (omega arith)
 
 else_pays : (ss scope : List Text) (c : Body) (Plain Chained : Reach) → BodyPays ss scope c Plain → BodyPays ss scope c Chained → BodyPays ss scope c (λ ts us. IsElse Plain Chained ts c us)
@@ -161,7 +179,7 @@ element_pays ss scope tag ps b Inner body ts vs ws us f g h r =
       ]
     ]
 
--- The end of a component's opening tag and its block, where the parameters are paid for.
+-- Blocks of a component, where so much of what they have is paid for elsewhere.
 pub record SlotsPay (ss scope : List Text) (bs : Slots) (given : ℕ) (ts us : List Token) : Type 0 where
   pub sized : ℕ
   pub counted : ℕ
@@ -169,8 +187,54 @@ pub record SlotsPay (ss scope : List Text) (bs : Slots) (given : ℕ) (ts us : L
   pub size : slots_size (slots_wire ss scope bs) ≤ given + sized
   pub names : slots_count ss scope bs ≤ given + counted
 
+-- The end of a component's opening tag, and its blocks. The parameters of its statements are paid for in the tag, and the
+-- block that these are by the end of the tag.
+rest_pays : (ss scope : List Text) (c : Text) (bs : Slots) (ns : List Text) (Own Named : Reach) → ((xs zs : List Token) → Fits xs → Own xs zs → SlotsPay ss scope bs (suc (length ns)) xs zs)
+    → ((xs zs : List Token) → Fits xs → Named xs zs → Pays (slots_size (slots_wire ss scope bs)) (slots_count ss scope bs) xs zs)
+    → (ts us : List Token) → Fits ts → IsComponentRest Own Named ts c ns bs us → SlotsPay ss scope bs (length ns) ts us
+rest_pays ss scope c bs ns Own Named own named ts us f (inl g) =
+    let P : Slots → Type 0 = λ x. (slots_size (slots_wire ss scope x) ≡ 0) × (slots_count ss scope x ≡ 0) in
+    let none : (slots_size (slots_wire ss scope bs) ≡ 0) × (slots_count ss scope bs ≡ 0) = subst P (sym g.1) (refl, refl) in
+    record { sized = 1; counted = 1; pays = mark_pays k.SelfEnd ts us f g.0; size = omega (arith, none.0); names = omega (arith, none.1) }
+rest_pays ss scope c bs ns Own Named own named ts us f (inr g) =
+    let a = mark_pays k.TagEnd ts g.0 f g.2 in
+    elim g.3 [
+      | inl q ↦
+          let x = own g.0 g.1 a.fits q in
+          let z = end_pays c g.1 us x.pays.fits g.4 in
+          record {
+            sized = 1 + (x.sized + 1);
+            counted = 1 + (x.counted + 1);
+            pays = onward a (onward x.pays z);
+            size = omega (arith, x.size);
+            names = omega (arith, x.names);
+          }
+      | inr q ↦
+          let x = named g.0 g.1 a.fits q.3 in
+          let z = end_pays c g.1 us x.fits g.4 in
+          record {
+            sized = 1 + (slots_size (slots_wire ss scope bs) + 1);
+            counted = 1 + (slots_count ss scope bs + 1);
+            pays = onward a (onward x z);
+            size = omega arith;
+            names = omega arith;
+          }
+    ]
+
+-- a block with its name, where those after it are paid for
+slot_pays : (ss scope : List Text) (name : Text) (ns : List Text) (b : Body) (bs : Slots) (Inner : Reach) → BodyPays ss (with_names scope ns) b Inner → (ts vs us : List Token) → Fits ts → IsSlot Inner ts name ns vs
+    → (Fits vs → Pays (slots_size (slots_wire ss scope bs)) (slots_count ss scope bs) vs us) → Pays (slots_size (slots_wire ss scope (block name ns b bs))) (slots_count ss scope (block name ns b bs)) ts us
+slot_pays ss scope name ns b bs Inner body ts vs us f g more =
+    let o = stands_pays k.TagOpening (λ x. x ≡ 60 ∷ 58 ∷ name) ts g.0 f g.4 in
+    let r = parameters_pay ns g.0 g.1 o.fits g.5 in
+    let a = mark_pays k.TagEnd g.1 g.2 r.fits g.6 in
+    let x = body g.2 g.3 a.fits g.7 in
+    let z = end_pays (58 ∷ name) g.3 vs x.fits g.8 in
+    less (onward o (onward r (onward a (onward x (onward z (more z.fits)))))) (omega (arith, length-places ss ns))
+    (omega (arith, length-append ns (body_mentions b ++ slots_mentions bs), length-append (body_mentions b) (slots_mentions bs)))
+
 component_pays : (ss scope : List Text) (depth : ℕ) (c : Text) (ps : List Part) (given : List (Text × AttrValue)) (bs : Slots) (ts us : List Token) → Fits ts
-    → ((ns : List Text) (xs zs : List Token) → Fits xs → IsComponentRest depth xs c ns bs zs → SlotsPay ss scope bs (length ns) xs zs)
+    → ((ns : List Text) (xs zs : List Token) → Fits xs → IsComponentRest (λ ys ws. IsOwnBlock depth ns ys bs ws) (λ ys ws. AreSlots depth ys bs ws) xs c ns bs zs → SlotsPay ss scope bs (length ns) xs zs)
     → IsStmt (suc depth) ts (component_stmt c ps given bs) us → Pays (stmt_size (stmt_wire ss scope (component_stmt c ps given bs))) (suc (stmt_count ss scope (component_stmt c ps given bs))) ts us
 component_pays ss scope depth c ps given bs ts us f slots g =
     let h = g.2 in
@@ -199,12 +263,12 @@ mutual
   stmt_pays ss scope depth (comment_stmt s) ts us f g = stands_pays k.HtmlComment (λ x. comment_of x ≡ s) ts us f g
   stmt_pays ss scope depth (put e) ts us f g = less (mustache_pays ss scope e ts us f g) (omega arith) (omega arith)
   stmt_pays ss scope depth (yield es to) ts us f g =
-      let h = g.1 in
-      let a = mark_pays k.OpenMustache ts h.0 f h.3 in
-      let b = stands_pays k.Path (λ x. x ≡ codes "yield") h.0 h.1 a.fits h.4 in
-      let c = exprs_pays ss scope [] false deepest_calls es h.1 h.2 b.fits h.5 in
-      let d = mark_pays k.CloseMustache h.2 us c.fits h.6 in
-      less (onward a (onward b (onward c d))) (omega arith) (omega arith)
+      let a = mark_pays k.OpenMustache ts g.0 f g.4 in
+      let b = stands_pays k.Path (λ x. x ≡ codes "yield") g.0 g.1 a.fits g.5 in
+      let c = exprs_pays ss scope [] false deepest_calls es g.1 g.2 b.fits g.6 in
+      let t = target_pays to g.2 g.3 c.fits g.7 in
+      let d = mark_pays k.CloseMustache g.3 us t.fits g.8 in
+      less (onward a (onward b (onward c (onward t d)))) (omega arith) (omega arith)
   stmt_pays ss scope zero (element tag ps b) ts us f g = absurd g
   stmt_pays ss scope zero (component_stmt c ps given bs) ts us f g = absurd g
   stmt_pays ss scope zero (if_stmt e unless b c) ts us f g = absurd g
@@ -213,7 +277,8 @@ mutual
   stmt_pays ss scope (suc depth) (element tag ps b) ts us f g =
       element_pays ss scope tag ps b (λ xs ys. AreStmts depth xs b ys) (λ xs ys q r. body_pays ss scope depth b xs ys q r) ts g.0 g.1 us f g.2 g.3 g.4
   stmt_pays ss scope (suc depth) (component_stmt c ps given bs) ts us f g =
-      component_pays ss scope depth c ps given bs ts us f (λ ns xs zs q r. slots_pay ss scope depth c bs ns xs zs q r) g
+      component_pays ss scope depth c ps given bs ts us f
+      (λ ns xs zs q r. rest_pays ss scope c bs ns (λ ys ws. IsOwnBlock depth ns ys bs ws) (λ ys ws. AreSlots depth ys bs ws) (λ ys ws p o. own_pays ss scope depth bs ns ys ws p o) (λ ys ws p o. slots_pay ss scope depth bs ys ws p o) xs zs q r) g
   stmt_pays ss scope (suc depth) (if_stmt e unless b c) ts us f g =
       let a = mark_pays k.OpenBlock ts g.0 f g.2 in
       let x = if_pays ss scope e unless b c (λ xs ys. AreStmts depth xs b ys) (λ xs ys. IsElse (λ zs. AreStmts depth zs c) (λ zs. IsChained depth zs c) xs c ys) (λ xs ys q r. body_pays ss scope depth b xs ys q r)
@@ -232,22 +297,27 @@ mutual
       let z = closing_pays (codes "let") g.1 us x.fits g.4 in
       less (onward a (onward x z)) (omega arith) (omega arith)
 
-  slots_pay : (ss scope : List Text) (depth : ℕ) (c : Text) (bs : Slots) (ns : List Text) (ts us : List Token) → Fits ts → IsComponentRest depth ts c ns bs us → SlotsPay ss scope bs (length ns) ts us
-  slots_pay ss scope depth c no_slots ns ts us f g = record { sized = 1; counted = 1; pays = mark_pays k.SelfEnd ts us f g; size = omega arith; names = omega arith }
-  slots_pay ss scope depth c (block name params b no_slots) ns ts us f g =
-      let h = g.2 in
-      let a = mark_pays k.TagEnd ts h.0 f h.2 in
-      let x = body_pays ss (with_names scope params) depth b h.0 h.1 a.fits h.3 in
-      let z = end_pays c h.1 us x.fits h.4 in
+  own_pays : (ss scope : List Text) (depth : ℕ) (bs : Slots) (ns : List Text) (ts us : List Token) → Fits ts → IsOwnBlock depth ns ts bs us → SlotsPay ss scope bs (suc (length ns)) ts us
+  own_pays ss scope depth no_slots ns ts us f g = absurd g
+  own_pays ss scope depth (block name params b no_slots) ns ts us f g =
       let same : length params ≡ length ns = ap length g.1 in
       record {
-        sized = 1 + (body_size (body_wire ss (with_names scope params) b) + 1);
-        counted = 1 + (body_count ss (with_names scope params) b + 1);
-        pays = onward a (onward x z);
+        sized = body_size (body_wire ss (with_names scope params) b);
+        counted = body_count ss (with_names scope params) b;
+        pays = body_pays ss (with_names scope params) depth b ts us f g.2;
         size = omega (arith, same, length-places ss params);
         names = omega (arith, same, length-append params (body_mentions b ++ []), length-append (body_mentions b) []);
       }
-  slots_pay ss scope depth c (block name params b (block x y z ws)) ns ts us f g = absurd g
+  own_pays ss scope depth (block name params b (block x y z ws)) ns ts us f g = absurd g
+
+  slots_pay : (ss scope : List Text) (depth : ℕ) (bs : Slots) (ts us : List Token) → Fits ts → AreSlots depth ts bs us → Pays (slots_size (slots_wire ss scope bs)) (slots_count ss scope bs) ts us
+  slots_pay ss scope zero no_slots ts us f g = let a = gaps_pay ts f in less (onward a (none_pays (after_gaps ts) us g a.fits)) (omega arith) (omega arith)
+  slots_pay ss scope (suc depth) no_slots ts us f g = let a = gaps_pay ts f in less (onward a (none_pays (after_gaps ts) us g a.fits)) (omega arith) (omega arith)
+  slots_pay ss scope zero (block name ns b bs) ts us f g = absurd g
+  slots_pay ss scope (suc depth) (block name ns b bs) ts us f g =
+      let a = gaps_pay ts f in
+      let x = slot_pays ss scope name ns b bs (λ xs ys. AreStmts depth xs b ys) (λ xs ys q r. body_pays ss (with_names scope ns) depth b xs ys q r) (after_gaps ts) g.0 us a.fits g.1 (λ q. slots_pay ss scope (suc depth) bs g.0 us q g.2) in
+      less (onward a x) (omega arith) (omega arith)
 
   chained_pays : (ss scope : List Text) (depth : ℕ) (c : Body) (ts us : List Token) → Fits ts → IsChained depth ts c us → Pays (body_size (body_wire ss scope c)) (body_count ss scope c) ts us
   chained_pays ss scope zero end ts us f g = absurd g

@@ -1,5 +1,6 @@
 -- What is shown or written, and read again.
-use Rattle.std.proofs.Common.{◌≡◌, ℕ, List, Some, Result, Ok, Err, IfOk, IfErr, refl, sym, ap, ◌∙◌}
+use Rattle.std.proofs.Common.{◌≡◌, ℕ, List, Some, Result, Ok, Err, IfOk, IfErr, refl, sym, ap, subst, ◌∙◌}
+use Rattle.serde_json.specs.Data.{Data}
 use Rattle.gl_base.specs.Texts.{bytes_of}
 use Rattle.gl_ast.specs.Canon.{canonical}
 use Rattle.gl_ast.specs.Grammar.{Spells}
@@ -8,7 +9,7 @@ use Rattle.gl_parse.specs.ReadStmt.{template_of}
 use Rattle.gl_parse.proofs.SpellsRead.{spells_read, spells_one}
 use Rattle.gl_show.proofs.CanStmts.{canonical_spells}
 use Rattle.gl_wire.specs.IsWire.{IsWire}
-use Rattle.gl_wire.specs.Json.{json_of}
+use Rattle.gl_wire.specs.Versions.{IsJsonOf}
 use Rattle.gl_wire.specs.Wire.{Wire}
 use Rattle.gl_wire.specs.WireOf.{wire_of}
 use Rattle.gl_wirein.specs.Again.{IsTemplateWire}
@@ -29,17 +30,17 @@ same_tree b c e = cc
 pub shown_wire : (bytes : List ℕ) (b c : Body) → Spells bytes b → template_of (bytes_of (canonical b)) ≡ Some c → wire_of c ≡ wire_of b
 shown_wire bytes b c s e = ap wire_of (same_tree b c (sym e ∙ shown_read bytes b s))
 
-pub written_wire : (bytes : List ℕ) (b : Body) (answer : Result Wire WireFault) → Spells bytes b → IfOk answer IsTemplateWire → Tells (λ w. w) (json_of (wire_of b)) answer → IfOk answer (λ w. w ≡ wire_of b)
-written_wire bytes b (Ok w) s of_template tells =
-    let same_json : json_of (wire_of of_template.1) ≡ json_of (wire_of b) = ap json_of of_template.3 ∙ tells in
-    sym of_template.3 ∙ one_wire of_template.0 bytes of_template.1 b of_template.2 s same_json
-written_wire bytes b (Err e) s of_template tells = tt
+pub written_wire : (bytes : List ℕ) (b : Body) (d : Data) (answer : Result Wire WireFault) → Spells bytes b → IsJsonOf (wire_of b) d → IfOk answer IsTemplateWire → Tells (λ w. w) d answer → IfOk answer (λ w. w ≡ wire_of b)
+written_wire bytes b d (Ok w) s is of_template tells =
+    let of_tree : IsJsonOf (wire_of of_template.1) d = subst (λ x. IsJsonOf x d) (sym of_template.3) tells in
+    sym of_template.3 ∙ one_wire of_template.0 bytes of_template.1 b d of_template.2 s of_tree is
+written_wire bytes b d (Err e) s is of_template tells = tt
 
 -- a template's wire is one
 is_wire : (bytes : List ℕ) (b : Body) → Spells bytes b → IsWire (wire_of b)
 is_wire bytes b s = ∣ (b, ∣ (bytes, s) ∣₁, refl) ∣₁
 
-pub written_fault : (bytes : List ℕ) (b : Body) (answer : Result Wire WireFault) → Spells bytes b → Tells (λ w. w) (json_of (wire_of b)) answer → IfErr answer (λ e. e ≡ v.Memory)
-written_fault bytes b (Ok w) s tells = tt
-written_fault bytes b (Err v.BadWire) s tells = absurd (tells (wire_of b) (is_wire bytes b s) refl)
-written_fault bytes b (Err v.Memory) s tells = refl
+pub written_fault : (bytes : List ℕ) (b : Body) (d : Data) (answer : Result Wire WireFault) → Spells bytes b → IsJsonOf (wire_of b) d → Tells (λ w. w) d answer → IfErr answer (λ e. e ≡ v.Memory)
+written_fault bytes b d (Ok w) s is tells = tt
+written_fault bytes b d (Err v.BadWire) s is tells = absurd (tells (wire_of b) (is_wire bytes b s) is)
+written_fault bytes b d (Err v.Memory) s is tells = refl

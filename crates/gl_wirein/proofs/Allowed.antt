@@ -1,10 +1,12 @@
 -- Where some bytes spell a tree, some spell its normal tree.
-use Rattle.std.proofs.Common.{◌≡◌, ℕ, zero, suc, List, [], ◌∷◌, Bool, true, false, refl, ap, ◌∙◌}
+use Rattle.std.proofs.Common.{◌≡◌, ℕ, zero, suc, List, [], ◌∷◌, Bool, true, false, inl, inr, refl, ap, ◌∙◌}
 use Rattle.gl_base.specs.Names.{has_text}
 use Rattle.gl_base.specs.Texts.{Text}
 use Rattle.gl_value.specs.Value as v
+use Rattle.gl_ast.specs.Canon.{is_own_block}
+use Rattle.gl_ast.specs.Grammar.{are_new, slot_names}
 use Rattle.gl_ast.specs.Template.{Expr, literal, this, argument, bare, call, cat, Exprs, no_exprs, expr, AttrValue, fixed, live, Part, attribute, modifier, spread, Stmt, text_stmt, comment_stmt, put, element, component_stmt, if_stmt, each, let_stmt, yield, Body, end, stmt, Slots, no_slots, block}
-use Rattle.gl_show.specs.Spellable.{CanInner, CanQuotedPart, needs_text, CanQuoted, CanCat, CanValue, CanPart, CanParts, CanArguments, CanBody, CanStmt, CanSlots}
+use Rattle.gl_show.specs.Spellable.{CanInner, CanQuotedPart, needs_text, CanQuoted, CanCat, CanValue, CanPart, CanParts, CanArguments, CanBody, CanStmt, CanSlots, CanBlocks}
 use Rattle.gl_wire.specs.Symbols.{with_names}
 use Rattle.gl_wirein.specs.ReadTag.{given, given_plain}
 use Rattle.gl_wirein.specs.Normal.{normal_name, normal_expr, normal_exprs, normal_live, normal_part, normal_parts, normal_value, normal_arguments, normal_stmt, normal_body, normal_slots}
@@ -104,6 +106,15 @@ can_arguments : (scope : List Text) (args : List (Text × AttrValue)) → CanArg
 can_arguments scope [] h = h
 can_arguments scope (a ∷ args) h = (h.0, can_value scope a.1 h.1, can_arguments scope args h.2)
 
+-- blocks keep their names
+own_kept : (scope : List Text) (name : Text) (ss : Slots) → is_own_block name (normal_slots scope ss) ≡ is_own_block name ss
+own_kept scope name no_slots = refl
+own_kept scope name (block other ns b ss) = refl
+
+names_kept : (scope : List Text) (ss : Slots) → slot_names (normal_slots scope ss) ≡ slot_names ss
+names_kept scope no_slots = refl
+names_kept scope (block name ns b ss) = ap (λ l. name ∷ l) (names_kept scope ss)
+
 mutual
   can_stmt : (depth : ℕ) (scope : List Text) (s : Stmt) → CanStmt depth s → CanStmt depth (normal_stmt scope s)
   can_stmt zero scope (text_stmt s) h = h
@@ -130,6 +141,13 @@ mutual
   can_body depth scope (stmt s b) h = (can_stmt depth scope s h.0, can_body depth scope b h.1)
 
   can_slots : (depth : ℕ) (scope : List Text) (ss : Slots) → CanSlots depth ss → CanSlots depth (normal_slots scope ss)
-  can_slots depth scope no_slots h = h
-  can_slots depth scope (block name ns b no_slots) h = (h.0, h.1, can_body depth (with_names scope ns) b h.2)
-  can_slots depth scope (block name ns b (block m ms c ss)) h = absurd h
+  can_slots zero scope no_slots h = h
+  can_slots (suc depth) scope no_slots h = h
+  can_slots zero scope (block name ns b ss) h = (own_kept scope name ss ∙ h.0, h.1, can_body zero (with_names scope ns) b h.2)
+  can_slots (suc depth) scope (block name ns b ss) (inl h) = inl (own_kept scope name ss ∙ h.0, h.1, can_body (suc depth) (with_names scope ns) b h.2)
+  can_slots (suc depth) scope (block name ns b ss) (inr h) =
+      inr (ap (λ l. are_new [] (name ∷ l)) (names_kept scope ss) ∙ h.0, h.1, h.2, can_body depth (with_names scope ns) b h.3, can_blocks depth scope ss h.4)
+
+  can_blocks : (depth : ℕ) (scope : List Text) (ss : Slots) → CanBlocks depth ss → CanBlocks depth (normal_slots scope ss)
+  can_blocks depth scope no_slots h = h
+  can_blocks depth scope (block name ns b ss) h = (h.0, h.1, can_body depth (with_names scope ns) b h.2, can_blocks depth scope ss h.3)

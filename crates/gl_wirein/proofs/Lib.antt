@@ -8,4 +8,5 @@ pub mod Sameness
 pub mod SameWire
 pub mod Tags
 pub mod Texts
+pub mod Versions
 pub mod Wires

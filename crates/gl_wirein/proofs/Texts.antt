@@ -12,9 +12,10 @@ use Rattle.gl_base.specs.Reading.{read_all}
 use Rattle.gl_base.specs.Texts.{Text, bytes_of, is_ascii_text}
 use Rattle.gl_base.proofs.Chars.{chars_of_ascii}
 use Rattle.gl_ast.specs.Marks.{is_small, is_digit, starts_name, in_tag, starts_attribute, in_attribute}
+use Rattle.gl_ast.specs.TokenText.{is_block_name}
 use Rattle.gl_ast.proofs.Forward.{both}
 use Rattle.gl_show.specs.Spellable.{is_word, is_name, is_segment, IsClassName, IsTextual}
-use Rattle.gl_show.proofs.ContentTokens.{NamesElement, class_names}
+use Rattle.gl_show.proofs.ContentTokens.{NamesTag, class_names, block_ascii}
 use Rattle.gl_show.proofs.LexedExpr.{ascii_bytes}
 use Rattle.gl_show.proofs.Numbers.{digits_ascii}
 use Rattle.gl_show.proofs.Scanning.{one_of, name_ascii, word_low}
@@ -58,12 +59,15 @@ tag_returns n h = ascii_returns n (word_low is_small in_tag small_low tag_low n 
 pub attribute_returns : (n : Text) → is_word starts_attribute in_attribute n ≡ true → Returns n
 attribute_returns n h = ascii_returns n (word_low starts_attribute in_attribute attribute_low in_attribute_low n h)
 
-names_ascii : (n : Text) → NamesElement n → is_ascii_text n ≡ true
+names_ascii : (n : Text) → NamesTag n → is_ascii_text n ≡ true
 names_ascii [] names = absurd names
 names_ascii (c ∷ cs) names = names.1
 
 pub class_returns : (c : Text) → IsClassName c → Returns c
 class_returns c h = ascii_returns c (names_ascii c (class_names c h))
+
+pub block_name_returns : (n : Text) → is_block_name n ≡ true → Returns n
+block_name_returns n h = ascii_returns n (block_ascii n h)
 
 -- a name has no `@` before it
 pub first_no_at : (b : ℕ) → starts_name b ≡ true → (b == 64) ≡ false

@@ -7,4 +7,5 @@ pub mod ReadExpr
 pub mod ReadRows
 pub mod ReadTag
 pub mod Same
+pub mod Versions
 pub mod View

@@ -1,30 +1,34 @@
--- Statements that are read from their rows, the last row first. A row `end` opens a body that the row with which its
--- statement begins takes; a row `else` begins the body before it.
+-- Statements that are read from their rows, the last row first, in both versions. A row `end` opens a body that the row with
+-- which its statement or its block begins takes; a row `else` begins the body before it.
 use Rattle.std.specs.Prelude.{◌≡◌, ℕ, List, [], ◌∷◌, Bool, true, false, ◌||◌, codes, nat_lt, length, if◌then◌else◌, Option, Some, None}
 use Rattle.std.specs.Str.{bytes_eq}
 use Rattle.serde_json.specs.Data as json
 use Rattle.serde_json.specs.Find.{get}
 use Rattle.gl_base.specs.Answers.{◌>>=◌}
 use Rattle.gl_base.specs.Texts.{Text}
-use Rattle.gl_ast.specs.Grammar.{deepest_nesting}
-use Rattle.gl_ast.specs.Template.{exprs_of, Stmt, text_stmt, comment_stmt, put, element, component_stmt, if_stmt, each, let_stmt, yield, Body, end, stmt, no_slots, block}
+use Rattle.gl_ast.specs.Template.{exprs_of, Stmt, text_stmt, comment_stmt, put, element, component_stmt, if_stmt, each, let_stmt, yield, Body, end, stmt, Slots, no_slots, block}
 use Rattle.gl_wirein.specs.Pieces.{text_in, list_in, texts_in, symbols_in, word_in, fields_in}
 use Rattle.gl_wirein.specs.ReadExpr.{exprs_in}
 use Rattle.gl_wirein.specs.ReadTag.{inner_in, whole_in, parts_in, arguments_in}
 
--- A body that is open, and what stands behind its else. What a statement takes that has no else is the first alone.
+-- A body that is open, what stands behind its else, and the blocks that it has. What a statement takes that has no else is the first
+-- alone, and what a component takes that has a row for each block is the last.
 abbrev pub Open : Type 0
-Open = Body × Body
+Open = Body × Body × Slots
 
 -- the innermost open body, and those round it
 abbrev pub State : Type 0
 State = Open × List Open
 
 abbrev pub closed : Open
-closed = (end, end)
+closed = (end, end, no_slots)
 
 abbrev pub start : State
 start = (closed, [])
+
+-- How many bodies may be open: a component and its block `default`, which nest as one, open two.
+abbrev pub deepest_open : ℕ
+deepest_open = 200
 
 abbrev pub read_text : List json.Data → Option Stmt
 read_text (s ∷ []) = text_in s >>= λ s. Some (text_stmt s)
@@ -42,8 +46,14 @@ abbrev pub read_leaf : List Text → List json.Data → Option Stmt
 read_leaf symbols (class ∷ parts ∷ args ∷ []) = text_in class >>= λ c. (parts_in symbols parts >>= λ ps. (arguments_in symbols args >>= λ es. Some (component_stmt c ps es no_slots)))
 read_leaf symbols _ = None
 
+-- the block that a yield shows: `default` where its row names none
+abbrev pub yield_name : List json.Data → Option Text
+yield_name [] = Some (codes "default")
+yield_name (name ∷ []) = text_in name
+yield_name _ = None
+
 abbrev pub read_yield : List Text → List json.Data → Option Stmt
-read_yield symbols (values ∷ []) = exprs_in (λ e. inner_in symbols e) values >>= λ es. Some (yield (exprs_of es) (codes "default"))
+read_yield symbols (values ∷ names) = exprs_in (λ e. inner_in symbols e) values >>= λ es. (yield_name names >>= λ to. Some (yield (exprs_of es) to))
 read_yield symbols _ = None
 
 -- a statement that has no body
@@ -61,9 +71,15 @@ abbrev pub read_element : List Text → List json.Data → Open → Option Stmt
 read_element symbols (tag ∷ parts ∷ []) inside = text_in tag >>= λ t. (parts_in symbols parts >>= λ ps. Some (element t ps inside.0))
 read_element symbols _ inside = None
 
+-- the blocks of a component: `default` alone where its row has parameters, and else those that have rows
+abbrev pub read_blocks : List Text → List json.Data → Open → Option Slots
+read_blocks symbols [] inside = Some inside.2
+read_blocks symbols (params ∷ []) inside = symbols_in symbols params >>= λ ns. Some (block (codes "default") ns inside.0 no_slots)
+read_blocks symbols _ inside = None
+
 abbrev pub read_component : List Text → List json.Data → Open → Option Stmt
-read_component symbols (class ∷ parts ∷ args ∷ params ∷ []) inside = text_in class >>= λ c. (parts_in symbols parts >>= λ ps. (arguments_in symbols args >>= λ es.
-    (symbols_in symbols params >>= λ ns. Some (component_stmt c ps es (block (codes "default") ns inside.0 no_slots)))))
+read_component symbols (class ∷ parts ∷ args ∷ params) inside = text_in class >>= λ c. (parts_in symbols parts >>= λ ps. (arguments_in symbols args >>= λ es.
+    (read_blocks symbols params inside >>= λ ss. Some (component_stmt c ps es ss))))
 read_component symbols _ inside = None
 
 abbrev pub read_if : List Text → Bool → List json.Data → Open → Option Stmt
@@ -90,19 +106,36 @@ read_opening symbols word fields inside =
 
 -- the state with a statement before the innermost body
 abbrev pub with_stmt : Stmt → State → State
-with_stmt s state = ((stmt s state.0.0, state.0.1), state.1)
+with_stmt s state = ((stmt s state.0.0, state.0.1, state.0.2), state.1)
 
--- no more bodies are open than may nest
+-- a block, by its name, its parameters and its body
+abbrev pub Block : Type 0
+Block = Text × (List Text × Body)
+
+-- the state with a block before those of the innermost body
+abbrev pub with_block : Block → State → State
+with_block b state = ((state.0.0, state.0.1, block b.0 b.1.0 b.1.1 state.0.2), state.1)
+
+-- no more bodies are open than may be
 abbrev pub add_end : State → Option State
-add_end state = if nat_lt (length state.1) deepest_nesting then Some (closed, state.0 ∷ state.1) else None
+add_end state = if nat_lt (length state.1) deepest_open then Some (closed, state.0 ∷ state.1) else None
 
 abbrev pub add_else : State → State
-add_else state = ((end, state.0.0), state.1)
+add_else state = ((end, state.0.0, no_slots), state.1)
 
 -- a statement takes the innermost body, and stands in the one round it
 abbrev pub add_opening : List Text → List ℕ → List json.Data → State → Option State
 add_opening symbols word fields (inside, []) = None
 add_opening symbols word fields (inside, (outside ∷ more)) = read_opening symbols word fields inside >>= λ s. Some (with_stmt s (outside, more))
+
+abbrev pub read_block : List Text → List json.Data → Open → Option Block
+read_block symbols (name ∷ params ∷ []) inside = text_in name >>= λ n. (symbols_in symbols params >>= λ ns. Some (n, (ns, inside.0)))
+read_block symbols _ inside = None
+
+-- and so does a block
+abbrev pub add_block : List Text → List json.Data → State → Option State
+add_block symbols fields (inside, []) = None
+add_block symbols fields (inside, (outside ∷ more)) = read_block symbols fields inside >>= λ b. Some (with_block b (outside, more))
 
 -- the innermost body is taken, where another is round it
 abbrev pub Closes : State → State → Option Open → Type 0
@@ -113,7 +146,8 @@ abbrev pub add_word : List Text → List ℕ → List json.Data → State → Op
 add_word symbols word fields state =
     if bytes_eq word (codes "end") then add_end state else
     (if bytes_eq word (codes "else") then Some (add_else state) else
-    (if is_simple word then read_simple symbols word fields >>= (λ s. Some (with_stmt s state)) else add_opening symbols word fields state))
+    (if bytes_eq word (codes "slot") then add_block symbols fields state else
+    (if is_simple word then read_simple symbols word fields >>= (λ s. Some (with_stmt s state)) else add_opening symbols word fields state)))
 
 -- the state with a row before it
 abbrev pub add_row : List Text → json.Data → State → Option State

@@ -1,25 +1,26 @@
 // The bodies that are open while rows are read, the last row first.
 ghost use Rattle.std.specs.Prelude.{◌≡◌, OnOk, IfOk, Some, None, option_map, reverse};
 ghost use Rattle.gl_base.specs.Answers.{Gives};
-ghost use Rattle.gl_ast.specs.Template.{body_of};
-ghost use Rattle.gl_ast.specs.View.{seen_stmts, stmt_view};
+ghost use Rattle.gl_ast.specs.Template.{body_of, slots_of};
+ghost use Rattle.gl_ast.specs.View.{seen_stmts, seen_slots, slot_view, stmt_view};
 ghost use Rattle.gl_wirein.specs.Fault.{Fails};
-ghost use Rattle.gl_wirein.specs.ReadRows.{closed, start, with_stmt, add_end, add_else, Closes, whole_body};
+ghost use Rattle.gl_wirein.specs.ReadRows.{closed, start, with_stmt, with_block, add_end, add_else, Closes, whole_body};
 ghost use Rattle.gl_wirein.specs.View.{open_view, rows_view};
 
 use crate::WireFault;
-use gl_ast::{Body, Stmt};
+use gl_ast::{Body, Slot, Slots, Stmt};
 use std::alloc::{AllocError, Global};
 use std::mem;
 
 /// How many bodies may be open.
-const DEEPEST_NESTING: usize = 100;
+const DEEPEST_OPEN: usize = 200;
 
-/// A body that is open, the last statement first, and the body behind its else.
+/// A body that is open, the last statement first, the body behind its else, and its blocks, the last first.
 #[derive(Drop)]
 pub struct Open {
     stmts: Vec<Stmt>,
     otherwise: Body,
+    slots: Vec<Slot>,
 }
 
 /// The open bodies, the innermost apart.
@@ -46,14 +47,25 @@ impl Open {
         Open {
             stmts: Vec::new(alloc),
             otherwise: Body::new(alloc),
+            slots: Vec::new(alloc),
         }
     }
 
     /// The body and that behind its else. It takes no memory.
     pub fn into_bodies(self) -> (Body, Body)
-        ensures { (body_of result.0, body_of result.1) ≡ open_view self }
+        ensures body { body_of result.0 ≡ (open_view self).0 }
+        ensures otherwise { body_of result.1 ≡ (open_view self).1 }
     {
         (turned(self.stmts), self.otherwise)
+    }
+
+    /// The blocks. It takes no memory.
+    pub fn into_slots(self) -> Slots
+        ensures { slots_of result ≡ (open_view self).2 }
+    {
+        let mut list = self.slots;
+        list.reverse();
+        Slots::from_vec(list)
     }
 
     /// The body without that behind its else. It takes no memory.
@@ -83,11 +95,19 @@ impl Rows {
         Ok(())
     }
 
-    /// Opens a body. `BadWire` where as many are open as may nest.
+    /// Puts a block before those of the innermost body.
+    pub fn add_slot(&mut self, slot: Slot) -> Result<(), AllocError>
+        ensures { OnOk result (rows_view self.new ≡ with_block (slot_view slot) (rows_view self.old)) }
+    {
+        self.innermost.slots.push(slot)?;
+        Ok(())
+    }
+
+    /// Opens a body. `BadWire` where as many are open as may be.
     pub fn add_end(&mut self, alloc: Global) -> Result<(), WireFault>
         ensures { Gives Fails (λ u. rows_view self.new) result (add_end (rows_view self.old)) }
     {
-        if self.outer.len() >= DEEPEST_NESTING {
+        if self.outer.len() >= DEEPEST_OPEN {
             return Err(WireFault::BadWire);
         }
         let outside = mem::replace(&mut self.innermost, Open::new(alloc));

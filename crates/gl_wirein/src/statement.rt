@@ -3,9 +3,9 @@ ghost use Rattle.std.specs.Prelude.{◌≡◌, map, codes, Some};
 ghost use Rattle.gl_ast.specs.Template.{slots_of, block, no_slots};
 ghost use Rattle.serde_json.specs.View.{view};
 ghost use Rattle.gl_base.specs.Answers.{Gives};
-ghost use Rattle.gl_ast.specs.View.{stmt_view};
+ghost use Rattle.gl_ast.specs.View.{slot_view, stmt_view};
 ghost use Rattle.gl_wirein.specs.Fault.{Fails};
-ghost use Rattle.gl_wirein.specs.ReadRows.{read_text, read_comment, read_put, read_leaf, read_yield, is_simple, read_simple, read_element, read_component, read_if, read_each, read_let, read_opening};
+ghost use Rattle.gl_wirein.specs.ReadRows.{read_text, read_comment, read_put, read_leaf, yield_name, read_yield, is_simple, read_simple, read_element, read_blocks, read_component, read_block, read_if, read_each, read_let, read_opening};
 ghost use Rattle.gl_wirein.specs.View.{open_view};
 
 use crate::WireFault;
@@ -65,7 +65,7 @@ fn leaf(alloc: Global, symbols: &Texts, fields: &[Value]) -> Result<Stmt, WireFa
     }
 }
 
-// The name of the only slot.
+// The name of a block that is not named.
 fn default_name(alloc: Global) -> Result<Text, WireFault>
     ensures { Gives Fails (λ t. t) result (Some (codes "default")) }
 {
@@ -74,13 +74,24 @@ fn default_name(alloc: Global) -> Result<Text, WireFault>
     Ok(name)
 }
 
+// The block that a yield shows, by what its row has after the values.
+fn yield_name(alloc: Global, names: &[Value]) -> Result<Text, WireFault>
+    ensures { Gives Fails (λ t. t) result (yield_name (map view names.now)) }
+{
+    match names {
+        [] => default_name(alloc),
+        [name] => text(alloc, name),
+        _ => Err(WireFault::BadWire),
+    }
+}
+
 fn shown_slot(alloc: Global, symbols: &Texts, fields: &[Value]) -> Result<Stmt, WireFault>
     ensures { Gives Fails (λ s. stmt_view s) result (read_yield symbols.now (map view fields.now)) }
 {
     match fields {
-        [values] => {
+        [values, names @ ..] => {
             let values = inners(alloc, symbols, values)?;
-            let to = default_name(alloc)?;
+            let to = yield_name(alloc, names)?;
             Ok(Stmt::Yield { values, to })
         }
         _ => Err(WireFault::BadWire),
@@ -137,8 +148,8 @@ fn element(
     }
 }
 
-// The slot of a block.
-fn slots(alloc: Global, params: Texts, inside: Open) -> Result<Slots, WireFault>
+// The block `default` of a component.
+fn own_block(alloc: Global, params: Texts, inside: Open) -> Result<Slots, WireFault>
     ensures { Gives Fails (λ ss. slots_of ss) result (Some (block (codes "default") params (open_view inside).0 no_slots)) }
 {
     let body = inside.into_body();
@@ -149,7 +160,26 @@ fn slots(alloc: Global, params: Texts, inside: Open) -> Result<Slots, WireFault>
     Ok(slots)
 }
 
-// A component with a block.
+// The blocks of a component, by what its row has after the arguments.
+fn blocks(
+    alloc: Global,
+    symbols: &Texts,
+    params: &[Value],
+    inside: Open,
+) -> Result<Slots, WireFault>
+    ensures { Gives Fails (λ ss. slots_of ss) result (read_blocks symbols.now (map view params.now) (open_view inside)) }
+{
+    match params {
+        [] => Ok(inside.into_slots()),
+        [own] => {
+            let params = symbols_at(alloc, symbols, own)?;
+            own_block(alloc, params, inside)
+        }
+        _ => Err(WireFault::BadWire),
+    }
+}
+
+// A component with blocks.
 fn component(
     alloc: Global,
     symbols: &Texts,
@@ -159,18 +189,38 @@ fn component(
     ensures { Gives Fails (λ s. stmt_view s) result (read_component symbols.now (map view fields.now) (open_view inside)) }
 {
     match fields {
-        [class, tag, args, params] => {
+        [class, tag, args, params @ ..] => {
             let class = text(alloc, class)?;
             let parts = parts(alloc, symbols, tag)?;
             let args = arguments(alloc, symbols, args)?;
-            let params = symbols_at(alloc, symbols, params)?;
-            let slots = slots(alloc, params, inside)?;
+            let slots = blocks(alloc, symbols, params, inside)?;
             Ok(Stmt::Component {
                 class,
                 parts,
                 args,
                 slots,
             })
+        }
+        _ => Err(WireFault::BadWire),
+    }
+}
+
+/// A block of a component, by what follows its word.
+pub fn slot(
+    alloc: Global,
+    symbols: &Texts,
+    fields: &[Value],
+    inside: Open,
+) -> Result<Slot, WireFault>
+    ensures { Gives Fails (λ s. slot_view s) result (read_block symbols.now (map view fields.now) (open_view inside)) }
+{
+    match fields {
+        [name, params] => {
+            let name = text(alloc, name)?;
+            let params = symbols_at(alloc, symbols, params)?;
+            let body = inside.into_body();
+            let block = Block { params, body };
+            Ok(Slot { name, block })
         }
         _ => Err(WireFault::BadWire),
     }

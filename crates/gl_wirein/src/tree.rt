@@ -5,13 +5,13 @@ ghost use Rattle.serde_json.specs.View.{view};
 ghost use Rattle.gl_base.specs.Answers.{Gives};
 ghost use Rattle.gl_ast.specs.Template.{body_of};
 ghost use Rattle.gl_wirein.specs.Fault.{Fails};
-ghost use Rattle.gl_wirein.specs.ReadRows.{add_opening, add_word, add_row, read_rows, read_body, tree_in};
+ghost use Rattle.gl_wirein.specs.ReadRows.{add_opening, add_block, add_word, add_row, read_rows, read_body, tree_in};
 ghost use Rattle.gl_wirein.specs.View.{rows_view};
 
 use crate::WireFault;
 use crate::pieces::{fields, items, texts, word};
 use crate::rows::Rows;
-use crate::statement::{is_simple, opening, simple};
+use crate::statement::{is_simple, opening, simple, slot};
 use gl_ast::Body;
 use gl_value::Texts;
 use serde_json::Value;
@@ -37,6 +37,25 @@ fn add_opening(
     }
 }
 
+// A block takes the innermost body, and stands in the one round it.
+fn add_slot(
+    alloc: Global,
+    symbols: &Texts,
+    fields: &[Value],
+    rows: &mut Rows,
+) -> Result<(), WireFault>
+    ensures { Gives Fails (λ u. rows_view rows.new) result (add_block symbols.now (map view fields.now) (rows_view rows.old)) }
+{
+    match rows.close() {
+        Some(inside) => {
+            let block = slot(alloc, symbols, fields, inside)?;
+            rows.add_slot(block)?;
+            Ok(())
+        }
+        None => Err(WireFault::BadWire),
+    }
+}
+
 // A row by its word.
 fn add_word(
     alloc: Global,
@@ -53,6 +72,9 @@ fn add_word(
     if word == "else" {
         rows.add_else(alloc);
         return Ok(());
+    }
+    if word == "slot" {
+        return add_slot(alloc, symbols, fields, rows);
     }
     if is_simple(word) {
         let stmt = simple(alloc, symbols, word, fields)?;

@@ -9,7 +9,7 @@ use Rattle.gl_wire.proofs.stmt_json.+statement.Goals as goal
 
 pub push_else-returns : goal.push_else-returns
 push_else-returns t c =
-    let e : else_rows (body_of c.args.otherwise.now) ≡ row (codes "else") [] ∷ body_rows (body_of c.args.otherwise.now) = else_body c.args.otherwise.now (λ none. let h = c.is_empty.ensures.1 none in let k = c.if-is_empty.false in cc) in
+    let e : else_rows c.args.version (body_of c.args.otherwise.now) ≡ row (codes "else") [] ∷ body_rows c.args.version (body_of c.args.otherwise.now) = else_body c.args.version c.args.otherwise.now (λ none. let h = c.is_empty.ensures.1 none in let k = c.if-is_empty.false in cc) in
     rw e (grind (arith, common_steps))
 
 pub push_stmt-returns-in-Comment : goal.push_stmt-returns-in-Comment
