@@ -10,4 +10,5 @@ mod OwnSets
 pub mod Renamed
 mod RootSets
 pub mod Running
+mod Rules
 mod Values

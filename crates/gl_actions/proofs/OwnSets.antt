@@ -1,5 +1,5 @@
 -- What is set is a page's own.
-use Rattle.std.proofs.Common.{◌≡◌, ◌<◌, ℕ, List, [], ◌∷◌, ◌++◌, map, length, Option, Some, sym, ap, ◌∙◌, subst}
+use Rattle.std.proofs.Common.{◌≡◌, ◌<◌, ℕ, List, [], ◌∷◌, ◌++◌, length, Some, sym, ap, ◌∙◌, subst}
 use Rattle.std.specs.Str.{bytes_eq}
 use Rattle.std.specs.List.{position}
 use Rattle.std.proofs.lemmas.List.{length-map}
@@ -15,7 +15,7 @@ use Rattle.gl_append.specs.View.{seen_owner}
 use Rattle.gl_append.specs.declared.page.Page.{Page}
 use Rattle.gl_vm.specs.View.{name_stamps}
 use Rattle.gl_actions.specs.Sets.{Set}
-use Rattle.gl_actions.specs.Own.{names_in, shown_in, IsOnPage, IsOwnSet, AreOwnSets, AddsOwn}
+use Rattle.gl_actions.specs.Own.{names_in, IsOnPage, IsOwnSet, AreOwnSets, AddsOwn}
 use Rattle.gl_actions.specs.declared.frame.Frame.{Frame}
 
 -- one more at the end

@@ -1,7 +1,6 @@
 // What an event of a node sets.
-ghost use Rattle.std.specs.Prelude.{◌≡◌, [], codes, map, IfOk, OnOk};
-ghost use Rattle.std.specs.List.{list_any};
-ghost use Rattle.std.specs.Str.{bytes_eq, chars};
+ghost use Rattle.std.specs.Prelude.{◌≡◌, [], map, IfOk, OnOk};
+ghost use Rattle.std.specs.Str.{chars};
 ghost use Rattle.gl_value.specs.View.{view, seen_items};
 ghost use Rattle.gl_meaning.specs.View.{manifest_view};
 ghost use Rattle.gl_actions.specs.World.{World, value_in, sets_in};
@@ -17,7 +16,7 @@ use crate::turn::Turn;
 use gl_append::Page;
 use gl_opc::App;
 use gl_scope::Args;
-use gl_value::{Text, Value};
+use gl_value::Value;
 use std::alloc::{AllocError, Global};
 
 /// What an event answers: the sets so far with those that its actions add, or that nothing listens.
@@ -27,29 +26,11 @@ pub enum Fired {
     NoListener,
 }
 
-/// Whether a name is `on`.
-fn is_on(name: &Text) -> bool
-    ensures { result ≡ bytes_eq name.now (codes "on") }
-{
-    name.as_str() == "on"
-}
-
-/// Whether one of these names is `on`.
-fn has_on(names: &[Text]) -> bool
-    ensures { result ≡ list_any (λ t. bytes_eq t (codes "on")) names.now }
-{
-    for name in names {
-        if is_on(name) {
-            return true;
-        }
-    }
-    false
-}
-
 /// Calls what the modifiers `on` of the node with a number call at an event, in their order and with the payload in plain form. While they
 /// run, a field reads as it was set last, a getter is worked out over these fields, and an argument reads as at the last rendering. The page
-/// is only read, and nothing is set on it yet. What the page doesn't have, as an instance that is gone, is told as want of memory, and so is
-/// a modifier of the manifest with the name `on`, which no manifest that is read has.
+/// is only read, and nothing is set on it yet. What the page doesn't have, as an instance that is gone, is told as want of memory. No modifier
+/// of the manifest is `on`, as each application keeps.
+#[tactic(auto, using(crate::proofs::Rules::only_on))]
 pub fn fire(
     alloc: Global,
     page: &Page,
@@ -61,28 +42,9 @@ pub fn fire(
 ) -> Result<Fired, AllocError>
     ensures sets { IfOk result (λ f. Answers app.now page.now sofar.now number (chars event.now) (view payload.now) f) }
     ensures own { IfOk result (λ f. AnswersOwn app.now page.now sofar.now f) }
-    ensures only { IfOk result (λ f. OnlyOn (manifest_view app.now.manifest)) }
+    ensures only { OnlyOn (manifest_view app.now.manifest) }
 {
-    if has_on(app.manifest().modifiers.as_slice()) {
-        return Err(AllocError);
-    }
-    fire_heard(alloc, page, app, sofar, number, event, payload)
-}
-
-/// The same, where the manifest has no `on` of its own.
-fn fire_heard(
-    alloc: Global,
-    page: &Page,
-    app: &App,
-    sofar: &Sets,
-    number: u128,
-    event: &str,
-    payload: &Value,
-) -> Result<Fired, AllocError>
-    requires only { OnlyOn (manifest_view app.now.manifest) }
-    ensures sets { IfOk result (λ f. Answers app.now page.now sofar.now number (chars event.now) (view payload.now) f) }
-    ensures own { IfOk result (λ f. AnswersOwn app.now page.now sofar.now f) }
-{
+    app.keeps();
     let heard = Heard {
         alloc,
         vm: &page.vm,
