@@ -15,6 +15,6 @@ mod whole;
 
 pub use application::{Application, load_app};
 pub use fault::{LoadCause, LoadFault, fault_in};
-pub use file::template_in;
+pub use file::{fetch_small, template_in};
 pub use templates::Templates;
 pub use whole::{Loaded, load};

@@ -6,3 +6,4 @@ pub mod Saying
 pub mod Sizes
 pub mod Tallied
 pub mod Words
+pub mod Works

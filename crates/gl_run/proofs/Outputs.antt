@@ -110,6 +110,7 @@ pub done_is_whole : (e : Ending) → status_of e ≡ status.Done → e ≡ Ok tt
 done_is_whole (Ok x) is = refl
 done_is_whole (Err run.Usage) is = absurd cc
 done_is_whole (Err (run.Load fault)) is = absurd (file_is_not_done fault.cause is)
+done_is_whole (Err (run.BadWire file)) is = absurd cc
 done_is_whole (Err (run.NestingLimit turn limit)) is = absurd cc
 done_is_whole (Err run.WriteFault) is = absurd cc
 done_is_whole (Err run.Memory) is = absurd cc

@@ -15,14 +15,19 @@ use Rattle.gl_meaning.specs.Session.{State, first_state, Turn, step, Session, go
 use Rattle.gl_meaning.specs.View.{manifest_view}
 use Rattle.gl_opc.specs.IsApp.{IsAppWith}
 use Rattle.gl_opc.specs.declared.app.App.{App}
-use Rattle.gl_session.specs.Standing.{StandsAt, Starts, Turns}
+use Rattle.gl_session.specs.Standing.{StandsAt, Starts, Turns, Counts}
+use Rattle.gl_session.specs.Turn.{work_view, added}
 use Rattle.gl_session.specs.declared.session.Session as code
+use Rattle.gl_session.specs.declared.turn.Turn as by_code
 use Rattle.gl_run.specs.Holds.{state_after, EndsAt}
-use Rattle.gl_run.specs.Output.{too_deep, stopped_at, turn_texts, played, played_app}
+use Rattle.gl_run.specs.Output.{too_deep, stopped_at, played, played_app}
+use Rattle.gl_run.specs.Told.{told_text, told_texts, seen_text}
+use Rattle.gl_run.specs.declared.told.Told.{Told}
 use Rattle.gl_run.specs.Plays.{PutFails, Plays, PlayFails, StartStops, TurnStops, Opens, GoesOn}
 use Rattle.gl_run.specs.Reached.{of_turns, turns_before, turn_bytes, Reached}
 use Rattle.gl_run.specs.declared.fault.PlayFault.{PlayFault}
 use Rattle.gl_run.specs.declared.fault.PlayFault.TheVariants as v
+use Rattle.gl_run.proofs.Works.{told_is, counts_first, counts_more}
 
 -- The texts of an output that is played
 
@@ -30,35 +35,35 @@ played_texts : (limit : ℕ) (o : Option ℕ) (texts : List Text) → (stopped_a
 played_texts limit None texts = refl
 played_texts limit (Some turn) texts = refl
 
-bytes_more : (done more : List Turn) → turn_bytes (done ++ more) ≡ turn_bytes done ++ turn_bytes more
-bytes_more done more =
-    ap (λ ts. bytes_of (joined ts)) (map-append (λ (t : Turn). t.text) done more)
-    ∙ ap bytes_of (flat_map-append (λ (t : Text). t) (turn_texts done) (turn_texts more))
-    ∙ encodes-append (joined (turn_texts done)) (joined (turn_texts more))
+bytes_more : (told : Told) (done more : List Turn) → turn_bytes told (done ++ more) ≡ turn_bytes told done ++ turn_bytes told more
+bytes_more told done more =
+    ap (λ ts. bytes_of (joined ts)) (map-append (told_text told) done more)
+    ∙ ap bytes_of (flat_map-append (λ (t : Text). t) (told_texts told done) (told_texts told more))
+    ∙ encodes-append (joined (told_texts told done)) (joined (told_texts told more))
 
-one_text : (t : Turn) → joined (turn_texts (t ∷ [])) ≡ t.text
-one_text t = append-nil t.text
+one_text : (told : Told) (t : Turn) → joined (told_texts told (t ∷ [])) ≡ told_text told t
+one_text told t = append-nil (told_text told t)
 
 -- so many texts, each whole
-some_done : (limit : ℕ) (done : List Turn) (rest : Session) (old now : Option (List ℕ)) → Takes old now (turn_bytes done) → TakesSome old now (played limit (turns_before done rest)).texts
-some_done limit done rest old now p =
-    let all = played_texts limit rest.stopped (turn_texts (done ++ rest.turns)) ∙ map-append (λ (t : Turn). t.text) done rest.turns in
-    let first = ap (take (length (turn_texts done))) all ∙ take-append_seam (turn_texts done) (turn_texts rest.turns) in
-    (length (turn_texts done), subst (λ ts. Takes old now (bytes_of (joined ts))) (sym first) p)
+some_done : (told : Told) (limit : ℕ) (done : List Turn) (rest : Session) (old now : Option (List ℕ)) → Takes old now (turn_bytes told done) → TakesSome old now (played told limit (turns_before done rest)).texts
+some_done told limit done rest old now p =
+    let all = played_texts limit rest.stopped (told_texts told (done ++ rest.turns)) ∙ map-append (told_text told) done rest.turns in
+    let first = ap (take (length (told_texts told done))) all ∙ take-append_seam (told_texts told done) (told_texts told rest.turns) in
+    (length (told_texts told done), subst (λ ts. Takes old now (bytes_of (joined ts))) (sym first) p)
 
 -- the put of the next text fails
-put_stops : (limit : ℕ) (f : PlayFault) (done : List Turn) (t : Turn) (rest : Session) (old now new : Option (List ℕ)) → Takes old now (turn_bytes done) → PutFails f now new t.text
-    → PlayFails f old new (played limit (turns_before done (of_turns rest.stopped (t ∷ rest.turns))))
-put_stops limit (v.NestingLimit turn most) done t rest old now new p q = absurd q
-put_stops limit v.WriteFault done t rest old now new p q =
-    let more = turn_bytes rest.turns in
+put_stops : (told : Told) (limit : ℕ) (f : PlayFault) (done : List Turn) (t : Turn) (rest : Session) (old now new : Option (List ℕ)) → Takes old now (turn_bytes told done) → PutFails f now new (told_text told t)
+    → PlayFails f old new (played told limit (turns_before done (of_turns rest.stopped (t ∷ rest.turns))))
+put_stops told limit (v.NestingLimit turn most) done t rest old now new p q = absurd q
+put_stops told limit v.WriteFault done t rest old now new p q =
+    let more = turn_bytes told rest.turns in
     let all =
-    ap (λ ts. bytes_of (joined ts)) (played_texts limit rest.stopped (turn_texts (done ++ t ∷ rest.turns)))
-    ∙ bytes_more done (t ∷ rest.turns)
-    ∙ ap (λ b. turn_bytes done ++ b) (encodes-append t.text (joined (turn_texts rest.turns)))
-    in subst (λ b. TakesFront old new b) (sym all) (front_more old now new (turn_bytes done) (bytes_of t.text ++ more) p (front_of now new (bytes_of t.text) more q))
-put_stops limit v.Memory done t rest old now new p q =
-    some_done limit done (of_turns rest.stopped (t ∷ rest.turns)) old new (subst (λ x. Takes old x (turn_bytes done)) (sym q) p)
+    ap (λ ts. bytes_of (joined ts)) (played_texts limit rest.stopped (told_texts told (done ++ t ∷ rest.turns)))
+    ∙ bytes_more told done (t ∷ rest.turns)
+    ∙ ap (λ b. turn_bytes told done ++ b) (encodes-append (told_text told t) (joined (told_texts told rest.turns)))
+    in subst (λ b. TakesFront old new b) (sym all) (front_more old now new (turn_bytes told done) (bytes_of (told_text told t) ++ more) p (front_of now new (bytes_of (told_text told t)) more q))
+put_stops told limit v.Memory done t rest old now new p q =
+    some_done told limit done (of_turns rest.stopped (t ∷ rest.turns)) old new (subst (λ x. Takes old x (turn_bytes told done)) (sym q) p)
 
 -- The number of a turn
 
@@ -73,58 +78,62 @@ pub after_more : (s : State) (done : List Turn) (t : Turn) → state_after s (do
 after_more s [] t = refl
 after_more s (d ∷ done) t = after_more d.state done t
 
-module _ (app : App) (templates : List Body) (events : List a.Event) where
+-- Turn 0
+
+pub first_turn : (app : a.App) (events : List a.Event) (t : Turn) → step app first_state None ≡ Some t
+    → session app events ≡ turns_before [] (of_turns (session_from app events t.state).stopped (t ∷ (session_from app events t.state).turns))
+first_turn app events t made = ap (λ o. go_on first_state o (session_from app events)) made
+
+module _ (told : Told) (app : App) (templates : List Body) (events : List a.Event) where
   abbrev of_app : a.App
   of_app = app_of (manifest_view app.manifest) templates
 
   -- what a play that ended so says of a session
   abbrev Left : PlayFault → Option (List ℕ) → Option (List ℕ) → Session → Type 0
-  Left f old new s = PlayFails f old new (played app.manifest.limit s)
+  Left f old new s = PlayFails f old new (played told app.manifest.limit s)
 
   -- how far it is
   abbrev Here : List a.Event → ℕ → code.Session → Option (List ℕ) → Option (List ℕ) → Type 0
-  Here left turn held old now = Reached app templates events left turn held old now
+  Here left turn held old now = Reached told app templates events left turn held old now
 
   pub left_is : (left same : List a.Event) (turn : ℕ) (held : code.Session) (old now : Option (List ℕ)) → left ≡ same → Here left turn held old now → Here same turn held old now
   left_is left same turn held old now e r = subst (λ es. Here es turn held old now) e r
 
   -- Turn 0
 
-  pub first_turn : (t : Turn) → step of_app first_state None ≡ Some t → session of_app events ≡ turns_before [] (of_turns (session_from of_app events t.state).stopped (t ∷ (session_from of_app events t.state).turns))
-  first_turn t made = ap (λ o. go_on first_state o (session_from of_app events)) made
-
-  pub start_reached : (held : code.Session) (text : Text) (old now : Option (List ℕ)) → Starts app templates held text → Takes old now (bytes_of text) → Here events 1 held old now
-  start_reached held text old now (t, made, is, stands) p = record {
+  pub start_reached : (held : code.Session) (m : by_code.Turn) (old now : Option (List ℕ)) → Starts app templates held m → held.counts ≡ m.work → Takes old now (bytes_of (seen_text told m)) → Here events 1 held old now
+  start_reached held m old now (t, made, is, stands) c p = record {
     state = t.state;
     done = t ∷ [];
     stands = stands;
+    counts = counts_first held m t c is;
     number = numbered of_app first_state None t made;
     last = refl;
-    whole = first_turn t made;
-    taken = subst (λ x. Takes old now (bytes_of x)) (is ∙ sym (one_text t)) p;
+    whole = first_turn of_app events t made;
+    taken = subst (λ x. Takes old now (bytes_of x)) (told_is told m t is ∙ sym (one_text told t)) p;
   }
 
-  pub start_put_stops : (f : PlayFault) (held : code.Session) (text : Text) (old now : Option (List ℕ)) → Starts app templates held text → PutFails f old now text → PlayFails f old now (played_app of_app events)
-  start_put_stops f held text old now (t, made, is, stands) p =
-      let put = subst (λ x. PutFails f old now x) is p in
-      subst (Left f old now) (sym (first_turn t made)) (put_stops app.manifest.limit f [] t (session_from of_app events t.state) old old now (takes_nothing old) put)
+  pub start_put_stops : (f : PlayFault) (held : code.Session) (m : by_code.Turn) (old now : Option (List ℕ)) → Starts app templates held m → PutFails f old now (seen_text told m) → PlayFails f old now (played_app told of_app events)
+  start_put_stops f held m old now (t, made, is, stands) p =
+      let put = subst (λ x. PutFails f old now x) (told_is told m t is) p in
+      subst (Left f old now) (sym (first_turn of_app events t made)) (put_stops told app.manifest.limit f [] t (session_from of_app events t.state) old old now (takes_nothing old) put)
 
-  start_too_deep : (took : Option (List ℕ)) → step of_app first_state None ≡ None → PlayFails (v.NestingLimit 0 app.manifest.limit) took took (played_app of_app events)
+  start_too_deep : (took : Option (List ℕ)) → step of_app first_state None ≡ None → PlayFails (v.NestingLimit 0 app.manifest.limit) took took (played_app told of_app events)
   start_too_deep took none =
       let is : session of_app events ≡ of_turns (Some 0) [] = ap (λ o. go_on first_state o (session_from of_app events)) none in
       subst (Left (v.NestingLimit 0 app.manifest.limit) took took) (sym is) (refl, refl, takes_nothing took)
 
-  pub start_stops : (f : PlayFault) (took : Option (List ℕ)) → IsAppWith (manifest_view app.manifest) templates app.programs → StartStops app f → PlayFails f took took (played_app of_app events)
+  pub start_stops : (f : PlayFault) (took : Option (List ℕ)) → IsAppWith (manifest_view app.manifest) templates app.programs → StartStops app f → PlayFails f took took (played_app told of_app events)
   start_stops (v.NestingLimit turn limit) took is h = rw (h.0, h.1) (start_too_deep took (h.2 templates is))
   start_stops v.WriteFault took is h = absurd h
-  start_stops v.Memory took is h = some_nothing took (played_app of_app events).texts
+  start_stops v.Memory took is h = some_nothing took (played_app told of_app events).texts
 
-  pub opened : (held : code.Session) (old now : Option (List ℕ)) → IsAppWith (manifest_view app.manifest) templates app.programs → Opens app (Ok held) old now → Here events 1 held old now
-  opened held old now is (text, starts, taken) = start_reached held text old now (starts templates is) taken
+  pub opened : (held : code.Session) (old now : Option (List ℕ)) → IsAppWith (manifest_view app.manifest) templates app.programs → Opens told app (Ok held) old now → Here events 1 held old now
+  opened held old now is (m, starts, taken) = start_reached held m old now (starts.stands templates is) starts.counts taken
 
-  pub open_stops : (f : PlayFault) (old now : Option (List ℕ)) → IsAppWith (manifest_view app.manifest) templates app.programs → Opens app (Err f) old now → PlayFails f old now (played_app of_app events)
-  open_stops f old now is (inl (stops, same)) = subst (λ x. PlayFails f old x (played_app of_app events)) (sym same) (start_stops f old is stops)
-  open_stops f old now is (inr (held, text, starts, puts)) = start_put_stops f held text old now (starts templates is) puts
+  pub open_stops : (f : PlayFault) (old now : Option (List ℕ)) → IsAppWith (manifest_view app.manifest) templates app.programs → Opens told app (Err f) old now → PlayFails f old now (played_app told of_app events)
+  open_stops f old now is (inl (stops, same)) = subst (λ x. PlayFails f old x (played_app told of_app events)) (sym same) (start_stops f old is stops)
+  open_stops f old now is (inr (held, m, starts, puts)) = start_put_stops f held m old now (starts.stands templates is) puts
 
   -- The turn of an event
 
@@ -132,60 +141,64 @@ module _ (app : App) (templates : List Body) (events : List a.Event) where
     next_turn : (t : Turn) → step of_app r.state (Some e) ≡ Some t → session of_app events ≡ turns_before r.done (of_turns (session_from of_app left t.state).stopped (t ∷ (session_from of_app left t.state).turns))
     next_turn t made = r.whole ∙ ap (λ o. turns_before r.done (go_on r.state o (session_from of_app left))) made
 
-    pub turn_reached : (new_held : code.Session) (text : Text) (new : Option (List ℕ)) → Turns app templates r.state e new_held text → Takes now new (bytes_of text) → Here left (turn + 1) new_held old new
-    turn_reached new_held text new (t, made, is, stands) p =
+    pub turn_reached : (new_held : code.Session) (m : by_code.Turn) (new : Option (List ℕ)) → Turns app templates r.state e new_held m → work_view new_held.counts ≡ added (work_view held.counts) (work_view m.work) → Takes now new (bytes_of (seen_text told m)) → Here left (turn + 1) new_held old new
+    turn_reached new_held m new (t, made, is, stands) c p =
         let rest = session_from of_app left t.state in
         let risen = numbered of_app r.state (Some e) t made in
         let before = r.number in
-        let bytes = ap (λ x. turn_bytes r.done ++ bytes_of x) (is ∙ sym (one_text t)) ∙ sym (bytes_more r.done (t ∷ [])) in
+        let bytes = ap (λ x. turn_bytes told r.done ++ bytes_of x) (told_is told m t is ∙ sym (one_text told t)) ∙ sym (bytes_more told r.done (t ∷ [])) in
         record {
           state = t.state;
           done = r.done ++ t ∷ [];
           stands = stands;
+          counts = counts_more held new_held m r.done t r.counts c is;
           number = omega (arith, risen, before);
           last = after_more first_state r.done t;
           whole = next_turn t made ∙ ap (of_turns rest.stopped) (sym (append_assoc r.done (t ∷ []) rest.turns));
-          taken = subst (λ b. Takes old new b) bytes (takes_more old now new (turn_bytes r.done) (bytes_of text) r.taken p);
+          taken = subst (λ b. Takes old new b) bytes (takes_more old now new (turn_bytes told r.done) (bytes_of (seen_text told m)) r.taken p);
         }
 
-    pub turn_put_stops : (f : PlayFault) (new_held : code.Session) (text : Text) (new : Option (List ℕ)) → Turns app templates r.state e new_held text → PutFails f now new text → PlayFails f old new (played_app of_app events)
-    turn_put_stops f new_held text new (t, made, is, stands) p =
-        let put = subst (λ x. PutFails f now new x) is p in
-        subst (Left f old new) (sym (next_turn t made)) (put_stops app.manifest.limit f r.done t (session_from of_app left t.state) old now new r.taken put)
+    pub turn_put_stops : (f : PlayFault) (new_held : code.Session) (m : by_code.Turn) (new : Option (List ℕ)) → Turns app templates r.state e new_held m → PutFails f now new (seen_text told m) → PlayFails f old new (played_app told of_app events)
+    turn_put_stops f new_held m new (t, made, is, stands) p =
+        let put = subst (λ x. PutFails f now new x) (told_is told m t is) p in
+        subst (Left f old new) (sym (next_turn t made)) (put_stops told app.manifest.limit f r.done t (session_from of_app left t.state) old now new r.taken put)
 
-    turn_too_deep : step of_app r.state (Some e) ≡ None → PlayFails (v.NestingLimit turn app.manifest.limit) old now (played_app of_app events)
+    turn_too_deep : step of_app r.state (Some e) ≡ None → PlayFails (v.NestingLimit turn app.manifest.limit) old now (played_app told of_app events)
     turn_too_deep none =
         let is = r.whole ∙ ap (λ o. turns_before r.done (go_on r.state o (session_from of_app left))) none ∙ ap (of_turns (Some r.state.turn)) (append-nil r.done) in
         subst (Left (v.NestingLimit turn app.manifest.limit) old now) (sym is) (refl, ap (λ n. too_deep n app.manifest.limit) r.number, r.taken)
 
-    turn_wants : PlayFails v.Memory old now (played_app of_app events)
-    turn_wants = subst (Left v.Memory old now) (sym r.whole) (some_done app.manifest.limit r.done (session_from of_app (e ∷ left) r.state) old now r.taken)
+    turn_wants : PlayFails v.Memory old now (played_app told of_app events)
+    turn_wants = subst (Left v.Memory old now) (sym r.whole) (some_done told app.manifest.limit r.done (session_from of_app (e ∷ left) r.state) old now r.taken)
 
-    pub turn_stops : (f : PlayFault) → TurnStops held e turn app.manifest.limit f → PlayFails f old now (played_app of_app events)
+    pub turn_stops : (f : PlayFault) → TurnStops held e turn app.manifest.limit f → PlayFails f old now (played_app told of_app events)
     turn_stops (v.NestingLimit number limit) h = rw (h.0, h.1) (turn_too_deep (h.2 app templates r.state r.stands))
     turn_stops v.WriteFault h = absurd h
     turn_stops v.Memory h = turn_wants
 
-    pub gone_on : (new_held : code.Session) (most : ℕ) (new : Option (List ℕ)) → GoesOn {X = Unit {0}} (Ok tt) held new_held e turn most now new → Here left (turn + 1) new_held old new
-    gone_on new_held most new (text, turns, taken) = turn_reached new_held text new (turns app templates r.state r.stands) taken
+    pub gone_on : (new_held : code.Session) (most : ℕ) (new : Option (List ℕ)) → GoesOn {X = Unit {0}} told (Ok tt) held new_held e turn most now new → Here left (turn + 1) new_held old new
+    gone_on new_held most new (m, turns, taken) = turn_reached new_held m new (turns.stands app templates r.state r.stands) turns.counts taken
 
-    pub goes_no_further : (f : PlayFault) (new_held : code.Session) (most : ℕ) (new : Option (List ℕ)) → most ≡ app.manifest.limit → GoesOn {X = Unit {0}} (Err f) held new_held e turn most now new → PlayFails f old new (played_app of_app events)
+    pub goes_no_further : (f : PlayFault) (new_held : code.Session) (most : ℕ) (new : Option (List ℕ)) → most ≡ app.manifest.limit → GoesOn {X = Unit {0}} told (Err f) held new_held e turn most now new → PlayFails f old new (played_app told of_app events)
     goes_no_further f new_held most new limit (inl (stops, same)) =
-        subst (λ x. PlayFails f old x (played_app of_app events)) (sym same) (turn_stops f (subst (λ n. TurnStops held e turn n f) limit stops))
-    goes_no_further f new_held most new limit (inr (text, turns, puts)) = turn_put_stops f new_held text new (turns app templates r.state r.stands) puts
+        subst (λ x. PlayFails f old x (played_app told of_app events)) (sym same) (turn_stops f (subst (λ n. TurnStops held e turn n f) limit stops))
+    goes_no_further f new_held most new limit (inr (m, turns, puts)) = turn_put_stops f new_held m new (turns.stands app templates r.state r.stands) puts
 
   -- memory is wanting for the next number
-  pub reached_wants : (left : List a.Event) (turn : ℕ) (held : code.Session) (old now : Option (List ℕ)) → Here left turn held old now → PlayFails v.Memory old now (played_app of_app events)
-  reached_wants left turn held old now r = subst (Left v.Memory old now) (sym r.whole) (some_done app.manifest.limit r.done (session_from of_app left r.state) old now r.taken)
+  pub reached_wants : (left : List a.Event) (turn : ℕ) (held : code.Session) (old now : Option (List ℕ)) → Here left turn held old now → PlayFails v.Memory old now (played_app told of_app events)
+  reached_wants left turn held old now r = subst (Left v.Memory old now) (sym r.whole) (some_done told app.manifest.limit r.done (session_from of_app left r.state) old now r.taken)
 
   -- no event is left
   ended : (turn : ℕ) (held : code.Session) (old now : Option (List ℕ)) (r : Here [] turn held old now) → session of_app events ≡ of_turns None r.done
   ended turn held old now r = r.whole ∙ ap (of_turns None) (append-nil r.done)
 
-  pub all_played : {X : Type 0} (made : X) (turn : ℕ) (held : code.Session) (old now : Option (List ℕ)) → Here [] turn held old now → Plays (Ok made) old now (played_app of_app events)
-  all_played made turn held old now r = subst (λ s. Plays (Ok made) old now (played app.manifest.limit s)) (sym (ended turn held old now r)) (refl, r.taken)
+  pub all_played : {X : Type 0} (made : X) (turn : ℕ) (held : code.Session) (old now : Option (List ℕ)) → Here [] turn held old now → Plays (Ok made) old now (played_app told of_app events)
+  all_played made turn held old now r = subst (λ s. Plays (Ok made) old now (played told app.manifest.limit s)) (sym (ended turn held old now r)) (refl, r.taken)
 
   pub all_ends : (turn : ℕ) (held : code.Session) (old now : Option (List ℕ)) → Here [] turn held old now → EndsAt held app templates events
   all_ends turn held old now r =
-      let there = ap (λ (x : Session). state_after first_state x.turns) (ended turn held old now r) ∙ r.last in
-      subst (λ s. StandsAt held app templates s) (sym there) r.stands
+      let all = ended turn held old now r in
+      record {
+        stands = subst (λ s. StandsAt held app templates s) (sym (ap (λ (x : Session). state_after first_state x.turns) all ∙ r.last)) r.stands;
+        counts = subst (λ (x : Session). Counts held x.turns) (sym all) r.counts;
+      }

@@ -10,14 +10,17 @@ use Rattle.gl_meaning.specs.Manifest.{app_of}
 use Rattle.gl_meaning.specs.Session.{first_state, Turn, Session, go_on, session_from, session}
 use Rattle.gl_meaning.specs.View.{manifest_view}
 use Rattle.gl_opc.specs.declared.app.App.{App}
-use Rattle.gl_session.specs.Standing.{StandsAt, Starts, Turns}
+use Rattle.gl_session.specs.Standing.{StandsAt, Starts, Turns, Counts}
+use Rattle.gl_session.specs.Turn.{work_view, added}
 use Rattle.gl_session.specs.declared.session.Session as code
+use Rattle.gl_session.specs.declared.turn.Turn as by_code
 use Rattle.gl_run.specs.Holds.{state_after, EndsAt}
 use Rattle.gl_run.specs.Output.{turn_texts}
 use Rattle.gl_run.specs.Sample.{last_of, last_text, byte_count, Tallies, Sums}
 use Rattle.gl_run.specs.declared.sample.Tally.{Tally}
 use Rattle.gl_run.specs.Reached.{of_turns, turns_before, Counted}
 use Rattle.gl_run.proofs.Played.{after_more, first_turn}
+use Rattle.gl_run.proofs.Works.{counts_first, counts_more}
 
 last_of_more : (first : Text) (texts : List Text) (text : Text) → last_of first (texts ++ text ∷ []) ≡ text
 last_of_more first [] text = refl
@@ -50,28 +53,31 @@ module _ (app : App) (templates : List Body) (events : List a.Event) where
   pub left_is : (left same : List a.Event) (held : code.Session) (tally : Tally) → left ≡ same → Here left held tally → Here same held tally
   left_is left same held tally e r = subst (λ es. Here es held tally) e r
 
-  pub start_counted : (held : code.Session) (text : Text) (tally : Tally) → Starts app templates held text → Tallies tally (text ∷ []) → Here events held tally
-  start_counted held text tally (t, made, is, stands) p = record {
+  pub start_counted : (held : code.Session) (m : by_code.Turn) (tally : Tally) → Starts app templates held m → held.counts ≡ m.work → Tallies tally (m.text ∷ []) → Here events held tally
+  start_counted held m tally (t, made, is, stands) c p = record {
     state = t.state;
     done = t ∷ [];
     stands = stands;
+    counts = counts_first held m t c is;
     last = refl;
-    whole = first_turn app templates events t made;
-    counts = subst (λ x. Tallies tally (x ∷ [])) is p;
+    whole = first_turn of_app events t made;
+    tallied = subst (λ x. Tallies tally (x ∷ [])) is.text p;
   }
 
-  pub turn_counted : (e : a.Event) (left : List a.Event) (held : code.Session) (tally : Tally) (r : Here (e ∷ left) held tally) (new_held : code.Session) (text : Text) (new : Tally)
-      → Turns app templates r.state e new_held text → new.turns ≡ tally.turns + 1 → new.bytes ≡ tally.bytes + byte_count text → new.last ≡ byte_count text → Here left new_held new
-  turn_counted e left held tally r new_held text new (t, made, is, stands) turns bytes last =
+  pub turn_counted : (e : a.Event) (left : List a.Event) (held : code.Session) (tally : Tally) (r : Here (e ∷ left) held tally) (new_held : code.Session) (m : by_code.Turn) (new : Tally)
+      → Turns app templates r.state e new_held m → work_view new_held.counts ≡ added (work_view held.counts) (work_view m.work)
+      → new.turns ≡ tally.turns + 1 → new.bytes ≡ tally.bytes + byte_count m.text → new.last ≡ byte_count m.text → Here left new_held new
+  turn_counted e left held tally r new_held m new (t, made, is, stands) c turns bytes last =
       let rest = session_from of_app left t.state in
-      let all = ap (λ x. turn_texts r.done ++ x ∷ []) is ∙ sym (map-append (λ (u : Turn). u.text) r.done (t ∷ [])) in
+      let all = ap (λ x. turn_texts r.done ++ x ∷ []) is.text ∙ sym (map-append (λ (u : Turn). u.text) r.done (t ∷ [])) in
       record {
         state = t.state;
         done = r.done ++ t ∷ [];
         stands = stands;
+        counts = counts_more held new_held m r.done t r.counts c is;
         last = after_more first_state r.done t;
         whole = r.whole ∙ ap (λ o. turns_before r.done (go_on r.state o (session_from of_app left))) made ∙ ap (of_turns rest.stopped) (sym (append_assoc r.done (t ∷ []) rest.turns));
-        counts = subst (Tallies new) all (tallies_more tally new (turn_texts r.done) text r.counts turns bytes last);
+        tallied = subst (Tallies new) all (tallies_more tally new (turn_texts r.done) m.text r.tallied turns bytes last);
       }
 
   -- no event is left
@@ -79,9 +85,12 @@ module _ (app : App) (templates : List Body) (events : List a.Event) where
   ended held tally r = r.whole ∙ ap (of_turns None) (append-nil r.done)
 
   pub all_summed : (held : code.Session) (tally : Tally) → Here [] held tally → Sums tally (session of_app events)
-  all_summed held tally r = subst (Sums tally) (sym (ended held tally r)) (refl, r.counts)
+  all_summed held tally r = subst (Sums tally) (sym (ended held tally r)) (refl, r.tallied)
 
   pub all_ends : (held : code.Session) (tally : Tally) → Here [] held tally → EndsAt held app templates events
   all_ends held tally r =
-      let there = ap (λ (x : Session). state_after first_state x.turns) (ended held tally r) ∙ r.last in
-      subst (λ s. StandsAt held app templates s) (sym there) r.stands
+      let all = ended held tally r in
+      record {
+        stands = subst (λ s. StandsAt held app templates s) (sym (ap (λ (x : Session). state_after first_state x.turns) all ∙ r.last)) r.stands;
+        counts = subst (λ (x : Session). Counts held x.turns) (sym all) r.counts;
+      }

@@ -5,22 +5,26 @@ use Rattle.std.specs.Fmt.{decimal}
 use Rattle.gl_base.specs.Texts.{Text}
 use Rattle.gl_run.specs.declared.command.Command as code
 use Rattle.gl_run.specs.declared.command.Command.TheVariants as v
+use Rattle.gl_run.specs.declared.told.Told.{Told}
+use Rattle.gl_run.specs.declared.told.Told.TheVariants as told
 
 pub data Command : Type 0 where
-  -- plays the session of a manifest and a script
-  run_command : Text → Text → Command
+  -- plays the session of a manifest and a script, and tells so much of each turn
+  run_command : Told → Text → Text → Command
   -- shows the canonical spelling of a template
   show_command : Text → Command
   -- writes the wire of a template
   wire_command : Text → Command
   -- checks the application of a manifest
   check_command : Text → Command
+  -- writes the JSON of the wire of a file in version 2
+  migrate_command : Text → Command
   -- plays the session of the sample application of so many rows, and writes how much it is
   sample_command : ℕ → Command
 
 -- the command plays a session
 abbrev pub IsPlay : Option Command → Type 0
-IsPlay (Some (run_command manifest script)) = Unit {0}
+IsPlay (Some (run_command told manifest script)) = Unit {0}
 IsPlay (Some (sample_command rows)) = Unit {0}
 IsPlay _ = ⊥
 
@@ -39,20 +43,28 @@ file_command word file =
     if bytes_eq word (codes "show") then Some (show_command file)
     else (if bytes_eq word (codes "wire") then Some (wire_command file)
     else (if bytes_eq word (codes "check") then Some (check_command file)
-    else (if bytes_eq word (codes "sample") then option_map sample_command (rows_in file) else None)))
+    else (if bytes_eq word (codes "migrate") then Some (migrate_command file)
+    else (if bytes_eq word (codes "sample") then option_map sample_command (rows_in file) else None))))
+
+-- the commands of two files
+abbrev pub session_command : Text → Text → Text → Option Command
+session_command word manifest script =
+    if bytes_eq word (codes "run") then Some (run_command told.Alone manifest script)
+    else (if bytes_eq word (codes "work") then Some (run_command told.WithWork manifest script) else None)
 
 -- A command stands at the first place, and its files or its number at the next ones.
 unfoldable pub command_of : List Text → Option Command
 command_of (word ∷ file ∷ []) = file_command word file
-command_of (word ∷ manifest ∷ script ∷ []) = if bytes_eq word (codes "run") then Some (run_command manifest script) else None
+command_of (word ∷ manifest ∷ script ∷ []) = session_command word manifest script
 command_of _ = None
 
 -- the command that the code's one stands for
 abbrev pub seen_command : code.Command → Command
-seen_command (v.Run manifest script) = run_command (chars manifest.now) (chars script.now)
+seen_command (v.Run told manifest script) = run_command told (chars manifest.now) (chars script.now)
 seen_command (v.Show template) = show_command (chars template.now)
 seen_command (v.Wire template) = wire_command (chars template.now)
 seen_command (v.Check manifest) = check_command (chars manifest.now)
+seen_command (v.Migrate file) = migrate_command (chars file.now)
 seen_command (v.Sample rows) = sample_command rows
 
 -- a sample that is asked for has so many rows as there may be

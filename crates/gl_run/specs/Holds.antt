@@ -10,7 +10,7 @@ use Rattle.gl_opc.specs.IsApp.{IsAppWith}
 use Rattle.gl_opc.specs.declared.app.App.{App}
 use Rattle.gl_load.specs.Load.{Whole, whole_in}
 use Rattle.gl_load.specs.Refusal.{Refusal}
-use Rattle.gl_session.specs.Standing.{StandsAt}
+use Rattle.gl_session.specs.Standing.{StandsAt, Counts}
 use Rattle.gl_session.specs.declared.session.Session.{Session}
 use Rattle.gl_run.specs.Command.{Command, run_command, sample_command}
 use Rattle.gl_run.specs.Sample.{sample_whole}
@@ -24,11 +24,13 @@ state_after s (t ∷ ts) = state_after t.state ts
 abbrev pub last_state : a.App → List a.Event → State
 last_state app events = state_after first_state (session app events).turns
 
--- the session stands where a session of this application, with these templates, ends over the events
-abbrev pub EndsAt : Session → App → List Body → List a.Event → Type 0
-EndsAt held app templates events = StandsAt held app templates (last_state (app_of (manifest_view app.manifest) templates) events)
+-- The session stands where a session of this application, with these templates, ends over the events, and its counts are the work of all
+-- turns of that.
+pub record EndsAt (held : Session) (app : App) (templates : List Body) (events : List a.Event) : Type 0 where
+  pub stands : StandsAt held app templates (last_state (app_of (manifest_view app.manifest) templates) events)
+  pub counts : Counts held (session (app_of (manifest_view app.manifest) templates) events).turns
 
--- what was loaded is an application with its events, and the session stands where theirs ends
+-- what was loaded is an application with its events, and the session stands where theirs ends, with its counts
 abbrev pub EndsWith : Session → Result Whole Refusal → Type 0
 EndsWith held (Err r) = ⊥
 EndsWith held (Ok whole) =
@@ -39,8 +41,8 @@ abbrev pub HoldsOf : Option Session → Result Whole Refusal → Type 0
 HoldsOf None loaded = ⊥
 HoldsOf (Some held) loaded = EndsWith held loaded
 
--- What is held after a command that ended well: after a run or a sample the session that made the turns.
+-- What is held after a command that ended well: after one that plays a session the session that made the turns.
 abbrev pub Holds : Option Command → List Entry → Option Session → Type 0
-Holds (Some (run_command manifest script)) files held = HoldsOf held (whole_in files manifest script)
+Holds (Some (run_command told manifest script)) files held = HoldsOf held (whole_in files manifest script)
 Holds (Some (sample_command rows)) files held = HoldsOf held (sample_whole rows)
 Holds _ files held = Unit {0}

@@ -8,3 +8,4 @@ pub mod Reached
 pub mod Run
 pub mod Sample
 pub mod Status
+pub mod Told

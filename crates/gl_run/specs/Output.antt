@@ -5,27 +5,32 @@ use Rattle.gl_base.specs.Taking.{Takes, TakesFront, TakesSome}
 use Rattle.gl_value.specs.Quote.{quoted}
 use Rattle.gl_outside.specs.Shelf.{Entry}
 use Rattle.gl_wire.specs.Json.{wire_text}
+use Rattle.gl_wire.specs.Wire.{Wire}
 use Rattle.gl_wire.specs.WireOf.{wire_of}
+use Rattle.gl_wirein.specs.Answer.{wire_in}
 use Rattle.gl_ast.specs.Canon.{canonical}
 use Rattle.gl_ast.specs.Template.{Body}
-use Rattle.gl_run.specs.Command.{Command, run_command, show_command, wire_command, check_command, sample_command, command_of}
+use Rattle.gl_run.specs.Command.{Command, run_command, show_command, wire_command, check_command, migrate_command, sample_command, command_of}
 use Rattle.gl_load.specs.Refusal.{Cause, absent, too_long, not_json, bad_shape, bad_expression, not_in_grammar, unknown_name, getter_cycle, unknown_field, Refusal, ◌>>=◌}
 use Rattle.gl_meaning.specs.Known.{Kind, component_kind, helper_kind, modifier_kind, member_kind, local_kind, field_kind}
 use Rattle.gl_meaning.specs.Manifest.{app_of}
 use Rattle.gl_meaning.specs.App.{App, Event}
 use Rattle.gl_meaning.specs.Session.{Turn, Session, session}
 use Rattle.gl_load.specs.Load.{Parts, Whole, app_in, whole_in}
-use Rattle.gl_run.specs.Load.{tree_in}
+use Rattle.gl_run.specs.Load.{tree_in, json_in}
 use Rattle.gl_run.specs.Sample.{sample_whole, sample_line}
+use Rattle.gl_run.specs.Told.{told_texts}
+use Rattle.gl_run.specs.declared.told.Told.{Told}
 use Rattle.gl_run.specs.declared.status.Status.{Status}
 use Rattle.gl_run.specs.declared.status.Status.TheVariants as status
 
--- what the line on `err` tells: nothing, that the words are no command, a refusal, or the turn that components nest too deep for,
--- with the limit
+-- what the line on `err` tells: nothing, that the words are no command, a refusal, that no wire has the JSON of a file, or the turn that
+-- components nest too deep for, with the limit
 pub data Message : Type 0 where
   no_message : Message
   no_command : Message
   refused : Refusal → Message
+  bad_wire : Text → Message
   too_deep : ℕ → ℕ → Message
 
 -- the texts that `out` gets, what the line on `err` tells, and the status
@@ -43,6 +48,10 @@ absent_line file = file_line file (codes ": absent\n")
 
 abbrev pub too_long_line : Text → Text
 too_long_line file = file_line file (codes ": longer than 16777216 bytes\n")
+
+-- no wire has the JSON of the file
+abbrev pub wire_refusal : Text → Text
+wire_refusal file = file_line file (codes ": bad wire\n")
 
 -- the byte is counted from 0
 abbrev pub grammar_line : Text → ℕ → Text
@@ -100,13 +109,14 @@ abbrev pub message_line : Message → Text
 message_line no_message = []
 message_line no_command = usage_line
 message_line (refused r) = refusal_line r.file r.cause
+message_line (bad_wire file) = wire_refusal file
 message_line (too_deep turn limit) = limit_line turn limit
 
 -- the canonical spelling and a line feed
 abbrev pub shown_text : Body → Text
 shown_text tree = canonical tree ++ codes "\n"
 
--- the text of the JSON of the wire, and a line feed
+-- the text of the JSON of the wire in version 2, and a line feed
 abbrev pub wire_line : Body → Text
 wire_line tree = wire_text (wire_of tree) ++ codes "\n"
 
@@ -118,26 +128,31 @@ classes_line parts = codes "classes " ++ (decimal (length parts.manifest.classes
 abbrev pub written : List Text → Output
 written texts = record { texts = texts; message = no_message; status = status.Done }
 
+-- the text of the JSON of a wire in version 2, and a line feed; where no wire was found the file is refused
+abbrev pub migrated : Text → Option Wire → Output
+migrated file None = record { texts = []; message = bad_wire file; status = status.Refused }
+migrated file (Some w) = written ((wire_text w ++ codes "\n") ∷ [])
+
 -- the texts, and where the session stopped at a turn its line
 abbrev pub stopped_at : ℕ → Option ℕ → List Text → Output
 stopped_at limit None texts = written texts
 stopped_at limit (Some turn) texts = record { texts = texts; message = too_deep turn limit; status = status.NestingLimit }
 
-abbrev pub turn_texts : List Turn → List Text
-turn_texts turns = map (λ t. t.text) turns
-
--- a session that is played: the texts of its turns
-abbrev pub played : ℕ → Session → Output
-played limit s = stopped_at limit s.stopped (turn_texts s.turns)
+-- a session that is played: what is told of its turns
+abbrev pub played : Told → ℕ → Session → Output
+played told limit s = stopped_at limit s.stopped (told_texts told s.turns)
 
 -- the session of an application over some events
-abbrev pub played_app : App → List Event → Output
-played_app app events = played app.limit (session app events)
+abbrev pub played_app : Told → App → List Event → Output
+played_app told app events = played told app.limit (session app events)
 
 -- the texts in one line; where the session stopped at a turn nothing but its line on `err`
 abbrev pub summed_at : ℕ → Option ℕ → List Text → Output
 summed_at limit None texts = written (sample_line texts ∷ [])
 summed_at limit (Some turn) texts = record { texts = []; message = too_deep turn limit; status = status.NestingLimit }
+
+abbrev pub turn_texts : List Turn → List Text
+turn_texts turns = map (λ t. t.text) turns
 
 -- a session that is played, of which the sums are written
 abbrev pub summed : ℕ → Session → Output
@@ -149,13 +164,14 @@ summed_app app events = summed app.limit (session app events)
 abbrev pub app_in_whole : Whole → App
 app_in_whole whole = app_of whole.parts.manifest whole.parts.templates
 
--- What a command gives, where nothing is refused: `run` the texts of the turns, the others one text. `check` loads no script, and
+-- What a command gives, where nothing is refused: `run` and `work` a text for each turn, the others one text. `check` loads no script, and
 -- `sample` looks at no file but its own.
 abbrev pub outcome_of : Command → List Entry → Result Output Refusal
-outcome_of (run_command manifest script) files = whole_in files manifest script >>= λ whole. Ok (played_app (app_in_whole whole) whole.events)
+outcome_of (run_command told manifest script) files = whole_in files manifest script >>= λ whole. Ok (played_app told (app_in_whole whole) whole.events)
 outcome_of (show_command template) files = tree_in files template >>= λ tree. Ok (written (shown_text tree ∷ []))
 outcome_of (wire_command template) files = tree_in files template >>= λ tree. Ok (written (wire_line tree ∷ []))
 outcome_of (check_command manifest) files = app_in files manifest >>= λ parts. Ok (written (classes_line parts ∷ []))
+outcome_of (migrate_command file) files = json_in files file >>= λ d. Ok (migrated file (wire_in d))
 outcome_of (sample_command rows) files = sample_whole rows >>= λ whole. Ok (summed_app (app_in_whole whole) whole.events)
 
 -- where a command is refused, nothing is written

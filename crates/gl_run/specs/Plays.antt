@@ -10,8 +10,12 @@ use Rattle.gl_meaning.specs.View.{manifest_view}
 use Rattle.gl_opc.specs.IsApp.{IsAppWith}
 use Rattle.gl_opc.specs.declared.app.App.{App}
 use Rattle.gl_session.specs.Standing.{StandsAt, Starts, Turns}
+use Rattle.gl_session.specs.Turn.{work_view, added}
+use Rattle.gl_session.specs.declared.turn.Turn.{Turn}
 use Rattle.gl_session.specs.declared.session.Session.{Session}
 use Rattle.gl_run.specs.Output.{Output, too_deep}
+use Rattle.gl_run.specs.Told.{seen_text}
+use Rattle.gl_run.specs.declared.told.Told.{Told}
 use Rattle.gl_run.specs.declared.fault.PlayFault.{PlayFault}
 use Rattle.gl_run.specs.declared.fault.PlayFault.TheVariants as v
 use Rattle.gl_run.specs.declared.status.Status.TheVariants as status
@@ -56,21 +60,24 @@ TurnStops session e turn most (v.NestingLimit number limit) =
 TurnStops session e turn most v.WriteFault = ⊥
 TurnStops session e turn most v.Memory = Unit {0}
 
--- the session of an application, with whichever templates it is one, stands after turn 0, which has this text
-abbrev pub IsStart : App → Session → Text → Type 0
-IsStart app held text = (templates : List Body) → IsAppWith (manifest_view app.manifest) templates app.programs → Starts app templates held text
+-- The session of an application, with whichever templates it is one, stands after turn 0, of which this is told, and counts its work.
+pub record IsStart (app : App) (held : Session) (made : Turn) : Type 0 where
+  pub stands : (templates : List Body) → IsAppWith (manifest_view app.manifest) templates app.programs → Starts app templates held made
+  pub counts : held.counts ≡ made.work
 
--- wherever the session stood, it now stands after the turn of the event, which has this text
-abbrev pub IsTurn : Session → Event → Session → Text → Type 0
-IsTurn held e new text = (app : App) (templates : List Body) (s : State) → StandsAt held app templates s → Turns app templates s e new text
+-- Wherever the session stood, it now stands after the turn of the event, of which this is told, and counts its work too.
+pub record IsTurn (held : Session) (e : Event) (new : Session) (made : Turn) : Type 0 where
+  pub stands : (app : App) (templates : List Body) (s : State) → StandsAt held app templates s → Turns app templates s e new made
+  pub counts : work_view new.counts ≡ added (work_view held.counts) (work_view made.work)
 
--- What is left where a session was to be started and the text of turn 0 put: both was done; or there is no such turn; or the put failed.
-abbrev pub Opens : App → Result Session PlayFault → Option (List ℕ) → Option (List ℕ) → Type 0
-Opens app (Ok held) old new = (text : Text) × IsStart app held text × Takes old new (bytes_of text)
-Opens app (Err f) old new = (StartStops app f × (new ≡ old)) ⊎ ((held : Session) × (text : Text) × IsStart app held text × PutFails f old new text)
+-- What is left where a session was to be started and turn 0 told: both was done; or there is no such turn; or it wasn't told.
+abbrev pub Opens : Told → App → Result Session PlayFault → Option (List ℕ) → Option (List ℕ) → Type 0
+Opens told app (Ok held) old new = (made : Turn) × IsStart app held made × Takes old new (bytes_of (seen_text told made))
+Opens told app (Err f) old new =
+    (StartStops app f × (new ≡ old)) ⊎ ((held : Session) × (made : Turn) × IsStart app held made × PutFails f old new (seen_text told made))
 
 -- the same of the turn of an event, which has this number
-abbrev pub GoesOn : {X : Type 0} → Result X PlayFault → Session → Session → Event → ℕ → ℕ → Option (List ℕ) → Option (List ℕ) → Type 0
-GoesOn (Ok x) held new_held e turn most old new = (text : Text) × IsTurn held e new_held text × Takes old new (bytes_of text)
-GoesOn (Err f) held new_held e turn most old new =
-    (TurnStops held e turn most f × (new ≡ old)) ⊎ ((text : Text) × IsTurn held e new_held text × PutFails f old new text)
+abbrev pub GoesOn : {X : Type 0} → Told → Result X PlayFault → Session → Session → Event → ℕ → ℕ → Option (List ℕ) → Option (List ℕ) → Type 0
+GoesOn told (Ok x) held new_held e turn most old new = (made : Turn) × IsTurn held e new_held made × Takes old new (bytes_of (seen_text told made))
+GoesOn told (Err f) held new_held e turn most old new =
+    (TurnStops held e turn most f × (new ≡ old)) ⊎ ((made : Turn) × IsTurn held e new_held made × PutFails f old new (seen_text told made))

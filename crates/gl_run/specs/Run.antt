@@ -3,14 +3,14 @@ use Rattle.std.specs.Prelude.{◌≡◌, ◌<◌, ◌⊎◌, ℕ, List, [], ◌�
 use Rattle.gl_base.specs.Texts.{Text, bytes_of, joined}
 use Rattle.gl_base.specs.Taking.{Takes}
 use Rattle.gl_outside.specs.Shelf.{Entry}
-use Rattle.gl_run.specs.Command.{Command, run_command, show_command, wire_command, check_command, sample_command}
+use Rattle.gl_run.specs.Command.{Command, run_command, show_command, wire_command, check_command, migrate_command, sample_command}
 use Rattle.gl_meaning.specs.View.{kind_view}
 use Rattle.gl_load.specs.Load.{app_fetched, whole_fetched}
 use Rattle.gl_load.specs.Loads as l
 use Rattle.gl_load.specs.Loads.{IsAmong}
 use Rattle.gl_load.specs.declared.fault.LoadCause.{LoadCause}
 use Rattle.gl_load.specs.declared.fault.LoadCause.TheVariants as cause
-use Rattle.gl_run.specs.Output.{Output, message_line, file_line, absent_line, too_long_line, shape_line, expression_line, grammar_line, unknown_line, cycle_line, field_line, limit_line, usage_line}
+use Rattle.gl_run.specs.Output.{Output, message_line, file_line, absent_line, too_long_line, wire_refusal, shape_line, expression_line, grammar_line, unknown_line, cycle_line, field_line, limit_line, usage_line}
 use Rattle.gl_run.specs.declared.status.Status.{Status}
 use Rattle.gl_run.specs.declared.status.Status.TheVariants as status
 use Rattle.gl_run.specs.declared.fault.PlayFault.{PlayFault}
@@ -32,6 +32,7 @@ abbrev pub status_of : Ending → Status
 status_of (Ok x) = status.Done
 status_of (Err v.Usage) = status.Usage
 status_of (Err (v.Load fault)) = file_status fault.cause
+status_of (Err (v.BadWire file)) = status.Refused
 status_of (Err (v.NestingLimit turn limit)) = status.NestingLimit
 status_of (Err v.WriteFault) = status.WriteFault
 status_of (Err v.Memory) = status.NoMemory
@@ -58,6 +59,7 @@ abbrev pub line_of : Ending → Text
 line_of (Ok x) = []
 line_of (Err v.Usage) = usage_line
 line_of (Err (v.Load fault)) = cause_line fault.file fault.cause
+line_of (Err (v.BadWire file)) = wire_refusal file
 line_of (Err (v.NestingLimit turn limit)) = limit_line turn limit
 line_of (Err v.WriteFault) = codes "write fault\n"
 line_of (Err v.Memory) = memory_line
@@ -72,10 +74,11 @@ HasCause ending misses misses_now faults faults_now writes writes_now = Unit {0}
 -- the files that a command has fetched, in order; a sample has its own files
 abbrev pub fetched_by : Option Command → List Entry → List Text
 fetched_by None files = []
-fetched_by (Some (run_command manifest script)) files = whole_fetched files manifest script
+fetched_by (Some (run_command told manifest script)) files = whole_fetched files manifest script
 fetched_by (Some (show_command template)) files = template ∷ []
 fetched_by (Some (wire_command template)) files = template ∷ []
 fetched_by (Some (check_command manifest)) files = app_fetched files manifest
+fetched_by (Some (migrate_command file)) files = file ∷ []
 fetched_by (Some (sample_command rows)) files = []
 
 -- Over a shelf that tells its files: the line on a file is the output's, where no device and no memory failed; a file that
@@ -102,8 +105,13 @@ play_ending (play.NestingLimit turn limit) = v.NestingLimit turn limit
 play_ending play.WriteFault = v.WriteFault
 play_ending play.Memory = v.Memory
 
+-- no wire has the JSON of the file of this name; or memory is wanting
+abbrev pub IsBadWire : Text → RunFault → Type 0
+IsBadWire name fault = (fault ≡ v.BadWire name) ⊎ (fault ≡ v.Memory)
+
 -- a run that loads nothing has written nothing
 abbrev pub Untouched : Ending → Option (List ℕ) → Option (List ℕ) → Type 0
 Untouched (Err v.Usage) old new = new ≡ old
 Untouched (Err (v.Load fault)) old new = new ≡ old
+Untouched (Err (v.BadWire file)) old new = new ≡ old
 Untouched ending old new = Unit {0}

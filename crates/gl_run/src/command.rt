@@ -4,19 +4,37 @@ ghost use Rattle.std.specs.Str.{chars, bytes_eq};
 ghost use Rattle.gl_value.specs.Index.{HasPlainStart};
 ghost use Rattle.gl_run.specs.Command.{command_of, seen_command, sample_command, rows_in, IsSized};
 
+use crate::told::Told;
+
 /// What the words ask for; files are given by their names.
 #[derive(Clone, Copy)]
 pub enum Command<'a> {
-    /// Plays the session of a manifest and a script.
-    Run { manifest: &'a str, script: &'a str },
+    /// Plays the session of a manifest and a script, and tells so much of each turn.
+    Run {
+        told: Told,
+        manifest: &'a str,
+        script: &'a str,
+    },
     /// Shows the canonical spelling of a template.
-    Show { template: &'a str },
+    Show {
+        template: &'a str,
+    },
     /// Writes the wire of a template.
-    Wire { template: &'a str },
+    Wire {
+        template: &'a str,
+    },
     /// Checks the application of a manifest.
-    Check { manifest: &'a str },
+    Check {
+        manifest: &'a str,
+    },
+    /// Writes the JSON of the wire of a file in version 2.
+    Migrate {
+        file: &'a str,
+    },
     /// Plays the session of the sample application of so many rows.
-    Sample { rows: u32 },
+    Sample {
+        rows: u32,
+    },
 }
 
 // Whether the word is the command `run`.
@@ -25,6 +43,14 @@ fn is_run(word: &str) -> bool
     ensures { result ≡ bytes_eq (chars word.now) (codes "run") }
 {
     word == "run"
+}
+
+// Whether the word is the command `work`.
+#[tactic(auto, using(crate::proofs::Words::word_is))]
+fn is_work(word: &str) -> bool
+    ensures { result ≡ bytes_eq (chars word.now) (codes "work") }
+{
+    word == "work"
 }
 
 // Whether the word is the command `show`.
@@ -49,6 +75,14 @@ fn is_check(word: &str) -> bool
     ensures { result ≡ bytes_eq (chars word.now) (codes "check") }
 {
     word == "check"
+}
+
+// Whether the word is the command `migrate`.
+#[tactic(auto, using(crate::proofs::Words::word_is))]
+fn is_migrate(word: &str) -> bool
+    ensures { result ≡ bytes_eq (chars word.now) (codes "migrate") }
+{
+    word == "migrate"
 }
 
 // Whether the word is the command `sample`.
@@ -119,8 +153,15 @@ pub fn command_of<'a>(words: &[&'a str]) -> Option<Command<'a>>
         [word, manifest] if is_check(word) => Some(Command::Check {
             manifest: *manifest,
         }),
+        [word, file] if is_migrate(word) => Some(Command::Migrate { file: *file }),
         [word, rows] if is_sample(word) => sample_of(*rows),
         [word, manifest, script] if is_run(word) => Some(Command::Run {
+            told: Told::Alone,
+            manifest: *manifest,
+            script: *script,
+        }),
+        [word, manifest, script] if is_work(word) => Some(Command::Run {
+            told: Told::WithWork,
             manifest: *manifest,
             script: *script,
         }),

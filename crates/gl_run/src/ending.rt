@@ -24,6 +24,9 @@ pub enum RunFault {
     /// A file is refused or can't be read, or memory is wanting.
     #[error("{0}")]
     Load(LoadFault),
+    /// No wire has the JSON of the file.
+    #[error("bad wire")]
+    BadWire { file: Text },
     /// A component would stand deeper than the application's limit says, in the turn of that number.
     #[error("turn {turn}: nesting limit {limit}")]
     NestingLimit { turn: u64, limit: u32 },
@@ -86,6 +89,7 @@ pub fn status_of(ending: &Result<(), RunFault>) -> Status
         Ok(()) => Status::Done,
         Err(RunFault::Usage) => Status::Usage,
         Err(RunFault::Load(fault)) => status_of_file(&fault.cause),
+        Err(RunFault::BadWire { .. }) => Status::Refused,
         Err(RunFault::NestingLimit { .. }) => Status::NestingLimit,
         Err(RunFault::WriteFault) => Status::WriteFault,
         Err(RunFault::Memory) => Status::NoMemory,
@@ -204,6 +208,7 @@ fn say_ending<E: Sink>(err: &mut E, ending: &Result<(), RunFault>) -> bool
         Ok(()) => true,
         Err(RunFault::Usage) => say_ascii(err, true, "bad command line\n"),
         Err(RunFault::Load(fault)) => say_cause(err, &fault.file, &fault.cause),
+        Err(RunFault::BadWire { file }) => say_of_file(err, file, ": bad wire\n"),
         Err(RunFault::NestingLimit { turn, limit }) => say_limit(err, *turn, *limit),
         Err(RunFault::WriteFault) => say_ascii(err, true, "write fault\n"),
         Err(RunFault::Memory) => say_ascii(err, true, "out of memory\n"),

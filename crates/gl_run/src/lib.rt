@@ -7,10 +7,12 @@ mod fault;
 mod last;
 mod line;
 mod load;
+mod migrate;
 mod playing;
 mod sample;
 mod show;
 mod status;
+mod told;
 mod top;
 
 pub use ending::RunFault;

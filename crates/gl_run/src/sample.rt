@@ -7,10 +7,11 @@ ghost use Rattle.gl_meaning.specs.Manifest.{app_of};
 ghost use Rattle.gl_meaning.specs.Session.{session};
 ghost use Rattle.gl_meaning.specs.View.{manifest_view, script_view, event_view};
 ghost use Rattle.gl_opc.specs.IsApp.{IsAppWith};
-ghost use Rattle.gl_session.specs.Standing.{Starts, Turns, StandsAt, IsReady};
+ghost use Rattle.gl_session.specs.Standing.{IsReady};
 ghost use Rattle.gl_load.specs.View.{whole_view};
 ghost use Rattle.gl_run.specs.Command.{sample_command};
 ghost use Rattle.gl_run.specs.Holds.{EndsAt, EndsWith};
+ghost use Rattle.gl_run.specs.Plays.{IsStart, IsTurn};
 ghost use Rattle.gl_run.specs.Reached.{Counted};
 ghost use Rattle.gl_ast.specs.Template.{Body};
 ghost use Rattle.gl_opc.specs.declared.app.App.{App};
@@ -121,7 +122,7 @@ impl Tally {
 
 // Starts a session, which gives turn 0.
 fn start(alloc: Global, app: App) -> Result<(Session, Turn), AllocError>
-    ensures starts { IfOk result (λ r. (templates : _) → IsAppWith (manifest_view app.manifest) templates app.programs → Starts app templates r.0 r.1.text) }
+    ensures starts { IfOk result (λ r. IsStart app r.0 r.1) }
     ensures ready { IfOk result (λ r. IsReady r.0) }
 {
     match Session::start(alloc, app) {
@@ -133,7 +134,7 @@ fn start(alloc: Global, app: App) -> Result<(Session, Turn), AllocError>
 // The turn of an event.
 fn turn_of(session: &mut Session, event: &Event) -> Result<Turn, AllocError>
     requires { IsReady session.old }
-    ensures turns { IfOk result (λ t. (app : _) (templates : _) (s : _) → StandsAt session.old app templates s → Turns app templates s (event_view event.now) session.new t.text) }
+    ensures turns { IfOk result (λ t. IsTurn session.old (event_view event.now) session.new t) }
     ensures ready { IsReady session.new }
 {
     match session.event(event) {

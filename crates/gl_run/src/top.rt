@@ -13,17 +13,20 @@ ghost use Rattle.gl_run.specs.Run.{Ending, status_of, line_of, HasCause, Tells, 
 use crate::command::{Command, command_of};
 use crate::ending::{RunFault, say_line, status_of};
 use crate::load::template_of;
+use crate::migrate::migrate_wire;
 use crate::playing::{play, put_text};
 use crate::sample::play_sample;
 use crate::show::{write_classes, write_shown, write_wire};
+use crate::told::Told;
 use crate::{Last, Status};
 use gl_load::{load, load_app};
 use gl_outside::{Shelf, Sink};
 use std::alloc::Global;
 
-// Loads an application with its script and plays its session, which is left behind.
+// Loads an application with its script and plays its session, of which so much is told and which is left behind.
 fn play_app<S: Shelf, K: Sink>(
     alloc: Global,
+    told: Told,
     manifest: &str,
     script: &str,
     shelf: &mut S,
@@ -31,9 +34,9 @@ fn play_app<S: Shelf, K: Sink>(
     last: &mut Last,
 ) -> Result<(), RunFault>
     ensures told { (files : List Entry) → S.holds shelf.old ≡ Some files
-        → Answers (status_of result) (K.took out.old) (K.took out.new) (output_or (outcome_of (run_command (chars manifest.now) (chars script.now)) files)) }
+        → Answers (status_of result) (K.took out.old) (K.took out.new) (output_or (outcome_of (run_command told (chars manifest.now) (chars script.now)) files)) }
     ensures tells { (files : List Entry) → S.holds shelf.old ≡ Some files
-        → Tells result (output_or (outcome_of (run_command (chars manifest.now) (chars script.now)) files)) (whole_fetched files (chars manifest.now) (chars script.now)) }
+        → Tells result (output_or (outcome_of (run_command told (chars manifest.now) (chars script.now)) files)) (whole_fetched files (chars manifest.now) (chars script.now)) }
     ensures causes { HasCause result (S.misses shelf.old) (S.misses shelf.new) (S.faults shelf.old) (S.faults shelf.new) (K.faults out.old) (K.faults out.new) }
     ensures untouched { Untouched result (K.took out.old) (K.took out.new) }
     ensures used { IsErrOf result RunFault.Usage → ⊥ }
@@ -42,7 +45,7 @@ fn play_app<S: Shelf, K: Sink>(
     ensures kept { OnErr result (last.new ≡ last.old) }
 {
     let loaded = load(alloc, shelf, manifest, script)?;
-    let session = play(alloc, loaded.app, &loaded.script, out)?;
+    let session = play(alloc, told, loaded.app, &loaded.script, out)?;
     last.hold(session);
     Ok(())
 }
@@ -155,12 +158,17 @@ fn attempt<S: Shelf, K: Sink>(
     ensures limit { status_of result ≡ Status.NestingLimit → IsPlay (command_of (map (λ w. chars w.now) words.now)) }
 {
     match command_of(words) {
-        Some(Command::Run { manifest, script }) => {
-            play_app(alloc, manifest, script, shelf, out, last)
-        }
+        Some(
+            Command::Run {
+                told,
+                manifest,
+                script,
+            },
+        ) => play_app(alloc, told, manifest, script, shelf, out, last),
         Some(Command::Show { template }) => show_template(alloc, template, shelf, out),
         Some(Command::Wire { template }) => wire_template(alloc, template, shelf, out),
         Some(Command::Check { manifest }) => check_app(alloc, manifest, shelf, out),
+        Some(Command::Migrate { file }) => migrate_wire(alloc, file, shelf, out),
         Some(Command::Sample { rows }) => sum_sample(alloc, rows, out, last),
         None => Err(RunFault::Usage),
     }
@@ -168,16 +176,17 @@ fn attempt<S: Shelf, K: Sink>(
 
 /// Does what the words say, over a shelf of files and two sinks, and gives the status.
 ///
-/// The words are `run MANIFEST SCRIPT`, `check MANIFEST`, `show TEMPLATE`, `wire TEMPLATE` or `sample N`, where N is a number from 1 to
-/// 10,000 in decimal; all else is [`Status::Usage`]. For
-/// `run` and `check` the manifest is fetched and read, then the template of each class, then unknown names are sought, and
-/// then cycles of getters. `check` then writes how many classes there are. For `run` the script is fetched and read, before
-/// anything is written; then `out` gets the text of the first turn and of the turn of each event, one put each, up to a turn that
-/// components nest too deep for, which is [`Status::NestingLimit`]. For `show` and `wire` the template is fetched and read, and
-/// `out` gets its canonical spelling, or the text of its wire, and a line feed, in one put. For `sample` nothing is fetched: the session
+/// The words are `run MANIFEST SCRIPT`, `work MANIFEST SCRIPT`, `check MANIFEST`, `show TEMPLATE`, `wire TEMPLATE`, `migrate WIRE` or
+/// `sample N`, where N is a number from 1 to 10,000 in decimal; all else is [`Status::Usage`]. For
+/// `run`, `work` and `check` the manifest is fetched and read, then the template of each class, then unknown names are sought, and
+/// then cycles of getters. `check` then writes how many classes there are. For `run` and `work` the script is fetched and read,
+/// before anything is written; then `out` gets the text of the first turn and of the turn of each event, for `work` with the line of its
+/// work after it, one put each, up to a turn that components nest too deep for, which is [`Status::NestingLimit`]. For `show` and `wire` the template is fetched and read, and
+/// `out` gets its canonical spelling, or the text of its wire, and a line feed, in one put. For `migrate` a file is fetched and its JSON
+/// read as that of a wire in version 1 or 2, and `out` gets the text of the wire's JSON in version 2 and a line feed, in one put. For `sample` nothing is fetched: the session
 /// of the sample application of N rows is played, and `out` gets how many turns it has, how many bytes they are and how many the last is,
 /// in one line and one put. `err` gets the line of the status,
-/// which is none at [`Status::Done`]. After a whole `run` or `sample` the session that made the turns is left in `last`, which is as before
+/// which is none at [`Status::Done`]. After a whole `run`, `work` or `sample` the session that made the turns is left in `last`, which is as before
 /// after all else.
 pub fn run<S: Shelf, K: Sink, E: Sink>(
     alloc: Global,

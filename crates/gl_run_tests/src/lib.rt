@@ -6,8 +6,14 @@
 #[cfg(test)]
 mod load;
 #[cfg(test)]
+mod migrate;
+#[cfg(test)]
 mod outside;
 #[cfg(test)]
 mod run;
 #[cfg(test)]
 mod sessions;
+#[cfg(test)]
+mod stops;
+#[cfg(test)]
+mod works;

@@ -31,7 +31,7 @@ const NULL: &str =
 const NESTED: &str =
     "{\"classes\":{\"My::App2\":{\"fields\":{\"n\":\"\\u0007\\\"\"},\"template\":\"app.hbs\"}},\"root\":\"My::App2\"}";
 
-static ROWS: [Row; 18] = [
+static ROWS: [Row; 20] = [
     (
         "an empty page",
         RUN,
@@ -175,6 +175,22 @@ static ROWS: [Row; 18] = [
         Status::Refused,
         "",
         "\"a\\\"\\u{1f}\u{e9}\\n\": absent\n",
+    ),
+    (
+        "the work of no script",
+        &["work", "m.json"],
+        [ONE, "", "[]"],
+        Status::Usage,
+        "",
+        "bad command line\n",
+    ),
+    (
+        "the work of too many words",
+        &["work", "m.json", "s.json", "app.hbs"],
+        [ONE, "", "[]"],
+        Status::Usage,
+        "",
+        "bad command line\n",
     ),
     (
         "no such command",
@@ -578,7 +594,7 @@ static WIRES: [Row; 4] = [
         WIRE,
         [NONE, "<p title={{@t}}>a</p>", ""],
         Status::Done,
-        "{\"body\":[[\"el\",\"p\",[[\"dyn\",\"title\",[\"sym\",0]]]],[\"text\",\"a\"],[\"end\"]],\"symbols\":[\"@t\"],\"v\":1}\n",
+        "{\"body\":[[\"el\",\"p\",[[\"dyn\",\"title\",[\"sym\",0]]]],[\"text\",\"a\"],[\"end\"]],\"symbols\":[\"@t\"],\"v\":2}\n",
         "",
     ),
     (
@@ -586,7 +602,7 @@ static WIRES: [Row; 4] = [
         WIRE,
         [NONE, "{{#let 1 as |a|}}{{a}}{{/let}}", ""],
         Status::Done,
-        "{\"body\":[[\"let\",[[\"lit\",1]],[0]],[\"put\",[\"sym\",0]],[\"end\"]],\"symbols\":[\"a\"],\"v\":1}\n",
+        "{\"body\":[[\"let\",[[\"lit\",1]],[0]],[\"put\",[\"sym\",0]],[\"end\"]],\"symbols\":[\"a\"],\"v\":2}\n",
         "",
     ),
     (

@@ -7,3 +7,4 @@ mod Laid
 mod Next
 mod Turns
 mod Counts
+mod Alive

@@ -21,6 +21,7 @@ use Rattle.gl_machine.specs.Step.{run_for_as}
 use Rattle.gl_vm.specs.View.{state_of}
 use Rattle.gl_vm.specs.Steps.{Follows}
 use Rattle.gl_vm.specs.declared.vm.Vm.{Vm}
+use Rattle.gl_kept.specs.Between.{moved_between}
 use Rattle.gl_follows.specs.Sets.{put_all, held_of, AreOwn}
 use Rattle.gl_append.specs.CodeView.{seen_code}
 use Rattle.gl_append.specs.Stepping.{env_of}
@@ -73,7 +74,7 @@ module _ (a : App) (templates : List Body) (rises : NamesRise (manifest_view a.m
   Answers k = renew_root_code_as by_number (env_of a templates).app.limit (run_for_as by_number (env_of a templates) [] k) (seen_code (tables_of (manifest_view a.manifest)) page.code) laid
 
   made : (k : ℕ) (r : PlainCode × State) → Answers k ≡ ok r
-      → Made (env_of a templates) s (Some e) (ended_lines (env_of a templates).app (state_of (tables_of (manifest_view a.manifest)) page.vm x.touched) (live_of (seen_code (tables_of (manifest_view a.manifest)) page.code)) (live_of r.0)) r.0 r.1
+      → Made (env_of a templates) s (Some e) (ended_lines (env_of a templates).app (state_of (tables_of (manifest_view a.manifest)) page.vm x.touched) (live_of (seen_code (tables_of (manifest_view a.manifest)) page.code)) (live_of r.0)) (moved_between (live_of (seen_code (tables_of (manifest_view a.manifest)) page.code)) (live_of r.0)) r.0 r.1
   made k r is =
       next_made (env_of a templates) is_lowered differ s e x.reached (seen_code (tables_of (manifest_view a.manifest)) page.code) (state_of (tables_of (manifest_view a.manifest)) page.vm x.touched)
       x.placed x.follows (puts_of (world_of a templates page s x) sets) own held k r
@@ -84,6 +85,7 @@ module _ (a : App) (templates : List Body) (rises : NamesRise (manifest_view a.m
     pub renewed : (page' : Page) → Renews a [] (λ n run. renew_root_code_as by_number a.manifest.limit run (seen_code n page.code)) mid (λ n. seen_code n page'.code) page'.vm
         → (r : State) × Follows (tables_of (manifest_view a.manifest)) r page'.vm
         × Made (env_of a templates) s (Some e) (ended_lines (env_of a templates).app (state_of (tables_of (manifest_view a.manifest)) page.vm x.touched) (live_of (seen_code (tables_of (manifest_view a.manifest)) page.code)) (live_of (seen_code (tables_of (manifest_view a.manifest)) page'.code)))
+        (moved_between (live_of (seen_code (tables_of (manifest_view a.manifest)) page.code)) (live_of (seen_code (tables_of (manifest_view a.manifest)) page'.code)))
         (seen_code (tables_of (manifest_view a.manifest)) page'.code) r
     renewed page' h =
         let r = h templates rises laid.touched begun.agrees in (

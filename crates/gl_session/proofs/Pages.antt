@@ -1,5 +1,6 @@
 -- A page that is appended, and one that is updated, stand in the session's states.
-use Rattle.std.proofs.Common.{◌≡◌, codes, List, [], ◌++◌, flat_map, Option, refl, sym, ap, ◌∙◌, subst, append_assoc}
+use Rattle.std.proofs.Common.{◌≡◌, ℕ, ◌+◌, ◌-◌, codes, List, [], ◌++◌, flat_map, length, Option, refl, sym, ap, ◌∙◌, subst, append_assoc, arith}
+use Rattle.std.proofs.lemmas.List.{length-map}
 use Rattle.gl_base.specs.Texts.{Text}
 use Rattle.gl_ast.specs.Template.{Body}
 use Rattle.gl_meaning.specs.App as m
@@ -9,11 +10,12 @@ use Rattle.gl_meaning.specs.Laws.{Reached}
 use Rattle.gl_meaning.specs.Session.{first_state, applied}
 use Rattle.gl_meaning.specs.View.{manifest_view}
 use Rattle.gl_opc.specs.declared.app.App.{App}
+use Rattle.gl_arena.specs.Id.{Id}
 use Rattle.gl_nodes.specs.Tree.{node_at}
 use Rattle.gl_nodes.specs.Flat.{IsFlat}
 use Rattle.gl_print.specs.Lines.{lines}
 use Rattle.gl_mods.specs.Mods.{IsSound}
-use Rattle.gl_plain.specs.Ids.{node as node_id}
+use Rattle.gl_plain.specs.Ids.{a_node, node as node_id}
 use Rattle.gl_plain.specs.State.{State}
 use Rattle.gl_plain.specs.Live.{Live}
 use Rattle.gl_machine.specs.Code.{live_of}
@@ -29,6 +31,9 @@ use Rattle.gl_append.specs.declared.page.Page.{Page}
 use Rattle.gl_texts.specs.Lines.{nest_lines, shown_lines, installed_lines}
 use Rattle.gl_texts.specs.Laws.{text_of_turn}
 use Rattle.gl_session.specs.Standing.{Goes, app_with}
+use Rattle.gl_session.specs.Turn.{work_view}
+use Rattle.gl_session.specs.declared.turn.Turn as told
+use Rattle.gl_session.specs.declared.turn.Work as code
 use Rattle.gl_session.specs.Telling.{committed}
 use Rattle.gl_session.specs.Writing.{told_id}
 use Rattle.gl_session.proofs.Lines.{lines_are, own_in, told_all}
@@ -56,6 +61,12 @@ still_follows app s st l x = record {
 pieces : (h x l d z : Text) → (h ++ (x ++ l)) ++ (d ++ z) ≡ h ++ (x ++ (l ++ (d ++ z)))
 pieces h x l d z = append_assoc h (x ++ l) (d ++ z) ∙ ap (λ y. h ++ y) (append_assoc x l (d ++ z))
 
+-- a work is what was evaluated, made since this was the number of the next node, and moved
+pub record Did (page : Page) (first count : ℕ) (work : code.Work) : Type 0 where
+  pub evaluated : work.evaluated ≡ length page.vm.refs.evaluated
+  pub made : work.made ≡ page.vm.tree.nodes.made - first
+  pub moved : work.moved ≡ count
+
 module _ (a : App) (templates : List Body) (page : Page) (s : session.State) (e : Option m.Event) (destroyed : Text) (state : State) where
   names : Tables
   names = tables_of (manifest_view a.manifest)
@@ -66,7 +77,7 @@ module _ (a : App) (templates : List Body) (page : Page) (s : session.State) (e 
       (head ++ (missing ++ lines (node_at page.vm.tree) (λ i. i.1) [] page.vm.tree.forest))
       ++ (destroyed ++ (flat_map (told_id (codes "install ") (tables_of (manifest_view a.manifest)) page.vm) page.vm.mods.installs ++ flat_map (told_id (codes "update ") (tables_of (manifest_view a.manifest)) page.vm) page.vm.mods.updates))
 
-  module _ (x : Made (env_of a templates) s e destroyed (seen_code (tables_of (manifest_view a.manifest)) page.code) state) (y : Follows (tables_of (manifest_view a.manifest)) state page.vm)
+  module _ (moved : ℕ) (x : Made (env_of a templates) s e destroyed moved (seen_code (tables_of (manifest_view a.manifest)) page.code) state) (y : Follows (tables_of (manifest_view a.manifest)) state page.vm)
       (nested : nest_of page.vm.tree.forest ≡ nest (live_of (seen_code (tables_of (manifest_view a.manifest)) page.code))) where
     live : Live
     live = live_of (seen_code (tables_of (manifest_view a.manifest)) page.code)
@@ -91,12 +102,28 @@ module _ (a : App) (templates : List Body) (page : Page) (s : session.State) (e 
         ∙ (ap (λ st. text_of_turn (app_with a templates) s e st (live_of (seen_code (tables_of (manifest_view a.manifest)) page.code)) destroyed) y.state
         ∙ x.text))))
 
-    pub goes : IsFlat page.vm.tree → IsSound page.vm.mods → Reached (app_with a templates) x.turn.state → (head missing text : Text) → head ≡ head_line s.turn e → missing ≡ missing_lines (applied (app_with a templates) s e).missing
-        → text ≡ written head missing → Goes a templates s e (record page { vm = committed page.vm }) text
-    goes flat sound reached head missing text h q w = record {
+    -- what was evaluated and made, as the page has it
+    evaluated_is : length page.vm.refs.evaluated ≡ x.turn.work.evaluated
+    evaluated_is = sym (length-map page.vm.refs.evaluated (λ (i : Id). i.1)) ∙ (ap (λ (st : State). length st.evaluated) y.state ∙ x.by.evaluated)
+
+    made_is : page.vm.tree.nodes.made ≡ s.numbers.next + x.turn.work.made
+    made_is = ap (λ (st : State). st.next a_node) y.state ∙ x.by.made
+
+    work_is : (work : code.Work) → Did page s.numbers.next moved work → work_view work ≡ x.turn.work
+    work_is work d =
+        let all = d.made in
+        let here = made_is in
+        let made : work.made ≡ x.turn.work.made = omega (arith, all, here) in
+        let evaluated : work.evaluated ≡ x.turn.work.evaluated = d.evaluated ∙ evaluated_is in
+        let moves : work.moved ≡ x.turn.work.moved = d.moved ∙ sym x.moves in
+        λ i. record { evaluated = evaluated i; made = made i; moved = moves i }
+
+    pub goes : IsFlat page.vm.tree → IsSound page.vm.mods → Reached (app_with a templates) x.turn.state → (head missing : Text) (made : told.Turn) → head ≡ head_line s.turn e → missing ≡ missing_lines (applied (app_with a templates) s e).missing
+        → made.text ≡ written head missing → Did page s.numbers.next moved made.work → Goes a templates s e (record page { vm = committed page.vm }) made
+    goes flat sound reached head missing made h q w d = record {
       turn = x.turn;
       is = x.is;
-      told = w ∙ (ap (λ z. written z missing) h ∙ (ap (written (head_line s.turn e)) q ∙ text_is flat sound));
+      told = record { text = w ∙ (ap (λ z. written z missing) h ∙ (ap (written (head_line s.turn e)) q ∙ text_is flat sound)); work = work_is made.work d };
       stands = record {
         touched = state.touched;
         agrees = y.agrees;

@@ -1,8 +1,9 @@
 -- The turns of a page, from what its calls answer.
-use Rattle.std.proofs.Common.{◌≡◌, ℕ, List, [], map, Option, Some, None, refl, sym, ap, ◌∙◌, subst}
+use Rattle.std.proofs.Common.{◌≡◌, ℕ, ◌-◌, List, [], map, Option, Some, None, refl, sym, ap, ◌∙◌, subst}
 use Rattle.gl_base.specs.Texts.{Text}
 use Rattle.gl_ast.specs.Template.{Body}
 use Rattle.gl_meaning.specs.App as m
+use Rattle.gl_meaning.specs.Changes.{Numbers}
 use Rattle.gl_meaning.specs.Laws.{started, stepped}
 use Rattle.gl_meaning.specs.Order.{NamesRise}
 use Rattle.gl_meaning.specs.Print.{head_line, missing_lines}
@@ -34,6 +35,7 @@ use Rattle.gl_append.specs.Tables.{tables_of}
 use Rattle.gl_append.specs.declared.fault.VmFault.{VmFault}
 use Rattle.gl_append.specs.declared.fault.VmFault.TheVariants as fault
 use Rattle.gl_append.specs.declared.page.Page.{Page}
+use Rattle.gl_kept.specs.Between.{moved_between}
 use Rattle.gl_update.specs.Renewing.{Renews, RenewsDeep, RenewFails}
 use Rattle.gl_actions.specs.Sets as acts
 use Rattle.gl_actions.specs.Own.{AreOwnSets}
@@ -47,8 +49,9 @@ use Rattle.gl_session.specs.Laying.{GivensFor, touch_of, touch_all}
 use Rattle.gl_session.specs.declared.laying.Given.{Given}
 use Rattle.gl_session.specs.Standing.{Goes, TurnFails, app_with}
 use Rattle.gl_session.specs.Telling.{committed}
+use Rattle.gl_session.specs.declared.turn.Turn.{Turn}
 use Rattle.gl_session.proofs.Next.{laid, renewed, too_deep}
-use Rattle.gl_session.proofs.Pages.{written, goes}
+use Rattle.gl_session.proofs.Pages.{Did, written, goes}
 use Rattle.gl_session.proofs.Words.{ended_lines, first_made, first_fails}
 
 -- no class of the application repeats a field
@@ -60,11 +63,11 @@ fields_differ a templates r = entries_differ (manifest_view a.manifest).classes 
 -- the page that is appended stands in the state after it, once its log is written
 pub first_goes : (a : App) (templates : List Body) (page : Page) → NamesRise (manifest_view a.manifest) → IsAppWith (manifest_view a.manifest) templates a.programs → Appends a [] page.vm page.code
     → ((n : Tables) → nest_of page.vm.tree.forest ≡ nest (live_of (seen_code n page.code))) → IsFlat page.vm.tree → IsSound page.vm.mods
-    → (state : State) (text : Text) → text ≡ written a templates page first_state None [] state (head_line 0 None) [] → Goes a templates first_state None (record page { vm = committed page.vm }) text
-first_goes a templates page rises lowered appends nested flat sound state text w =
+    → (state : State) (made : Turn) → made.text ≡ written a templates page first_state None [] state (head_line 0 None) [] → Did page 1 0 made.work → Goes a templates first_state None (record page { vm = committed page.vm }) made
+first_goes a templates page rises lowered appends nested flat sound state made w d =
     let x = appends templates rises in
     let y = first_made (env_of a templates) (templates, refl, lowered) (fields_differ a templates rises) x.steps x.root x.numbered (seen_code (tables_of (manifest_view a.manifest)) page.code, x.state) x.is in
-    goes a templates page first_state None [] x.state y x.follows (nested (tables_of (manifest_view a.manifest))) flat sound (started y.is) (head_line 0 None) [] text refl refl w
+    goes a templates page first_state None [] x.state 0 y x.follows (nested (tables_of (manifest_view a.manifest))) flat sound (started y.is) (head_line 0 None) [] made refl refl w d
 
 pub first_is_deep : (a : App) (templates : List Body) → NamesRise (manifest_view a.manifest) → IsAppWith (manifest_view a.manifest) templates a.programs → AppendFails a [] fault.NestingLimit
     → step (app_with a templates) first_state None ≡ None
@@ -87,16 +90,20 @@ module _ (a : App) (templates : List Body) (rises : NamesRise (manifest_view a.m
   pub next_goes : (page' : Page) → Renews a [] (λ n run. renew_root_code_as by_number a.manifest.limit run (seen_code n page.code)) mid (λ n. seen_code n page'.code) page'.vm
       → ((n : Tables) → nest_of page'.vm.tree.forest ≡ nest (live_of (seen_code n page'.code))) → IsFlat page'.vm.tree → IsSound page'.vm.mods
       → (before after : List Ending) → Lists page before → Lists page' after → (d : Text) → Logs a before after d
-      → (state : State) (turn : ℕ) (missing : List ℕ) (text : Text) → turn ≡ s.turn → missing ≡ (applied (env_of a templates).app s (Some e)).missing
-      → text ≡ written a templates page' s (Some e) d state (head_line turn (Some e)) (missing_lines missing) → Goes a templates s (Some e) (record page' { vm = committed page'.vm }) text
-  next_goes page' h nested flat sound before after old new d logs state turn missing text t q w =
+      → (state : State) (turn : ℕ) (missing : List ℕ) (made : Turn) → turn ≡ s.turn → missing ≡ (applied (env_of a templates).app s (Some e)).missing
+      → made.text ≡ written a templates page' s (Some e) d state (head_line turn (Some e)) (missing_lines missing)
+      → (count : ℕ) → ((n : Tables) → count ≡ moved_between (live_of (seen_code n page.code)) (live_of (seen_code n page'.code)))
+      → Did page' page.vm.tree.nodes.made count made.work → Goes a templates s (Some e) (record page' { vm = committed page'.vm }) made
+  next_goes page' h nested flat sound before after old new d logs state turn missing made t q w count moves did' =
       let r = renewed a templates rises lowered (fields_differ a templates rises) page s x e sets givens same owned found mid begun page' h in
       let l' = live_of (seen_code (tables_of (manifest_view a.manifest)) page'.code) in
       let told : d ≡ ended_lines (env_of a templates).app (state_of (tables_of (manifest_view a.manifest)) page.vm x.touched) (live_of (seen_code (tables_of (manifest_view a.manifest)) page.code)) l' =
       logs page page' old new templates x.touched (λ z. has_id z (row_ids (page_rows l'))) (λ z k o. refl) in
+      let first : page.vm.tree.nodes.made ≡ s.numbers.next = ap (λ (ns : Numbers). ns.next) x.follows.numbers in
       goes a templates page' s (Some e) (ended_lines (env_of a templates).app (state_of (tables_of (manifest_view a.manifest)) page.vm x.touched) (live_of (seen_code (tables_of (manifest_view a.manifest)) page.code)) l')
-      r.0 r.2 r.1 (nested (tables_of (manifest_view a.manifest))) flat sound (stepped e x.reached r.2.is) (head_line turn (Some e)) (missing_lines missing) text
+      r.0 (moved_between (live_of (seen_code (tables_of (manifest_view a.manifest)) page.code)) l') r.2 r.1 (nested (tables_of (manifest_view a.manifest))) flat sound (stepped e x.reached r.2.is) (head_line turn (Some e)) (missing_lines missing) made
       (ap (λ k. head_line k (Some e)) t) (ap missing_lines q) (w ∙ ap (λ z. written a templates page' s (Some e) z r.0 (head_line turn (Some e)) (missing_lines missing)) told)
+      (record { evaluated = did'.evaluated; made = did'.made ∙ ap (λ k. page'.vm.tree.nodes.made - k) first; moved = did'.moved ∙ moves (tables_of (manifest_view a.manifest)) })
 
   pub next_is_deep : RenewsDeep {A = PlainCode} a [] (λ n run. renew_root_code_as by_number a.manifest.limit run (seen_code n page.code)) mid → step (app_with a templates) s (Some e) ≡ None
   next_is_deep h = too_deep a templates rises lowered (fields_differ a templates rises) page s x e sets givens same owned found mid begun h
@@ -112,7 +119,7 @@ first_fault a templates rises lowered fault.NestingLimit h = first_is_deep a tem
 first_fault a templates rises lowered fault.Memory h = tt
 
 -- a page with the same parts
-pub goes_as : (a : App) (templates : List Body) (s : session.State) (e : Option m.Event) (new page : Page) (text : Text) → new.vm ≡ committed page.vm → new.code ≡ page.code → Goes a templates s e (record page { vm = committed page.vm }) text → Goes a templates s e new text
-goes_as a templates s e new page text v c g =
+pub goes_as : (a : App) (templates : List Body) (s : session.State) (e : Option m.Event) (new page : Page) (made : Turn) → new.vm ≡ committed page.vm → new.code ≡ page.code → Goes a templates s e (record page { vm = committed page.vm }) made → Goes a templates s e new made
+goes_as a templates s e new page made v c g =
     let same : new ≡ record page { vm = committed page.vm } = λ i. record { vm = v i; code = c i } in
-    subst (λ p. Goes a templates s e p text) (sym same) g
+    subst (λ p. Goes a templates s e p made) (sym same) g

@@ -23,6 +23,8 @@ use Rattle.gl_machine.proofs.Pages.{page_is_renewed}
 use Rattle.gl_follows.specs.Sets.{set_all_by, AreThere, Put, put_all, held_of, AreOwn}
 use Rattle.gl_follows.specs.Turns.{rooted, FollowsBy, TurnBy}
 use Rattle.gl_follows.specs.Laws.{WordsBy}
+use Rattle.gl_kept.specs.Between.{moved_between}
+use Rattle.gl_works.proofs.Moves.{first_moves_none, next_moves_by}
 use Rattle.gl_follows.proofs.Owners.{puts_by}
 use Rattle.gl_follows.proofs.Words.{first_words, puts_words}
 use Rattle.gl_machine.specs.Gone.{has_id, gone, gone_line}
@@ -32,10 +34,11 @@ use Rattle.gl_texts.proofs.Texts.{first_text, next_text}
 use Rattle.gl_texts.proofs.Destroyed.{rows_tell}
 
 -- what a turn of the machine over words makes
-pub record Made (env : Env) (s : session.State) (e : Option Event) (destroyed : Text) (code : Code) (st : State) : Type 0 where
+pub record Made (env : Env) (s : session.State) (e : Option Event) (destroyed : Text) (moved : ℕ) (code : Code) (st : State) : Type 0 where
   pub turn : Turn
   pub is : step env.app s e ≡ Some turn
   pub by : TurnBy env.app s e turn st (live_of code)
+  pub moves : turn.work.moved ≡ moved
   pub placed : PlacedRoot env code
   pub text : text_of_turn env.app s e st (live_of code) destroyed ≡ turn.text
 
@@ -45,10 +48,10 @@ ended_lines app st l l' = flat_map (gone_line app st.look (λ n. n)) (gone (λ q
 
 module _ (env : Env) (lowered : AllLowered env) (differ : FieldsDiffer env.app) where
   pub first_made : (n q : ℕ) → class_number env.manifest env.app.root ≡ Some q → (x : Code × State)
-      → append_page_as by_number env.app.limit env [] (run_for_as by_number env [] n) q rooted ≡ ok x → Made env first_state None [] x.0 x.1
+      → append_page_as by_number env.app.limit env [] (run_for_as by_number env [] n) q rooted ≡ ok x → Made env first_state None [] 0 x.0 x.1
   first_made n q c x is =
       let w : WordsBy env first_state None (ok x) = subst (WordsBy env first_state None) is (first_words env lowered differ n q c) in
-      record { turn = w.0; is = w.1; by = w.2; placed = w.3; text = first_text env.app w.0 w.1 x.1 (live_of x.0) w.2 }
+      record { turn = w.0; is = w.1; by = w.2; moves = first_moves_none env.app w.0 w.1; placed = w.3; text = first_text env.app w.0 w.1 x.1 (live_of x.0) w.2 }
 
   pub first_fails : (n q : ℕ) → class_number env.manifest env.app.root ≡ Some q
       → append_page_as by_number env.app.limit env [] (run_for_as by_number env [] n) q rooted ≡ deep → step env.app first_state None ≡ None
@@ -57,7 +60,7 @@ module _ (env : Env) (lowered : AllLowered env) (differ : FieldsDiffer env.app) 
   module _ (s : session.State) (e : Event) (reached : Reached env.app s) (k : Code) (st : State) (placed : PlacedRoot env k) (f : FollowsBy env.app s st (live_of k))
       (xs : List Put) (own : AreOwn env.app f.named.owner (live_of k) xs) (same : (applied env.app s (Some e)).sets ≡ map (held_of f.named.owner) xs) (n : ℕ) where
     pub next_made : (x : Code × State) → renew_root_code_as by_number env.app.limit (run_for_as by_number env [] n) k (put_all xs (begin st)) ≡ ok x
-        → Made env s (Some e) (ended_lines env.app st (live_of k) (live_of x.0)) x.0 x.1
+        → Made env s (Some e) (ended_lines env.app st (live_of k) (live_of x.0)) (moved_between (live_of k) (live_of x.0)) x.0 x.1
     next_made x is =
         let w : WordsBy env s (Some e) (ok x) = subst (WordsBy env s (Some e)) is (puts_words env lowered differ s e reached k st placed f xs own same n) in
         let y = puts_by env.app s st (live_of k) f xs own in
@@ -72,6 +75,7 @@ module _ (env : Env) (lowered : AllLowered env) (differ : FieldsDiffer env.app) 
           turn = w.0;
           is = w.1;
           by = w.2;
+          moves = next_moves_by env.app differ s e w.0 reached w.1 st (live_of k) f there ∙ ap (λ (z : Live × State). moved_between (live_of k) z.0) (sym r);
           placed = w.3;
           text =
               subst (λ (z : Live × State). text_of_turn env.app s (Some e) z.1 z.0 (ended_lines env.app st (live_of k) z.0) ≡ w.0.text) (sym r)

@@ -3,3 +3,4 @@ pub mod Laying
 pub mod Standing
 pub mod Writing
 pub mod Telling
+pub mod Turn

@@ -1,6 +1,5 @@
 -- What a session stands for.
 use Rattle.std.specs.Prelude.{◌≡◌, List, Option, Some, None}
-use Rattle.gl_base.specs.Texts.{Text}
 use Rattle.gl_ast.specs.Template.{Body}
 use Rattle.gl_meaning.specs.App as m
 use Rattle.gl_meaning.specs.Manifest.{app_of}
@@ -17,6 +16,8 @@ use Rattle.gl_standing.specs.Standing.{StandsIn}
 use Rattle.gl_session.specs.declared.fault.EventFault.{EventFault}
 use Rattle.gl_session.specs.declared.fault.EventFault.TheVariants as event
 use Rattle.gl_session.specs.declared.session.Session.{Session}
+use Rattle.gl_session.specs.declared.turn.Turn.{Turn}
+use Rattle.gl_session.specs.Turn.{TellsTurn, work_view, work_of}
 
 -- the application with these templates, as the meaning has it
 abbrev pub app_with : App → List Body → m.App
@@ -31,24 +32,28 @@ pub record StandsAt (x : Session) (a : App) (templates : List Body) (s : session
   pub turn : x.turn ≡ s.turn
   pub going : x.stopped ≡ None
 
+-- its counts are the work of these turns together
+abbrev pub Counts : Session → List session.Turn → Type 0
+Counts x turns = work_view x.counts ≡ work_of turns
+
 -- a session that was started may go on
 abbrev pub IsReady : Session → Type 0
 IsReady x = Calm x.page.vm
 
--- The page stands in the state after this turn of the meaning's session, which has this text.
-pub record Goes (a : App) (templates : List Body) (s : session.State) (e : Option m.Event) (page : Page) (text : Text) : Type 0 where
+-- The page stands in the state after this turn of the meaning's session, and its text and work are told.
+pub record Goes (a : App) (templates : List Body) (s : session.State) (e : Option m.Event) (page : Page) (made : Turn) : Type 0 where
   pub turn : session.Turn
   pub is : step (app_with a templates) s e ≡ Some turn
-  pub told : text ≡ turn.text
+  pub told : TellsTurn made turn
   pub stands : StandsIn a templates page turn.state
 
--- The session stands in the state after the first turn, which has this text.
-abbrev pub Starts : App → List Body → Session → Text → Type 0
-Starts a templates x text = (t : session.Turn) × (step (app_with a templates) first_state None ≡ Some t) × (text ≡ t.text) × StandsAt x a templates t.state
+-- The session stands in the state after the first turn, the text and work of which are told.
+abbrev pub Starts : App → List Body → Session → Turn → Type 0
+Starts a templates x made = (t : session.Turn) × (step (app_with a templates) first_state None ≡ Some t) × TellsTurn made t × StandsAt x a templates t.state
 
--- The session stands in the state after the turn of the event, which has this text.
-abbrev pub Turns : App → List Body → session.State → m.Event → Session → Text → Type 0
-Turns a templates s e x text = (t : session.Turn) × (step (app_with a templates) s (Some e) ≡ Some t) × (text ≡ t.text) × StandsAt x a templates t.state
+-- The session stands in the state after the turn of the event, the text and work of which are told.
+abbrev pub Turns : App → List Body → session.State → m.Event → Session → Turn → Type 0
+Turns a templates s e x made = (t : session.Turn) × (step (app_with a templates) s (Some e) ≡ Some t) × TellsTurn made t × StandsAt x a templates t.state
 
 -- a component would stand too deep: there is no such turn
 abbrev pub TurnFails : App → List Body → session.State → Option m.Event → VmFault → Type 0

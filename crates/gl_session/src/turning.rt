@@ -1,5 +1,5 @@
 // Turns of a page.
-ghost use Rattle.std.specs.Prelude.{◌≡◌, List, [], Some, None, IfOk, OnOk, IfErr};
+ghost use Rattle.std.specs.Prelude.{◌≡◌, ◌-◌, List, [], Some, None, IfOk, OnOk, IfErr, length};
 ghost use Rattle.gl_meaning.specs.Order.{NamesRise};
 ghost use Rattle.gl_append.specs.Page.{Appends};
 ghost use Rattle.gl_session.specs.Telling.{Tells};
@@ -11,6 +11,7 @@ ghost use Rattle.gl_plain.specs.Naming.{by_number};
 ghost use Rattle.gl_machine.specs.Code.{Code as PlainCode, live_of};
 ghost use Rattle.gl_machine.specs.Root.{renew_root_code_as};
 ghost use Rattle.gl_machine.specs.Shape.{nest};
+ghost use Rattle.gl_kept.specs.Between.{moved_between};
 ghost use Rattle.gl_vm.specs.View.{Calm};
 ghost use Rattle.gl_append.specs.CodeView.{seen_code};
 ghost use Rattle.gl_append.specs.Hung.{nest_of};
@@ -19,6 +20,7 @@ ghost use Rattle.gl_standing.specs.Standing.{StandsIn};
 ghost use Rattle.gl_session.specs.Standing.{Goes, TurnFails};
 
 use crate::laying::{begin_turn, givens_for, lay};
+use crate::turn::{Turn, Work};
 use crate::writing::{front, push_committed};
 use gl_append::{Cells, Page, VmFault, append};
 use gl_events::{Applied, apply};
@@ -30,8 +32,8 @@ use gl_update::update;
 use gl_value::Text;
 use std::alloc::{AllocError, Global};
 
-/// The page that is rendered first, and the text of that turn.
-pub(crate) fn first_turn(alloc: Global, app: &App) -> Result<(Page, Text), VmFault>
+/// The page that is rendered first, and that turn.
+pub(crate) fn first_turn(alloc: Global, app: &App) -> Result<(Page, Turn), VmFault>
     ensures ok { IfOk result (λ r. (templates : List Body) → IsAppWith (manifest_view app.now.manifest) templates app.now.programs → Goes app.now templates session.first_state None r.0 r.1) }
     ensures fails { IfErr result (λ f. (templates : List Body) → IsAppWith (manifest_view app.now.manifest) templates app.now.programs → TurnFails app.now templates session.first_state None f) }
     ensures calm { IfOk result (λ r. Calm r.0.vm) }
@@ -39,13 +41,28 @@ pub(crate) fn first_turn(alloc: Global, app: &App) -> Result<(Page, Text), VmFau
     app.keeps();
     let cells = Cells::new(alloc);
     match append(alloc, app, &cells) {
-        Ok(page) => Ok(first_text(alloc, app, page)?),
+        Ok(page) => Ok(first_made(alloc, app, page)?),
         Err(fault) => Err(fault),
     }
 }
 
-/// The text of the first turn of a page that was appended.
-fn first_text(alloc: Global, app: &App, page: Page) -> Result<(Page, Text), AllocError>
+/// The work of a turn of a page, at the beginning of which this was the number of the next node, and in which so many items were moved.
+fn work_of(page: &Page, first: u128, moved: u128) -> Work
+    ensures evaluated { result.evaluated ≡ length page.now.vm.refs.evaluated }
+    ensures made { result.made ≡ page.now.vm.tree.nodes.made - first }
+    ensures moved { result.moved ≡ moved }
+{
+    let evaluated = page.vm.refs.evaluated().len() as u128;
+    let made = page.vm.tree.upcoming().saturating_sub(first);
+    Work {
+        evaluated,
+        made,
+        moved,
+    }
+}
+
+/// The first turn of a page that was appended.
+fn first_made(alloc: Global, app: &App, page: Page) -> Result<(Page, Turn), AllocError>
     requires appended { Appends app.now [] page.vm page.code }
     requires nodes { (n : _) → nest_of page.vm.tree.forest ≡ nest (live_of (seen_code n page.code)) }
     requires calm { Calm page.vm }
@@ -53,11 +70,12 @@ fn first_text(alloc: Global, app: &App, page: Page) -> Result<(Page, Text), Allo
     ensures calm { IfOk result (λ r. Calm r.0.vm) }
 {
     let mut page = page;
+    let work = work_of(&page, 1, 0);
     page.vm.tree.flat();
     page.vm.mods.sound();
     let mut text = front(alloc, &page.vm.tree, 0, None, &[])?;
     push_committed(&mut text, alloc, app, &mut page.vm)?;
-    Ok((page, text))
+    Ok((page, Turn { text, work }))
 }
 
 /// Whether the nodes of a page stand in its tree as they were rendered: where they don't it answers as for want of memory.
@@ -71,17 +89,21 @@ fn checked(page: &Page) -> Result<(), AllocError>
     }
 }
 
-/// A page that is updated, and whose nodes stand in the tree as they were rendered then.
-fn renew(alloc: Global, app: &App, page: &mut Page) -> Result<(), VmFault>
+/// A page that is updated, and whose nodes stand in the tree as they were rendered then. It answers how many items were moved.
+fn renew(alloc: Global, app: &App, page: &mut Page) -> Result<u128, VmFault>
     requires calm { Calm page.old.vm }
     ensures ok { OnOk result (Renews app.now [] (λ n run. renew_root_code_as by_number app.now.manifest.limit run (seen_code n page.old.code)) page.old.vm (λ n. seen_code n page.new.code) page.new.vm) }
     ensures nodes { OnOk result ((n : _) → nest_of page.new.vm.tree.forest ≡ nest (live_of (seen_code n page.new.code))) }
     ensures fails { IfErr result (RenewFails {A = PlainCode} app.now [] (λ n run. renew_root_code_as by_number app.now.manifest.limit run (seen_code n page.old.code)) page.old.vm) }
+    ensures moved { IfOk result (λ m. (n : _) → m ≡ moved_between (live_of (seen_code n page.old.code)) (live_of (seen_code n page.new.code))) }
     ensures calm { Calm page.new.vm }
 {
     let cells = Cells::new(alloc);
     match update(alloc, app, &cells, page) {
-        Ok(_) => Ok(checked(page)?),
+        Ok(moved) => {
+            checked(page)?;
+            Ok(moved.items)
+        }
         Err(fault) => Err(fault),
     }
 }
@@ -108,27 +130,32 @@ fn next_text(
     Ok(text)
 }
 
-/// A page after the turn of an event, and the text of that turn.
+/// A page after the turn of an event, and that turn.
 pub(crate) fn next_turn(
     alloc: Global,
     app: &App,
     page: &mut Page,
     turn: u128,
     event: &Event,
-) -> Result<Text, VmFault>
+) -> Result<Turn, VmFault>
     requires calm { Calm page.old.vm }
     ensures ok { IfOk result (λ t. (templates : List Body) (s : session.State) → IsAppWith (manifest_view app.now.manifest) templates app.now.programs → StandsIn app.now templates page.old s → turn ≡ s.turn → Goes app.now templates s (Some (event_view event.now)) page.new t) }
     ensures fails { IfErr result (λ f. (templates : List Body) (s : session.State) → IsAppWith (manifest_view app.now.manifest) templates app.now.programs → StandsIn app.now templates page.old s → TurnFails app.now templates s (Some (event_view event.now)) f) }
     ensures calm { Calm page.new.vm }
 {
     app.keeps();
+    let first = page.vm.tree.upcoming();
     let Applied { sets, missing } = apply(alloc, page, app, event)?;
     let givens = givens_for(alloc, page, app, sets.as_slice())?;
     let before = standing(alloc, page)?;
     begin_turn(&mut page.vm)?;
     lay(&mut page.vm, givens.as_slice())?;
     match renew(alloc, app, page) {
-        Ok(()) => Ok(next_text(alloc, app, page, turn, event, missing.as_slice(), &before)?),
+        Ok(moved) => {
+            let work = work_of(page, first, moved);
+            let text = next_text(alloc, app, page, turn, event, missing.as_slice(), &before)?;
+            Ok(Turn { text, work })
+        }
         Err(fault) => Err(fault),
     }
 }

@@ -1,7 +1,11 @@
 // The program: it makes the real shelf and sinks, and passes the words on.
 #![tactic(auto)]
 
-use gl_outside::{DirShelf, StdSink};
+ghost use Rattle.std.specs.Prelude.{◌≡◌};
+ghost use Rattle.gl_run.specs.Lines.{Says};
+ghost use Rattle.gl_run.specs.Run.{memory_line};
+
+use gl_outside::{DirShelf, Sink, SinkFault, StdSink};
 use gl_run::{Last, Status, run};
 use std::alloc::{AllocError, Global};
 use std::env;
@@ -25,7 +29,11 @@ fn words_of<R: Env + AllocGlobal>(rt: &R) -> Result<Vec<String>, AllocError> {
 }
 
 fn texts_of(alloc: Global, words: &[String]) -> Result<Vec<&str>, AllocError> {
-    words.iter().map(|word| word.as_str()).collect(alloc)
+    let mut texts = Vec::with_capacity(alloc, words.len())?;
+    for word in words {
+        texts.push(word.as_str())?;
+    }
+    Ok(texts)
 }
 
 fn run_words(rt: &HostRuntime, words: &[&str]) -> Status {
@@ -36,14 +44,31 @@ fn run_words(rt: &HostRuntime, words: &[&str]) -> Status {
     run(rt.alloc(), words, &mut shelf, &mut out, &mut err, &mut last)
 }
 
+// Says that memory is wanting. It takes none itself, and what the sink does not take changes nothing else.
+fn say_memory<E: Sink>(err: &mut E)
+    ensures { Says (E.took err.old) (E.took err.new) (E.faults err.old) (E.faults err.new) (E.wants err.old) (E.wants err.new) memory_line }
+{
+    match err.put("out of memory\n".as_bytes()) {
+        Ok(()) => {}
+        Err(SinkFault::Failed) => {}
+        Err(SinkFault::Memory) => {}
+    }
+}
+
+fn attempt(rt: &HostRuntime) -> Result<Status, AllocError> {
+    let words = words_of(rt)?;
+    let texts = texts_of(rt.alloc(), &words)?;
+    Ok(run_words(rt, &texts))
+}
+
 fn status_of(rt: &HostRuntime) -> Status {
-    let Ok(words) = words_of(rt) else {
-        return Status::NoMemory;
-    };
-    let Ok(texts) = texts_of(rt.alloc(), &words) else {
-        return Status::NoMemory;
-    };
-    run_words(rt, &texts)
+    match attempt(rt) {
+        Ok(status) => status,
+        Err(AllocError) => {
+            say_memory(&mut StdSink::new(rt.stderr()));
+            Status::NoMemory
+        }
+    }
 }
 
 fn main(rt: HostRuntime) -> ExitCode {

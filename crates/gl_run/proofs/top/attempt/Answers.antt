@@ -2,42 +2,42 @@ use Rattle.std.proofs.Common.{◌≡◌, List, Some, None, map, refl, rules}
 use Rattle.std.specs.Str.{chars}
 use Rattle.gl_base.specs.Texts.{Text}
 use Rattle.gl_base.proofs.Taken.{takes_nothing}
-use Rattle.gl_run.specs.Command.{Command, run_command, show_command, wire_command, check_command, sample_command, command_of}
+use Rattle.gl_run.specs.Command.{Command, run_command, show_command, wire_command, check_command, migrate_command, sample_command, command_of}
 use Rattle.gl_run.proofs.Outputs.{command_says, usage_output, command_fetches, nothing_held, left_alone}
 use Rattle.gl_run.proofs.top.attempt.Goals as goal
 
 pub returns-in-Some-Run-clause-told : goal.returns-in-Some-Run-clause-told
 returns-in-Some-Run-clause-told g c = λ files e.
     let words : List Text = map (λ w. chars w.now) c.args.words.now in
-    let command : Command = run_command (chars c.in-Some-Run.manifest.now) (chars c.in-Some-Run.script.now) in
+    let command : Command = run_command c.in-Some-Run.told (chars c.in-Some-Run.manifest.now) (chars c.in-Some-Run.script.now) in
     let is : command_of words ≡ Some command = search rules in
     rw (command_says words files command is) (c.play_app.ensures.told files e)
 
 pub returns-in-Some-Run-clause-tells : goal.returns-in-Some-Run-clause-tells
 returns-in-Some-Run-clause-tells g c = λ files e.
     let words : List Text = map (λ w. chars w.now) c.args.words.now in
-    let command : Command = run_command (chars c.in-Some-Run.manifest.now) (chars c.in-Some-Run.script.now) in
+    let command : Command = run_command c.in-Some-Run.told (chars c.in-Some-Run.manifest.now) (chars c.in-Some-Run.script.now) in
     let is : command_of words ≡ Some command = search rules in
     rw (command_says words files command is, command_fetches words files command is) (c.play_app.ensures.tells files e)
 
 pub returns-in-Some-Run-clause-holds : goal.returns-in-Some-Run-clause-holds
 returns-in-Some-Run-clause-holds g c = λ files e.
     let words : List Text = map (λ w. chars w.now) c.args.words.now in
-    let command : Command = run_command (chars c.in-Some-Run.manifest.now) (chars c.in-Some-Run.script.now) in
+    let command : Command = run_command c.in-Some-Run.told (chars c.in-Some-Run.manifest.now) (chars c.in-Some-Run.script.now) in
     let is : command_of words ≡ Some command = search rules in
     rw is (c.play_app.ensures.holds files e)
 
 pub returns-in-Some-Run-clause-others : goal.returns-in-Some-Run-clause-others
 returns-in-Some-Run-clause-others g c = λ never.
     let words : List Text = map (λ w. chars w.now) c.args.words.now in
-    let command : Command = run_command (chars c.in-Some-Run.manifest.now) (chars c.in-Some-Run.script.now) in
+    let command : Command = run_command c.in-Some-Run.told (chars c.in-Some-Run.manifest.now) (chars c.in-Some-Run.script.now) in
     let is : command_of words ≡ Some command = search rules in
     absurd (never (rw is tt))
 
 pub returns-in-Some-Run-clause-limit : goal.returns-in-Some-Run-clause-limit
 returns-in-Some-Run-clause-limit g c = λ deep.
     let words : List Text = map (λ w. chars w.now) c.args.words.now in
-    let command : Command = run_command (chars c.in-Some-Run.manifest.now) (chars c.in-Some-Run.script.now) in
+    let command : Command = run_command c.in-Some-Run.told (chars c.in-Some-Run.manifest.now) (chars c.in-Some-Run.script.now) in
     let is : command_of words ≡ Some command = search rules in
     rw is tt
 
@@ -82,6 +82,20 @@ returns-in-Some-Check-clause-tells g c = λ files e.
     let command : Command = check_command (chars c.in-Some-Check.manifest.now) in
     let is : command_of words ≡ Some command = search rules in
     rw (command_says words files command is, command_fetches words files command is) (c.check_app.ensures.tells files e)
+
+pub returns-in-Some-Migrate-clause-told : goal.returns-in-Some-Migrate-clause-told
+returns-in-Some-Migrate-clause-told g c = λ files e.
+    let words : List Text = map (λ w. chars w.now) c.args.words.now in
+    let command : Command = migrate_command (chars c.in-Some-Migrate.file.now) in
+    let is : command_of words ≡ Some command = search rules in
+    rw (command_says words files command is) (c.migrate_wire.ensures.told files e)
+
+pub returns-in-Some-Migrate-clause-tells : goal.returns-in-Some-Migrate-clause-tells
+returns-in-Some-Migrate-clause-tells g c = λ files e.
+    let words : List Text = map (λ w. chars w.now) c.args.words.now in
+    let command : Command = migrate_command (chars c.in-Some-Migrate.file.now) in
+    let is : command_of words ≡ Some command = search rules in
+    rw (command_says words files command is, command_fetches words files command is) (c.migrate_wire.ensures.tells files e)
 
 pub returns-in-Some-Sample-clause-told : goal.returns-in-Some-Sample-clause-told
 returns-in-Some-Sample-clause-told g c = λ files e.

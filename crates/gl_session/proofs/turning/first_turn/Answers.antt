@@ -6,7 +6,7 @@ use Rattle.gl_session.proofs.Turns.{first_fault}
 use Rattle.gl_session.proofs.turning.first_turn.Goals as goal
 
 pub returns-in-Ok-clause-ok : goal.returns-in-Ok-clause-ok
-returns-in-Ok-clause-ok c = λ templates lowered. c.in_ok-first_text-in-Ok.ensures.ok templates (names_rise (manifest_view c.args.app.now.manifest) c.keeps.ensures.rules) lowered
+returns-in-Ok-clause-ok c = λ templates lowered. c.in_ok-first_made-in-Ok.ensures.ok templates (names_rise (manifest_view c.args.app.now.manifest) c.keeps.ensures.rules) lowered
 
 pub returns-clause-fails : goal.returns-clause-fails
 returns-clause-fails c = λ templates lowered. first_fault c.args.app.now templates (names_rise (manifest_view c.args.app.now.manifest) c.keeps.ensures.rules) lowered c.in-Err.fault

@@ -1,4 +1,4 @@
-use Rattle.std.proofs.Common.{map, subst, ◌∙◌}
+use Rattle.std.proofs.Common.{◌-◌, map, subst, ap, ◌∙◌}
 use Rattle.std.specs.Prelude.{Some}
 use Rattle.gl_meaning.specs.View.{event_view, manifest_view}
 use Rattle.gl_plain.specs.Turns.{begin}
@@ -7,6 +7,7 @@ use Rattle.gl_append.proofs.Taking.{does_then}
 use Rattle.gl_fires.specs.Worlds.{world_of}
 use Rattle.gl_fires.proofs.Standing.{has_world}
 use Rattle.gl_fires.proofs.Heard.{hears}
+use Rattle.gl_session.specs.declared.turn.Turn.{Turn}
 use Rattle.gl_session.specs.Laying.{GivensFor, touch_of, touch_all}
 use Rattle.gl_session.proofs.Rules.{names_rise}
 use Rattle.gl_session.proofs.Turns.{next_goes, next_fault, goes_as}
@@ -23,11 +24,14 @@ returns-in-Ok-clause-ok c = λ templates s lowered x t.
     let found = subst (λ zs. GivensFor w page zs c.in_ok-givens.givens.items) c.as_slice.ensures (c.in_ok-givens.ensures w reads) in
     let did = does_then (λ n. begin) (λ n. touch_all (map touch_of c.in_ok-givens.givens.items)) page.vm c.begin_turn.new.vm c.lay.new.vm c.in_ok-begin_turn.ensures.step
     (subst (λ gs. Does (λ n. touch_all (map touch_of gs)) c.begin_turn.new.vm c.lay.new.vm) c.as_slice-2.ensures.value c.in_ok-lay.ensures.step) in
-    let z = c.in_ok-next_text-in-Ok.ensures.ok in
-    goes_as a templates s (Some e) c.next_text.new.page c.renew.new.page c.in_ok-next_text-in-Ok.field-0 z.vm z.code
+    let z = c.in_ok-text-in-Ok.ensures.ok in
+    let w = c.work_of-work in
+    let made : Turn = record { text = c.in_ok-text-in-Ok.text; work = w.result } in
+    goes_as a templates s (Some e) c.next_text.new.page c.renew.new.page made z.vm z.code
     (next_goes a templates (names_rise (manifest_view a.manifest) c.keeps.ensures.rules) lowered page s x e c.in_ok-sets.field-0.sets c.in_ok-givens.givens.items applied.0 c.in_ok-sets.ensures.own found c.lay.new.vm did
     c.renew.new.page c.in-Ok.ensures.ok c.in-Ok.ensures.nodes z.flat z.sound c.in_ok-before.before.list.items z.after c.in_ok-before.ensures z.lists z.destroyed z.logs empty c.args.turn c.as_slice-in-Ok.result.now
-    c.in_ok-next_text-in-Ok.field-0 t (c.as_slice-in-Ok.ensures.value ∙ applied.1) z.told)
+    made t (c.as_slice-in-Ok.ensures.value ∙ applied.1) z.told c.in-Ok.moved c.in-Ok.ensures.moved
+    (record { evaluated = w.ensures.evaluated; made = w.ensures.made ∙ ap (λ k. c.renew.new.page.vm.tree.nodes.made - k) c.upcoming-first.ensures; moved = w.ensures.moved }))
 
 pub returns-clause-fails : goal.returns-clause-fails
 returns-clause-fails c = λ templates s lowered x.

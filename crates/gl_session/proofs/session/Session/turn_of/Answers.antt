@@ -5,7 +5,7 @@ use Rattle.gl_opc.specs.IsApp.{IsAppWith}
 use Rattle.gl_standing.specs.Standing.{StandsIn}
 use Rattle.gl_session.specs.Standing.{Goes, app_with}
 use Rattle.gl_session.proofs.Counts.{turn_after}
-use Rattle.gl_session.proofs.session.Session.text_of.Goals as goal
+use Rattle.gl_session.proofs.session.Session.turn_of.Goals as goal
 
 pub returns-clause-ok : goal.returns-clause-ok
 returns-clause-ok c = λ app templates s h.
@@ -13,7 +13,7 @@ returns-clause-ok c = λ app templates s h.
     let e = event_view c.args.event.now in
     let lowered = subst (λ b. IsAppWith (manifest_view b.manifest) templates b.programs) (sym h.app) h.lowered in
     let page = subst (λ b. StandsIn b templates x.page s) (sym h.app) h.page in
-    let g = subst (λ b. Goes b templates s (Some e) c.next_turn.new.page c.in_ok-text.text) h.app (c.in_ok-text.ensures.ok templates s lowered page h.turn) in
+    let g = subst (λ b. Goes b templates s (Some e) c.next_turn.new.page c.in_ok-made.made) h.app (c.in_ok-made.ensures.ok templates s lowered page h.turn) in
     let k = turn_after (app_with app templates) s (Some e) g.turn g.is in
     let n = c.in-Some.ensures in
     let q = h.turn in
