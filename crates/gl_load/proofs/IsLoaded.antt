@@ -1,11 +1,14 @@
 -- Loading gives what the files stand for, and nothing else.
-use Rattle.std.proofs.Common.{◌≡◌, ◌≤◌, ℕ, List, [], ◌∷◌, Bool, true, false, Option, Some, None, Result, Ok, Err, length, refl, ap, ◌∙◌, subst, arith}
-use Rattle.std.specs.Prelude.{if◌then◌else◌, nat_le, ⊤}
+use Rattle.std.proofs.Common.{◌≡◌, ◌≤◌, ℕ, List, [], ◌∷◌, Bool, true, false, Option, Some, None, Result, Ok, Err, length, refl, sym, ap, ◌∙◌, subst, arith}
+use Rattle.std.specs.Prelude.{IfOk, if◌then◌else◌, nat_le, ⊤}
 use Rattle.gl_base.specs.Texts.{Text, bytes_of}
+use Rattle.gl_ast.specs.Grammar.{Spells}
 use Rattle.gl_ast.specs.Template.{Body, Plain}
 use Rattle.gl_outside.specs.Shelf.{Entry, file_of}
 use Rattle.gl_parse.specs.FaultPlace.{template_place}
 use Rattle.gl_parse.specs.ReadStmt.{template_of, expression_of}
+use Rattle.gl_parse.specs.Place.{IsTemplatePlace}
+use Rattle.gl_parse.proofs.Places.{template_place_is, one_template_place}
 use Rattle.gl_parse.proofs.SpellsRead.{read_spells, spells_read}
 use Rattle.gl_cycles.specs.Through.{cycle_of}
 use Rattle.gl_manifest.proofs.Holding.{said_holds, holds_said}
@@ -18,9 +21,15 @@ use Rattle.gl_meaning.specs.ScriptOf as s
 use Rattle.gl_meaning.specs.ScriptOf.{ScriptReading, script_reading}
 use Rattle.gl_script.proofs.Scripts.{reads_held, held_reads}
 use Rattle.gl_load.specs.Load.{most, kept, small_file, spelled, template_in, templates_in, manifest_read, manifest_in, all_known, no_cycle, Parts, app_in, script_read, script_file, script_in, root_fields, Whole, whole_in}
-use Rattle.gl_load.specs.Refusal.{Cause, too_long, ◌>>=◌, in_file}
-use Rattle.gl_load.specs.IsLoaded.{HasFile, IsManifestFile, IsTemplateFile, AreTemplates, IsLoaded, IsLoadedWith}
+use Rattle.gl_load.specs.Refusal.{Cause, too_long, not_in_grammar, ◌>>=◌, in_file}
+use Rattle.gl_load.specs.IsLoaded.{HasFile, LeavesGrammar, IsManifestFile, IsTemplateFile, AreTemplates, IsLoaded, IsLoadedWith}
+use Rattle.gl_load.specs.Loads.{Loads}
+use Rattle.gl_load.specs.View.{app_view, whole_view}
+use Rattle.gl_load.specs.declared.application.Application.{Application}
+use Rattle.gl_load.specs.declared.fault.LoadFault.{LoadFault}
+use Rattle.gl_load.specs.declared.whole.Loaded.{Loaded}
 use Rattle.gl_load.proofs.Fetch.{short_kept}
+use Rattle.gl_load.proofs.Spelled.{nothing_read}
 
 -- Chains
 
@@ -37,6 +46,15 @@ ok_same x y e = cc
 in_gave : {A : Type 0} (name : Text) (r : Result A Cause) (x : A) → in_file name r ≡ Ok x → r ≡ Ok x
 in_gave name (Ok y) x e = ap Ok (ok_same y x e)
 in_gave name (Err c) x e = absurd cc
+
+none_some : {A : Type 0} {x : A} → None ≡ Some x → ⊥
+none_some e = cc
+
+err_same : (c d : Cause) → (let a : Result Body Cause = Err c in a ≡ Err d) → c ≡ d
+err_same c d e = cc
+
+place_same : (m n : ℕ) → (let a : Result Body Cause = Err (not_in_grammar m) in a ≡ Err (not_in_grammar n)) → m ≡ n
+place_same m n e = cc
 
 -- Files
 
@@ -88,6 +106,42 @@ templates_goes files (c ∷ cs) [] h = absurd h
 templates_goes files (c ∷ cs) (t ∷ ts) h =
     goes (in_file c.file (template_in files c.file)) _ t (t ∷ ts) (ap (in_file c.file) (template_goes files c.file t h.0))
     (goes (templates_in files cs) _ ts (t ∷ ts) (templates_goes files cs ts h.1) refl)
+
+-- A file in which no template stands
+
+file_stops : (files : List Entry) (name : Text) (n : ℕ) → small_file files name ≡ Err (not_in_grammar n) → ⊥
+unfolding small_file
+file_stops files name n e = never (file_of files (bytes_of name)) e where
+  short : (t : Bool) (bytes : List ℕ) → (if t then Ok bytes else Err too_long) ≡ Err (not_in_grammar n) → ⊥
+  short true bytes h = cc
+  short false bytes h = cc
+
+  never : (o : Option (List ℕ)) → kept most o ≡ Err (not_in_grammar n) → ⊥
+  never None h = cc
+  never (Some bytes) h = short (nat_le (length bytes) most) bytes h
+
+left : (bytes : List ℕ) (o : Option Body) (n : ℕ) → template_of bytes ≡ o → spelled (template_place bytes) o ≡ Err (not_in_grammar n)
+    → ((tree : Body) → Spells bytes tree → ⊥) × IsTemplatePlace bytes n
+left bytes None n is e = (
+  (λ tree spells. none_some (sym is ∙ spells_read bytes tree spells)),
+  subst (λ k. IsTemplatePlace bytes k) (place_same (template_place bytes) n e) (template_place_is bytes),
+)
+left bytes (Some tree) n is e = absurd cc
+
+pub grammar_left : (files : List Entry) (name : Text) (n : ℕ) → template_in files name ≡ Err (not_in_grammar n) → LeavesGrammar files name n
+unfolding template_in
+grammar_left files name n e = taken (small_file files name) refl e where
+  taken : (r : Result (List ℕ) Cause) → small_file files name ≡ r → (r >>= λ bytes. spelled (template_place bytes) (template_of bytes)) ≡ Err (not_in_grammar n) → LeavesGrammar files name n
+  taken (Ok bytes) is h = let l = left bytes (template_of bytes) n refl h in (bytes, file_gave files name bytes is, l.0, l.1)
+  taken (Err c) is h = absurd (file_stops files name n (is ∙ ap (λ x. Err x) (err_same c (not_in_grammar n) h)))
+
+pub left_grammar : (files : List Entry) (name : Text) (n : ℕ) → LeavesGrammar files name n → template_in files name ≡ Err (not_in_grammar n)
+unfolding template_in
+left_grammar files name n (bytes, file, never, place) =
+    let none : template_of bytes ≡ None = nothing_read bytes never in
+    let same : template_place bytes ≡ n = one_template_place bytes (template_place bytes) n (template_place_is bytes) place in
+    ap (λ r. r >>= λ bytes. spelled (template_place bytes) (template_of bytes)) (file_goes files name bytes file)
+    ∙ (ap (spelled (template_place bytes)) none ∙ ap (λ k. Err (not_in_grammar k)) same)
 
 -- The manifest
 
@@ -180,3 +234,13 @@ whole_goes files name script whole h =
     let t = h.events in
     goes (app_in files name) _ whole.parts whole (app_goes files name whole.parts h.parts)
     (goes (in_file script (script_file files fields script)) _ whole.events whole (ap (in_file script) (events_goes files fields script whole.events t.0 t.1 (held_reads fields t.0 whole.events t.2))) refl)
+
+-- What was loaded
+
+pub app_loaded : (files : List Entry) (name : Text) (r : Result Application LoadFault) → Loads app_view r (app_in files name) → IfOk r (λ a. IsLoaded files name (app_view a))
+app_loaded files name (Ok a) told = app_gave files name (app_view a) told
+app_loaded files name (Err f) told = tt
+
+pub whole_loaded : (files : List Entry) (name script : Text) (r : Result Loaded LoadFault) → Loads whole_view r (whole_in files name script) → IfOk r (λ a. IsLoadedWith files name script (whole_view a))
+whole_loaded files name script (Ok a) told = whole_gave files name script (whole_view a) told
+whole_loaded files name script (Err f) told = tt

@@ -6,6 +6,7 @@ use Rattle.gl_ast.specs.Grammar.{Spells}
 use Rattle.gl_ast.specs.Template.{Body}
 use Rattle.gl_outside.specs.Shelf.{Entry, file_of}
 use Rattle.gl_cycles.specs.Through.{cycle_of}
+use Rattle.gl_parse.specs.Place.{IsTemplatePlace}
 use Rattle.gl_manifest.specs.Holds as manifest
 use Rattle.gl_meaning.specs.App.{Event}
 use Rattle.gl_meaning.specs.Known.{first_unknown}
@@ -24,6 +25,10 @@ IsManifestFile files name m = (bytes : List ℕ) × HasFile files name bytes × 
 -- the file's bytes spell the template
 abbrev pub IsTemplateFile : List Entry → Text → Body → Type 0
 IsTemplateFile files name tree = (bytes : List ℕ) × HasFile files name bytes × Spells bytes tree
+
+-- the file's bytes spell no template, and the place is the one at which they leave the grammar
+abbrev pub LeavesGrammar : List Entry → Text → ℕ → Type 0
+LeavesGrammar files name place = (bytes : List ℕ) × HasFile files name bytes × ((tree : Body) → Spells bytes tree → ⊥) × IsTemplatePlace bytes place
 
 -- for each class the template of its file
 abbrev pub AreTemplates : List Entry → List ClassEntry → List Body → Type 0

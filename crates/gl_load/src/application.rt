@@ -12,6 +12,7 @@ ghost use Rattle.gl_meaning.specs.ManifestOf.{read_manifest};
 ghost use Rattle.gl_meaning.specs.ManifestRules.{KeepsLimits};
 ghost use Rattle.gl_meaning.specs.View.{manifest_view};
 ghost use Rattle.gl_cycles.specs.Through.{cycle_of};
+ghost use Rattle.gl_load.specs.IsLoaded.{IsLoaded};
 ghost use Rattle.gl_load.specs.Load.{manifest_read, manifest_in, no_cycle, checked, app_in, app_fetched};
 ghost use Rattle.gl_load.specs.Loads.{Gives, Loads, HasCause, FailsAmong};
 ghost use Rattle.gl_load.specs.Refusal.{in_file};
@@ -148,11 +149,9 @@ fn checked(
     })
 }
 
-/// Loads an application, or gives the first refusal: the manifest is fetched and read, then the template of each class, in
-/// the order of their names, then every name is to be known, and then no getter may reach itself. The programs are those of the
-/// templates.
+// The application of a manifest's file.
 #[tactic(auto, unfolding(crate::specs::Load::app_in))]
-pub fn load_app<S: Shelf>(
+fn application_in<S: Shelf>(
     alloc: Global,
     shelf: &mut S,
     manifest: &str,
@@ -169,4 +168,25 @@ pub fn load_app<S: Shelf>(
     let found = manifest_in(alloc, shelf, manifest)?;
     let templates = templates_in(alloc, shelf, &found.classes)?;
     checked(alloc, manifest, found, templates)
+}
+
+/// Loads an application, or gives the first refusal: the manifest is fetched and read, then the template of each class, in
+/// the order of their names, then every name is to be known, and then no getter may reach itself. The programs are those of the
+/// templates. What is loaded is what the files stand for.
+pub fn load_app<S: Shelf>(
+    alloc: Global,
+    shelf: &mut S,
+    manifest: &str,
+) -> Result<Application, LoadFault>
+    ensures keeps { S.holds shelf.new ≡ S.holds shelf.old }
+    ensures told { (files : List Entry) → S.holds shelf.old ≡ Some files → Loads app_view result (app_in files (chars manifest.now)) }
+    ensures loaded { (files : List Entry) → S.holds shelf.old ≡ Some files → IfOk result (λ a. IsLoaded files (chars manifest.now) (app_view a)) }
+    ensures made { IfOk result (λ a. IsAppWith (manifest_view a.app.manifest) a.templates a.app.programs) }
+    ensures causes { IfErr result (λ f. HasCause f.cause (S.misses shelf.old) (S.misses shelf.new) (S.faults shelf.old) (S.faults shelf.new)) }
+    ensures named { (files : List Entry) → S.holds shelf.old ≡ Some files
+        → IfErr result (λ f. FailsAmong f.cause f.file (app_fetched files (chars manifest.now))) }
+    ensures misses_stay { S.misses shelf.old ≤ S.misses shelf.new }
+    ensures faults_stay { S.faults shelf.old ≤ S.faults shelf.new }
+{
+    application_in(alloc, shelf, manifest)
 }

@@ -5,6 +5,7 @@ ghost use Rattle.gl_outside.specs.Shelf.{Entry};
 ghost use Rattle.gl_meaning.specs.View.{manifest_view, class_view, script_view};
 ghost use Rattle.gl_opc.specs.IsApp.{IsAppWith};
 ghost use Rattle.gl_script.specs.ScriptOver.{IsScriptOver};
+ghost use Rattle.gl_load.specs.IsLoaded.{IsLoadedWith};
 ghost use Rattle.gl_load.specs.Load.{class_named, root_fields, whole_in, whole_fetched};
 ghost use Rattle.gl_load.specs.Loads.{Loads, HasCause, FailsAmong};
 ghost use Rattle.gl_load.specs.View.{whole_view};
@@ -36,10 +37,9 @@ fn root_class(app: &App) -> &Class
     }
 }
 
-/// Loads an application and its script, or gives the first refusal: the application is loaded, and then the script is fetched
-/// and read, for the class that the root names.
+// The application with its script.
 #[tactic(auto, unfolding(crate::specs::Load::whole_in))]
-pub fn load<S: Shelf>(
+fn whole_in<S: Shelf>(
     alloc: Global,
     shelf: &mut S,
     manifest: &str,
@@ -64,4 +64,29 @@ pub fn load<S: Shelf>(
         templates: loaded.templates,
         script,
     })
+}
+
+/// Loads an application and its script, or gives the first refusal: the application is loaded, and then the script is fetched
+/// and read, for the class that the root names. What is loaded is what the files
+/// stand for.
+pub fn load<S: Shelf>(
+    alloc: Global,
+    shelf: &mut S,
+    manifest: &str,
+    script: &str,
+) -> Result<Loaded, LoadFault>
+    ensures keeps { S.holds shelf.new ≡ S.holds shelf.old }
+    ensures told { (files : List Entry) → S.holds shelf.old ≡ Some files
+        → Loads whole_view result (whole_in files (chars manifest.now) (chars script.now)) }
+    ensures loaded { (files : List Entry) → S.holds shelf.old ≡ Some files
+        → IfOk result (λ a. IsLoadedWith files (chars manifest.now) (chars script.now) (whole_view a)) }
+    ensures made { IfOk result (λ a. IsAppWith (manifest_view a.app.manifest) a.templates a.app.programs) }
+    ensures over { IfOk result (λ a. IsScriptOver (root_fields (manifest_view a.app.manifest)) (script_view a.script)) }
+    ensures causes { IfErr result (λ f. HasCause f.cause (S.misses shelf.old) (S.misses shelf.new) (S.faults shelf.old) (S.faults shelf.new)) }
+    ensures named { (files : List Entry) → S.holds shelf.old ≡ Some files
+        → IfErr result (λ f. FailsAmong f.cause f.file (whole_fetched files (chars manifest.now) (chars script.now))) }
+    ensures misses_stay { S.misses shelf.old ≤ S.misses shelf.new }
+    ensures faults_stay { S.faults shelf.old ≤ S.faults shelf.new }
+{
+    whole_in(alloc, shelf, manifest, script)
 }

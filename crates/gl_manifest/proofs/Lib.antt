@@ -15,3 +15,4 @@ pub mod Order
 pub mod Rules
 pub mod Seen
 pub mod Spelling
+pub mod Spellings

@@ -24,7 +24,8 @@ use Rattle.gl_meaning.specs.NameTests.{is_free_name, is_class_name}
 use Rattle.gl_meaning.specs.Walk.{Found, check_members}
 use Rattle.gl_meaning.proofs.Forms.{under_sound, if_sound, passed, object_passed, members_passed}
 use Rattle.gl_parse.specs.ReadStmt.{expression_of}
-use Rattle.gl_manifest.specs.Holds.{Spells, Holds}
+use Rattle.gl_ast.specs.Grammar.{SpellsExpr}
+use Rattle.gl_manifest.specs.Holds.{Holds}
 use Rattle.gl_meaning.specs.Order.{Rise, ClassRises, NamesRise}
 use Rattle.gl_manifest.proofs.Holding.{said_holds}
 use Rattle.gl_manifest.proofs.Keys.{IsFirst, IsOrdered, KeysRise, json_ordered, member_ordered, members_in_rise}
@@ -87,7 +88,7 @@ each_is rule R P gives (json.member k d ms) (x ∷ xs) rise sound are =
 
 -- The manifest's
 
-pub action_name : (k : List ℕ) (d : json.Data) (x : Text × Action) → action_check k d ≡ Ok tt → IsAction Spells k d x → bytes_of x.0 ≡ k
+pub action_name : (k : List ℕ) (d : json.Data) (x : Text × Action) → action_check k d ≡ Ok tt → IsAction SpellsExpr k d x → bytes_of x.0 ≡ k
 unfolding action_check
 action_name k d x sound is = ap bytes_of is.name ∙ free_bytes k (if_sound (is_free_name k) _ sound).0
 
@@ -97,18 +98,18 @@ field_name class k d f sound is =
     let named = if_sound (is_free_name k && not (has_inner (codes "actions") k class)) _ sound in
     ap bytes_of is.0 ∙ free_bytes k (both (is_free_name k) _ named.0).0
 
-pub getter_name : (class : json.Data) (k : List ℕ) (d : json.Data) (g : Text × Expr) → getter_check class k d ≡ Ok tt → IsGetter Spells k d g → bytes_of g.0 ≡ k
+pub getter_name : (class : json.Data) (k : List ℕ) (d : json.Data) (g : Text × Expr) → getter_check class k d ≡ Ok tt → IsGetter SpellsExpr k d g → bytes_of g.0 ≡ k
 unfolding getter_check
 getter_name class k d g sound is =
     let named = if_sound (is_free_name k && not (has_inner (codes "actions") k class) && not (has_inner (codes "fields") k class)) _ sound in
     let both_first = both (is_free_name k && not (has_inner (codes "actions") k class)) _ named.0 in
     ap bytes_of is.0 ∙ free_bytes k (both (is_free_name k) _ both_first.0).0
 
-class_name : (k : List ℕ) (d : json.Data) (c : ClassEntry) → class_check k d ≡ Ok tt → IsClass Spells k d c → bytes_of c.name ≡ k
+class_name : (k : List ℕ) (d : json.Data) (c : ClassEntry) → class_check k d ≡ Ok tt → IsClass SpellsExpr k d c → bytes_of c.name ≡ k
 unfolding class_check
 class_name k d c sound is = ap bytes_of is.name ∙ class_bytes k (if_sound (is_class_name k) _ sound).0
 
-class_members_rise : (ms : json.Members) (k : List ℕ) (c : ClassEntry) → KeysRise ms → check_members (class_member (json.object ms)) ms ≡ Ok tt → IsClass Spells k (json.object ms) c → ClassRises c
+class_members_rise : (ms : json.Members) (k : List ℕ) (c : ClassEntry) → KeysRise ms → check_members (class_member (json.object ms)) ms ≡ Ok tt → IsClass SpellsExpr k (json.object ms) c → ClassRises c
 unfolding class_member
 class_members_rise ms k c rise sound is =
     let there = λ (key : List ℕ) (a : json.Data) (h : get_member key ms ≡ Some a). passed (class_member (json.object ms)) key a ms sound h in
@@ -118,11 +119,11 @@ class_members_rise ms k c rise sound is =
     let actions = members_passed most.actions action_check (get_member (codes "actions") ms) (there (codes "actions")) in
     record {
       fields = names_rise (field_check (json.object ms)) IsField (λ f. f.0) (field_name (json.object ms)) (members_at (codes "fields") (json.object ms)) c.fields (ordered (codes "fields")) fields.1 is.fields;
-      getters = names_rise (getter_check (json.object ms)) (IsGetter Spells) (λ g. g.0) (getter_name (json.object ms)) (members_at (codes "getters") (json.object ms)) c.getters (ordered (codes "getters")) getters.1 is.getters;
-      actions = names_rise action_check (IsAction Spells) (λ x. x.0) action_name (members_at (codes "actions") (json.object ms)) c.actions (ordered (codes "actions")) actions.1 is.actions;
+      getters = names_rise (getter_check (json.object ms)) (IsGetter SpellsExpr) (λ g. g.0) (getter_name (json.object ms)) (members_at (codes "getters") (json.object ms)) c.getters (ordered (codes "getters")) getters.1 is.getters;
+      actions = names_rise action_check (IsAction SpellsExpr) (λ x. x.0) action_name (members_at (codes "actions") (json.object ms)) c.actions (ordered (codes "actions")) actions.1 is.actions;
     }
 
-class_rises : (k : List ℕ) (d : json.Data) (c : ClassEntry) → IsOrdered d → class_check k d ≡ Ok tt → IsClass Spells k d c → ClassRises c
+class_rises : (k : List ℕ) (d : json.Data) (c : ClassEntry) → IsOrdered d → class_check k d ≡ Ok tt → IsClass SpellsExpr k d c → ClassRises c
 unfolding class_check
 class_rises k d c ordered sound is =
     let named = if_sound (is_class_name k) _ sound in
@@ -130,14 +131,14 @@ class_rises k d c ordered sound is =
     let P : json.Data → Type 0 = λ x. check_members (class_member x) o.0 ≡ Ok tt in
     class_members_rise o.0 k c (rw o.1 at ordered) (subst P o.1 o.3) (rw o.1 at is)
 
-manifest_members_rise : (ms : json.Members) (m : Manifest) → KeysRise ms → check_members manifest_member ms ≡ Ok tt → IsManifest Spells (json.object ms) m → NamesRise m
+manifest_members_rise : (ms : json.Members) (m : Manifest) → KeysRise ms → check_members manifest_member ms ≡ Ok tt → IsManifest SpellsExpr (json.object ms) m → NamesRise m
 unfolding manifest_member
 manifest_members_rise ms m rise sound is =
     let classes = members_passed most.classes class_check (get_member (codes "classes") ms) (λ a h. passed manifest_member (codes "classes") a ms sound h) in
     let ordered = members_in_rise (get_member (codes "classes") ms) (member_ordered (codes "classes") ms rise) in
     record {
-      classes = names_rise class_check (IsClass Spells) (λ c. c.name) class_name (members_at (codes "classes") (json.object ms)) m.classes ordered classes.1 is.classes;
-      each = each_is class_check (IsClass Spells) ClassRises class_rises (members_at (codes "classes") (json.object ms)) m.classes ordered classes.1 is.classes;
+      classes = names_rise class_check (IsClass SpellsExpr) (λ c. c.name) class_name (members_at (codes "classes") (json.object ms)) m.classes ordered classes.1 is.classes;
+      each = each_is class_check (IsClass SpellsExpr) ClassRises class_rises (members_at (codes "classes") (json.object ms)) m.classes ordered classes.1 is.classes;
     }
 
 holds_rises : (bytes : List ℕ) (m : Manifest) → Holds bytes m → NamesRise m

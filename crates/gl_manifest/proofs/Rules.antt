@@ -23,7 +23,8 @@ use Rattle.gl_meaning.specs.declared.manifest.Manifest as code
 use Rattle.gl_meaning.proofs.Forms.{under_sound, if_sound, passed, object_passed, members_passed}
 use Rattle.gl_meaning.proofs.Limits.{read_keeps}
 use Rattle.gl_parse.specs.ReadStmt.{expression_of}
-use Rattle.gl_manifest.specs.Holds.{Spells, Holds}
+use Rattle.gl_ast.specs.Grammar.{SpellsExpr}
+use Rattle.gl_manifest.specs.Holds.{Holds}
 use Rattle.gl_manifest.specs.View.{Reads}
 use Rattle.gl_manifest.specs.declared.fault.ManifestFault.{ManifestFault}
 use Rattle.gl_manifest.proofs.Holding.{said_holds}
@@ -42,12 +43,12 @@ each_is rule R P gives (json.member k d ms) (x ∷ xs) text sound are =
     let s = under_sound _ (rule k d) (check_members rule ms) sound in
     (gives k d x text.0 s.0 are.0, each_is rule R P gives ms xs text.1 s.1 are.1)
 
-action_params : (ms : json.Members) (k : List ℕ) (x : Text × Action) → check_members action_member ms ≡ Ok tt → IsAction Spells k (json.object ms) x → NoRepeat x.1.params
+action_params : (ms : json.Members) (k : List ℕ) (x : Text × Action) → check_members action_member ms ≡ Ok tt → IsAction SpellsExpr k (json.object ms) x → NoRepeat x.1.params
 unfolding action_member
 action_params ms k x sound is =
     params_differ (get_member (codes "params") ms) x.1.params (λ a h. passed action_member (codes "params") a ms sound h) is.params
 
-action_keeps : (k : List ℕ) (d : json.Data) (x : Text × Action) → IsTextData d → action_check k d ≡ Ok tt → IsAction Spells k d x → NoRepeat x.1.params
+action_keeps : (k : List ℕ) (d : json.Data) (x : Text × Action) → IsTextData d → action_check k d ≡ Ok tt → IsAction SpellsExpr k d x → NoRepeat x.1.params
 unfolding action_check
 action_keeps k d x text sound is =
     let named = if_sound (is_free_name k) _ sound in
@@ -68,7 +69,7 @@ file_named (Some (json.number n)) there passed text empty = let e = passed (json
 file_named (Some (json.array ds)) there passed text empty = let e = passed (json.array ds) refl in let r : ⊥ = cc in r
 file_named (Some (json.object ms)) there passed text empty = let e = passed (json.object ms) refl in let r : ⊥ = cc in r
 
-class_names : (ms : json.Members) (k : List ℕ) (c : ClassEntry) → HaveTextData ms → has_key (codes "template") (json.object ms) ≡ true → check_members (class_member (json.object ms)) ms ≡ Ok tt → IsClass Spells k (json.object ms) c → ClassNames c
+class_names : (ms : json.Members) (k : List ℕ) (c : ClassEntry) → HaveTextData ms → has_key (codes "template") (json.object ms) ≡ true → check_members (class_member (json.object ms)) ms ≡ Ok tt → IsClass SpellsExpr k (json.object ms) c → ClassNames c
 unfolding class_member
 class_names ms k c text has sound is =
     let class : json.Data = json.object ms in
@@ -77,14 +78,14 @@ class_names ms k c text has sound is =
     let getters = members_passed most.getters (getter_check (json.object ms)) (get_member (codes "getters") ms) (there (codes "getters")) in
     let actions = members_passed most.actions action_check (get_member (codes "actions") ms) (there (codes "actions")) in
     record {
-      fields = apart (codes "actions") (json.object ms) (field_check (json.object ms)) IsField (λ f. f.0) (field_name (json.object ms)) (field_apart (json.object ms)) action_check (IsAction Spells) (λ x. x.0) action_name (members_at (codes "fields") (json.object ms)) c.fields fields.1 is.fields c.actions actions.1 is.actions;
-      getters = apart (codes "actions") (json.object ms) (getter_check (json.object ms)) (IsGetter Spells) (λ g. g.0) (getter_name (json.object ms)) (λ key d h. (getter_apart (json.object ms) key d h).0) action_check (IsAction Spells) (λ x. x.0) action_name (members_at (codes "getters") (json.object ms)) c.getters getters.1 is.getters c.actions actions.1 is.actions;
-      computed = apart (codes "fields") (json.object ms) (getter_check (json.object ms)) (IsGetter Spells) (λ g. g.0) (getter_name (json.object ms)) (λ key d h. (getter_apart (json.object ms) key d h).1) (field_check (json.object ms)) IsField (λ f. f.0) (field_name (json.object ms)) (members_at (codes "getters") (json.object ms)) c.getters getters.1 is.getters c.fields fields.1 is.fields;
-      params = each_is action_check (IsAction Spells) (λ x. NoRepeat x.1.params) action_keeps (members_at (codes "actions") (json.object ms)) c.actions (members_at_text (codes "actions") (json.object ms) text) actions.1 is.actions;
+      fields = apart (codes "actions") (json.object ms) (field_check (json.object ms)) IsField (λ f. f.0) (field_name (json.object ms)) (field_apart (json.object ms)) action_check (IsAction SpellsExpr) (λ x. x.0) action_name (members_at (codes "fields") (json.object ms)) c.fields fields.1 is.fields c.actions actions.1 is.actions;
+      getters = apart (codes "actions") (json.object ms) (getter_check (json.object ms)) (IsGetter SpellsExpr) (λ g. g.0) (getter_name (json.object ms)) (λ key d h. (getter_apart (json.object ms) key d h).0) action_check (IsAction SpellsExpr) (λ x. x.0) action_name (members_at (codes "getters") (json.object ms)) c.getters getters.1 is.getters c.actions actions.1 is.actions;
+      computed = apart (codes "fields") (json.object ms) (getter_check (json.object ms)) (IsGetter SpellsExpr) (λ g. g.0) (getter_name (json.object ms)) (λ key d h. (getter_apart (json.object ms) key d h).1) (field_check (json.object ms)) IsField (λ f. f.0) (field_name (json.object ms)) (members_at (codes "getters") (json.object ms)) c.getters getters.1 is.getters c.fields fields.1 is.fields;
+      params = each_is action_check (IsAction SpellsExpr) (λ x. NoRepeat x.1.params) action_keeps (members_at (codes "actions") (json.object ms)) c.actions (members_at_text (codes "actions") (json.object ms) text) actions.1 is.actions;
       file = λ empty. file_named (get_member (codes "template") ms) has (there (codes "template")) (text_at_text (codes "template") (json.object ms) text) (sym is.file ∙ empty);
     }
 
-class_keeps : (k : List ℕ) (d : json.Data) (c : ClassEntry) → IsTextData d → class_check k d ≡ Ok tt → IsClass Spells k d c → ClassNames c
+class_keeps : (k : List ℕ) (d : json.Data) (c : ClassEntry) → IsTextData d → class_check k d ≡ Ok tt → IsClass SpellsExpr k d c → ClassNames c
 unfolding class_check
 class_keeps k d c text sound is =
     let named = if_sound (is_class_name k) _ sound in
@@ -93,13 +94,13 @@ class_keeps k d c text sound is =
     let H : json.Data → Type 0 = λ x. has_key (codes "template") x ≡ true in
     class_names o.0 k c (rw o.1 at text) (subst H o.1 o.2) (subst P o.1 o.3) (rw o.1 at is)
 
-classes_keep : (ms : json.Members) (m : Manifest) → HaveTextData ms → check_members manifest_member ms ≡ Ok tt → IsManifest Spells (json.object ms) m → Each ClassNames m.classes
+classes_keep : (ms : json.Members) (m : Manifest) → HaveTextData ms → check_members manifest_member ms ≡ Ok tt → IsManifest SpellsExpr (json.object ms) m → Each ClassNames m.classes
 unfolding manifest_member
 classes_keep ms m text sound is =
     let classes = members_passed most.classes class_check (get_member (codes "classes") ms) (λ a h. passed manifest_member (codes "classes") a ms sound h) in
-    each_is class_check (IsClass Spells) ClassNames class_keeps (members_at (codes "classes") (json.object ms)) m.classes (members_at_text (codes "classes") (json.object ms) text) classes.1 is.classes
+    each_is class_check (IsClass SpellsExpr) ClassNames class_keeps (members_at (codes "classes") (json.object ms)) m.classes (members_at_text (codes "classes") (json.object ms) text) classes.1 is.classes
 
-modifiers_keep : (ms : json.Members) (m : Manifest) → check_members manifest_member ms ≡ Ok tt → IsManifest Spells (json.object ms) m → Each ModifierName m.modifiers
+modifiers_keep : (ms : json.Members) (m : Manifest) → check_members manifest_member ms ≡ Ok tt → IsManifest SpellsExpr (json.object ms) m → Each ModifierName m.modifiers
 unfolding manifest_member
 modifiers_keep ms m sound is =
     modifiers_named (get_member (codes "modifiers") ms) m.modifiers (λ d h. passed manifest_member (codes "modifiers") d ms sound h) is.modifiers

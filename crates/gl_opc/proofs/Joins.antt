@@ -7,8 +7,9 @@ use Rattle.gl_base.specs.Texts.{Text}
 use Rattle.gl_ops.specs.declared.op.Op.{Op}
 use Rattle.gl_meaning.specs.Known.{Kind, Unknown, unless_known}
 use Rattle.gl_opc.specs.Linked.{State, Step, ◌>>=◌, known, op_added, text_op_added, name_op_added, int_op_added, name_added, started}
-use Rattle.gl_opc.specs.Piece.{Code, Place, Piece, ◌⊕◌, start, after, nothing, ◌⨾◌, op_piece, text_op, name_op, int_op, with_name}
+use Rattle.gl_opc.specs.Piece.{Code, Place, Piece, ◌⊕◌, start, after, nothing, ◌⨾◌, missing, op_piece, name_entry, text_op, name_op, int_op, with_name}
 use Rattle.gl_opc.specs.TreeFaults.{Fault, at_stmt}
+use Rattle.gl_wire.specs.Symbols.{place_of}
 
 -- the first unknown name, or else what is linked
 abbrev pub ended : List Fault → State → Step State
@@ -28,15 +29,16 @@ code_eq e f g h = rw (e, f, g, h) refl
 pub state_eq : {x y : Code} {i j : ℕ} → x ≡ y → i ≡ j → ◌≡◌ {A = State} (record { code = x; begun = i }) (record { code = y; begun = j })
 state_eq e f = rw (e, f) refl
 
-place_eq : {a b c d a' b' c' d' : ℕ} → a ≡ a' → b ≡ b' → c ≡ c' → d ≡ d'
-    → ◌≡◌ {A = Place} (record { address = a; text = b; name = c; integer = d }) (record { address = a'; text = b'; name = c'; integer = d' })
+place_eq : {a d a' d' : ℕ} {b c b' c' : List Text} → a ≡ a' → b ≡ b' → c ≡ c' → d ≡ d'
+    → ◌≡◌ {A = Place} (record { address = a; texts = b; names = c; integer = d }) (record { address = a'; texts = b'; names = c'; integer = d' })
 place_eq e f g h = rw (e, f, g, h) refl
 
 longer : {A : Type 0} (n : ℕ) (xs ys : List A) → n + length (xs ++ ys) ≡ (n + length xs) + length ys
 longer n xs ys = omega (arith, length-append xs ys)
 
 pub after-⊕ : (at : Place) (x y : Code) → after at (x ⊕ y) ≡ after (after at x) y
-after-⊕ at x y = place_eq (longer at.address x.ops y.ops) (longer at.text x.texts y.texts) (longer at.name x.names y.names) (longer at.integer x.ints y.ints)
+after-⊕ at x y =
+    place_eq (longer at.address x.ops y.ops) (sym (append_assoc at.texts x.texts y.texts)) (sym (append_assoc at.names x.names y.names)) (longer at.integer x.ints y.ints)
 
 pub ⊕-assoc : (x y z : Code) → (x ⊕ y) ⊕ z ≡ x ⊕ (y ⊕ z)
 ⊕-assoc x y z =
@@ -63,15 +65,17 @@ behind-started n f s = state_eq refl (omega arith)
 pub added_op : (o : Op) (s : State) → op_added o s ≡ behind 0 (op_piece o) s
 added_op o s = state_eq (code_eq refl (sym (append-nil s.code.texts)) (sym (append-nil s.code.names)) (sym (append-nil s.code.ints))) (sym (add-zero s.begun))
 
+-- an entry of a pool, behind which no other comes
+pub alone : (pool more : List Text) → pool ++ more ≡ pool ++ (more ++ [])
+alone pool more = ap (λ xs. pool ++ xs) (sym (append-nil more))
+
 pub added_text_op : (kind : ℕ → Op) (t : Text) (s : State) → text_op_added kind t s ≡ behind 0 (text_op kind t) s
 added_text_op kind t s =
-    state_eq (code_eq (ap (λ k. s.code.ops ++ kind k ∷ []) (sym (zero-add (length s.code.texts)))) refl (sym (append-nil s.code.names)) (sym (append-nil s.code.ints)))
-    (sym (add-zero s.begun))
+    state_eq (code_eq refl (alone s.code.texts (missing s.code.texts t)) (sym (append-nil s.code.names)) (sym (append-nil s.code.ints))) (sym (add-zero s.begun))
 
 pub added_name_op : (kind : ℕ → Op) (n : Text) (s : State) → name_op_added kind n s ≡ behind 0 (name_op kind n) s
 added_name_op kind n s =
-    state_eq (code_eq (ap (λ k. s.code.ops ++ kind k ∷ []) (sym (zero-add (length s.code.names)))) (sym (append-nil s.code.texts)) refl (sym (append-nil s.code.ints)))
-    (sym (add-zero s.begun))
+    state_eq (code_eq refl (sym (append-nil s.code.texts)) (alone s.code.names (missing s.code.names n)) (sym (append-nil s.code.ints))) (sym (add-zero s.begun))
 
 pub added_int_op : (kind : ℕ → Op) (z : ℤ) (s : State) → int_op_added kind z s ≡ behind 0 (int_op kind z) s
 added_int_op kind z s =
@@ -143,9 +147,8 @@ join_known_at piece (Some x) i kind n k us s h = h x
 join_known_at piece None i kind n k us s h = refl
 
 -- an entry of the names, by the place of which a piece goes on
-pub named_behind : (n : Text) (m : ℕ) (f : ℕ → Piece) (s : State) → behind m (f (length s.code.names)) (name_added n s) ≡ behind m (with_name n f) s
+pub named_behind : (n : Text) (m : ℕ) (f : ℕ → Piece) (s : State) → behind m (f (place_of s.code.names n)) (name_added n s) ≡ behind m (with_name n f) s
 named_behind n m f s =
-    let entry : Code = record { ops = []; texts = []; names = n ∷ []; ints = [] } in
-    let same : name_added n s ≡ behind 0 (λ at. entry) s = state_eq (code_eq (sym (append-nil s.code.ops)) (sym (append-nil s.code.texts)) refl (sym (append-nil s.code.ints))) (sym (add-zero s.begun)) in
-    ap (λ t. behind m (f (length s.code.names)) t) same
-    ∙ (behind-behind 0 m (λ at. entry) (f (length s.code.names)) s ∙ rw (zero-add m, zero-add (length s.code.names)) refl)
+    let g : Piece = f (place_of s.code.names n) in
+    let same : name_added n s ≡ behind 0 (name_entry n) s = state_eq (code_eq (sym (append-nil s.code.ops)) (sym (append-nil s.code.texts)) refl (sym (append-nil s.code.ints))) (sym (add-zero s.begun)) in
+    ap (λ t. behind m g t) same ∙ (behind-behind 0 m (name_entry n) g s ∙ ap (λ k. behind k (with_name n f) s) (zero-add m))

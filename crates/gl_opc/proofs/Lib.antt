@@ -25,6 +25,7 @@ pub mod Lowering
 pub mod NamePlaces
 pub mod NumbersRise
 pub mod Places
+pub mod Pools
 pub mod SameNames
 pub mod TreeFaults
 pub mod Whole

@@ -7,13 +7,14 @@ use Rattle.gl_value.specs.Value as v
 use Rattle.gl_ast.specs.Template.{Plain}
 use Rattle.gl_ops.specs.declared.op.Op.TheVariants as op
 use Rattle.gl_meaning.specs.Known.{helper_kind, member_kind, modifier_kind}
+use Rattle.gl_wire.specs.Symbols.{place_of}
 use Rattle.gl_wire.specs.Wire as w
 use Rattle.gl_opc.specs.Coding.{count_exprs, count_both, literal_code, segments_code, symbol_code, expr_code, exprs_code, named_code, part_code, parts_code, arguments_code}
 use Rattle.gl_opc.specs.Linked.{Context, State, op_added, text_added, name_added, text_op_added, name_op_added, literal_linked, segments_linked, symbol_added, symbol_linked, expr_linked, exprs_linked, named_linked, part_linked, parts_linked, arguments_linked}
 use Rattle.gl_opc.specs.Numbers.{helper_number, member_op, modifier_number}
-use Rattle.gl_opc.specs.Piece.{Piece, ◌⨾◌, op_piece, op_if, op_where, text_op, name_op}
+use Rattle.gl_opc.specs.Piece.{Piece, missing, ◌⨾◌, op_piece, op_if, op_where, text_op, name_op}
 use Rattle.gl_opc.specs.WireFaults.{expr_unknowns, exprs_unknowns, named_unknowns, part_unknowns, parts_unknowns}
-use Rattle.gl_opc.proofs.Joins.{ended_at, behind, behind-behind, behind-nothing, added_op, added_text_op, added_name_op, added_int_op, code_eq, state_eq, join_added, join_after, join_at, join_both, join_known_at}
+use Rattle.gl_opc.proofs.Joins.{ended_at, behind, behind-behind, behind-nothing, added_op, added_text_op, added_name_op, added_int_op, code_eq, state_eq, alone, join_added, join_after, join_at, join_both, join_known_at}
 
 linked_literal : (x : Plain) (s : State) → literal_linked x s ≡ behind 0 (literal_code x) s
 linked_literal v.undefined s = added_op op.Undef s
@@ -81,11 +82,13 @@ module _ (context : Context) where
         (join_after (named_linked context i ns) _ _ 0 (text_op op.Named n) (of_named ns) _ (added_text_op op.Named n _) (linked_named i ns _))
 
   linked_attribute : (n t : Text) (s : State)
-      → op_added (op.Attr (length s.code.names) (length s.code.texts)) (text_added t (name_added n s)) ≡ behind 0 (part_code context.manifest context.class context.symbols (w.attribute n t)) s
+      → op_added (op.Attr (place_of s.code.names n) (place_of s.code.texts t)) (text_added t (name_added n s)) ≡ behind 0 (part_code context.manifest context.class context.symbols (w.attribute n t)) s
   linked_attribute n t s =
-      let name : length s.code.names ≡ 0 + length s.code.names = sym (zero-add _) in
-      let text : length s.code.texts ≡ 0 + length s.code.texts + 0 = sym (add-zero _ ∙ zero-add _) in
-      state_eq (code_eq (ap (λ a. s.code.ops ++ op.Attr a (length s.code.texts) ∷ []) name ∙ ap (λ b. s.code.ops ++ op.Attr (0 + length s.code.names) b ∷ []) text) refl refl (sym (append-nil s.code.ints)))
+      state_eq
+      (code_eq (ap (λ ts. s.code.ops ++ op.Attr (place_of s.code.names n) (place_of ts t) ∷ []) (sym (append-nil s.code.texts)))
+      (ap (λ ts. s.code.texts ++ missing ts t) (sym (append-nil s.code.texts)) ∙ alone s.code.texts (missing (s.code.texts ++ []) t))
+      (alone s.code.names (missing s.code.names n))
+      (sym (append-nil s.code.ints)))
       (sym (add-zero s.begun))
 
   linked_part : (i : ℕ) (p : w.Part) (s : State)

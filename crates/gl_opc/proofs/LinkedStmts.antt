@@ -4,6 +4,7 @@ use Rattle.gl_base.specs.Texts.{Text}
 use Rattle.gl_ops.specs.declared.op.Op.{Op}
 use Rattle.gl_ops.specs.declared.op.Op.TheVariants as op
 use Rattle.gl_meaning.specs.Known.{component_kind}
+use Rattle.gl_wire.specs.Symbols.{place_of}
 use Rattle.gl_wire.specs.Wire as w
 use Rattle.gl_opc.specs.Coding.{count_exprs, expr_code, exprs_code, parts_code, arguments_code, item_code, params_code, bare_code, stmt_code, body_code, slots_code}
 use Rattle.gl_opc.specs.Linked.{Context, State, Step, ◌>>=◌, started, here, op_added, name_added, name_op_added, gap_added, skipped_over, turned, met, item_added, params_linked, bare_linked, expr_linked, exprs_linked, parts_linked, arguments_linked, stmt_linked, body_linked, slots_linked}
@@ -149,7 +150,7 @@ module _ (context : Context) where
       let item : Piece = item_code is ⨾ (of_body b ⨾ op_piece op.EndItem) in
       let fork : ℕ → Piece = λ k. forked (op.Each k) item (of_body c) in
       let t = behind 0 (of_expr e) (started s) in
-      let k = length t.code.names in
+      let k = place_of t.code.names key in
       let t' = name_added key t in
       let inner : State → Step State = λ y. body_linked context b y >>= λ z. Ok (op_added op.EndItem z) in
       let x = inner (item_added is (gap_added t')) in
@@ -162,7 +163,7 @@ module _ (context : Context) where
       let forks = join_forked (op.Each k) x (body_linked context c) _ _ n m item (of_body c) t' first second ∙ ap (λ y. ended faults y) (named_behind key (n + m) fork t) in
       begins _ _ (n + m) (of_stmt (w.each e key is b c)) s
       (join_first (expr_linked context s.begun e (started s))
-      (λ t. inner (item_added is (gap_added (name_added key t))) >>= λ u. body_linked context c (turned (op.Each (length t.code.names)) (here t) u) >>= λ v. Ok (op_added op.EndEach (met (here u) v)))
+      (λ t. inner (item_added is (gap_added (name_added key t))) >>= λ u. body_linked context c (turned (op.Each (place_of t.code.names key)) (here t) u) >>= λ v. Ok (op_added op.EndEach (met (here u) v)))
       _ faults (n + m) (of_expr e) (with_name key fork ⨾ op_piece op.EndEach) (started s) (linked_expr context s.begun e (started s))
       (last x (λ u. body_linked context c (turned (op.Each k) (here t') u)) (λ u v. met (here u) v) (op_added op.EndEach)
       ∙ join_added _ (op_added op.EndEach) faults (n + m) (with_name key fork) (op_piece op.EndEach) t forks (added_op op.EndEach _)))
@@ -202,12 +203,12 @@ module _ (context : Context) where
   of_block name is b = with_name name (λ n. skipping (op.Block n) (params_code op.Param is ⨾ (of_body b ⨾ op_piece op.EndBlock)))
 
   linked_block : (name : Text) (is : List ℕ) (b : w.Body) → BodyLinks b → (s : State)
-      → (body_linked context b (params_linked op.Param is (gap_added (name_added name s))) >>= λ y. Ok (skipped_over (op.Block (length s.code.names)) (here s) (op_added op.EndBlock y)))
+      → (body_linked context b (params_linked op.Param is (gap_added (name_added name s))) >>= λ y. Ok (skipped_over (op.Block (place_of s.code.names name)) (here s) (op_added op.EndBlock y)))
       ≡ ended (body_faults_at b s.begun) (behind (count_body b) (of_block name is b) s)
   linked_block name is b links s =
       let m = count_body b in
       let t = name_added name s in
-      let kind = op.Block (length s.code.names) in
+      let kind = op.Block (place_of s.code.names name) in
       let inside : Piece = params_code op.Param is ⨾ (of_body b ⨾ op_piece op.EndBlock) in
       let inner : State → Step State = λ y. body_linked context b y >>= λ z. Ok (op_added op.EndBlock z) in
       let x = inner (params_linked op.Param is (gap_added t)) in

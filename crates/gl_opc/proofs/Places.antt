@@ -1,10 +1,12 @@
 -- Where the words and entries of a piece stand in a program: from one place up to another.
-use Rattle.std.proofs.Common.{◌≡◌, ℕ, zero, suc, ◌+◌, ℤ, List, [], ◌∷◌, ◌++◌, Option, Some, None, length, slice_get, is_some, true, refl, sym, ap, subst, ◌∙◌, arith, length-append}
+use Rattle.std.proofs.Common.{◌≡◌, ℕ, zero, suc, ◌+◌, ℤ, List, [], ◌∷◌, ◌++◌, Option, Some, None, length, slice_get, is_some, true, refl, sym, ap, subst, ◌∙◌, arith, length-append, append_assoc}
 use Rattle.gl_base.specs.Texts.{Text}
 use Rattle.gl_ops.specs.declared.op.Op.{Op}
 use Rattle.gl_ops.specs.declared.op.Op.TheVariants as op
+use Rattle.gl_wire.specs.Symbols.{place_of}
 use Rattle.gl_program.specs.Program.{Program, op_at, Stands, HasText, HasName, HasInt}
-use Rattle.gl_opc.specs.Piece.{Code, ◌⊕◌, Place, after, Piece, nothing, ◌⨾◌, one_op, op_piece, with_text, with_name, with_int, text_op, name_op, int_op, op_where, op_if, next, skipping, forked}
+use Rattle.gl_opc.specs.Piece.{Code, ◌⊕◌, Place, after, Piece, nothing, ◌⨾◌, one_op, op_piece, missing, text_entry, name_entry, with_text, with_name, with_int, text_op, name_op, int_op, op_where, op_if, next, skipping, forked}
+use Rattle.gl_opc.proofs.Pools.{held}
 
 -- Lists in lists
 
@@ -33,13 +35,24 @@ stands_back get from xs ys h i a e =
 stands_first : {A : Type 0} (get : ℕ → Option A) (from : ℕ) (x : A) → StandsIn get from (x ∷ []) → get from ≡ Some x
 stands_first get from x h = let same : from ≡ from + 0 = omega arith in ap get same ∙ h 0 x refl
 
+-- a list with more at its end, from its front on
+joined_front : {A : Type 0} (get : ℕ → Option A) (before xs ys : List A) → StandsIn get 0 (before ++ (xs ++ ys)) → StandsIn get 0 (before ++ xs)
+joined_front get before xs ys h = stands_front get 0 (before ++ xs) ys (subst (λ l. StandsIn get 0 l) (sym (append_assoc before xs ys)) h)
+
+joined_back : {A : Type 0} (get : ℕ → Option A) (before xs ys : List A) → StandsIn get 0 (before ++ (xs ++ ys)) → StandsIn get 0 ((before ++ xs) ++ ys)
+joined_back get before xs ys h = subst (λ l. StandsIn get 0 l) (sym (append_assoc before xs ys)) h
+
+-- a text stands at its place of a pool with what was missing
+stands_held : (get : ℕ → Option Text) (pool : List Text) (t : Text) → StandsIn get 0 (pool ++ missing pool t) → get (place_of pool t) ≡ Some t
+stands_held get pool t h = let same : place_of pool t ≡ 0 + place_of pool t = omega arith in ap get same ∙ h (place_of pool t) t (held pool t)
+
 -- Places
 
-place : ℕ → ℕ → ℕ → ℕ → Place
-place a t n i = record { address = a; text = t; name = n; integer = i }
+place : ℕ → List Text → List Text → ℕ → Place
+place a t n i = record { address = a; texts = t; names = n; integer = i }
 
-same_place : (a t n i b u o j : ℕ) → a ≡ b → t ≡ u → n ≡ o → i ≡ j → place a t n i ≡ place b u o j
-same_place a t n i b u o j e f g h = rw (e, f, g, h) refl
+same_place : (a b i j : ℕ) (t u n o : List Text) → a ≡ b → t ≡ u → n ≡ o → i ≡ j → place a t n i ≡ place b u o j
+same_place a b i j t u n o e f g h = rw (e, f, g, h) refl
 
 behind_both : {A : Type 0} (from : ℕ) (xs ys : List A) → from + length (xs ++ ys) ≡ from + length xs + length ys
 behind_both from xs ys = omega (arith, length-append xs ys)
@@ -48,30 +61,31 @@ behind_both from xs ys = omega (arith, length-append xs ys)
 after_both : (at : Place) (x y : Code) → after at (x ⊕ y) ≡ after (after at x) y
 unfolding place
 after_both at x y =
-    same_place _ _ _ _ _ _ _ _ (behind_both at.address x.ops y.ops) (behind_both at.text x.texts y.texts) (behind_both at.name x.names y.names) (behind_both at.integer x.ints y.ints)
+    same_place _ _ _ _ _ _ _ _ (behind_both at.address x.ops y.ops) (sym (append_assoc at.texts x.texts y.texts)) (sym (append_assoc at.names x.names y.names))
+    (behind_both at.integer x.ints y.ints)
 
 -- Codes and pieces in programs
 
 module _ (p : Program) where
-  -- the words and entries of a code stand in the program from a place on
+  -- the words and integers of a code stand in the program from a place on, and its texts and names in the pools behind those of the place
   abbrev pub Has : Place → Code → Type 0
   Has at x =
-      StandsIn (op_at p) at.address x.ops × StandsIn (slice_get p.texts) at.text x.texts
-      × StandsIn (slice_get p.names) at.name x.names × StandsIn (slice_get p.ints) at.integer x.ints
+      StandsIn (op_at p) at.address x.ops × StandsIn (slice_get p.texts) 0 (at.texts ++ x.texts)
+      × StandsIn (slice_get p.names) 0 (at.names ++ x.names) × StandsIn (slice_get p.ints) at.integer x.ints
 
   has_front : (at : Place) (x y : Code) → Has at (x ⊕ y) → Has at x
   has_front at x y h = (
     stands_front (op_at p) at.address x.ops y.ops h.0,
-    stands_front (slice_get p.texts) at.text x.texts y.texts h.1,
-    stands_front (slice_get p.names) at.name x.names y.names h.2,
+    joined_front (slice_get p.texts) at.texts x.texts y.texts h.1,
+    joined_front (slice_get p.names) at.names x.names y.names h.2,
     stands_front (slice_get p.ints) at.integer x.ints y.ints h.3,
   )
 
   has_back : (at : Place) (x y : Code) → Has at (x ⊕ y) → Has (after at x) y
   has_back at x y h = (
     stands_back (op_at p) at.address x.ops y.ops h.0,
-    stands_back (slice_get p.texts) at.text x.texts y.texts h.1,
-    stands_back (slice_get p.names) at.name x.names y.names h.2,
+    joined_back (slice_get p.texts) at.texts x.texts y.texts h.1,
+    joined_back (slice_get p.names) at.names x.names y.names h.2,
     stands_back (slice_get p.ints) at.integer x.ints y.ints h.3,
   )
 
@@ -101,16 +115,18 @@ module _ (p : Program) where
   pub text_first : (at to : Place) (s : Text) (f : ℕ → Piece) → From at (with_text s f) to
       → (t : ℕ) × (mid : Place) × HasText p t s × (mid.address ≡ at.address) × From mid (f t) to
   text_first at to s f h =
-      let x : Code = record { ops = []; texts = s ∷ []; names = []; ints = [] } in
-      let y = f at.text (after at x) in
-      (at.text, after at x, stands_first (slice_get p.texts) at.text s (has_front at x y h.0).1, omega arith, (has_back at x y h.0, sym (after_both at x y) ∙ h.1))
+      let x = text_entry s at in
+      let t = place_of at.texts s in
+      let y = f t (after at x) in
+      (t, after at x, stands_held (slice_get p.texts) at.texts s (has_front at x y h.0).1, omega arith, (has_back at x y h.0, sym (after_both at x y) ∙ h.1))
 
   pub name_first : (at to : Place) (n : Text) (f : ℕ → Piece) → From at (with_name n f) to
       → (a : ℕ) × (mid : Place) × HasName p a n × (mid.address ≡ at.address) × From mid (f a) to
   name_first at to n f h =
-      let x : Code = record { ops = []; texts = []; names = n ∷ []; ints = [] } in
-      let y = f at.name (after at x) in
-      (at.name, after at x, stands_first (slice_get p.names) at.name n (has_front at x y h.0).2, omega arith, (has_back at x y h.0, sym (after_both at x y) ∙ h.1))
+      let x = name_entry n at in
+      let a = place_of at.names n in
+      let y = f a (after at x) in
+      (a, after at x, stands_held (slice_get p.names) at.names n (has_front at x y h.0).2, omega arith, (has_back at x y h.0, sym (after_both at x y) ∙ h.1))
 
   pub int_first : (at to : Place) (z : ℤ) (f : ℕ → Piece) → From at (with_int z f) to
       → (i : ℕ) × (mid : Place) × HasInt p i z × (mid.address ≡ at.address) × From mid (f i) to

@@ -7,6 +7,7 @@ pub mod Lowers
 pub mod NamePlaces
 pub mod Numbers
 pub mod Piece
+pub mod Pools
 pub mod Programs
 pub mod Spans
 pub mod State

@@ -8,10 +8,11 @@ use Rattle.gl_ops.specs.declared.op.Op.TheVariants as op
 use Rattle.gl_meaning.specs.Known.{Kind, component_kind, helper_kind, modifier_kind, member_kind, local_kind}
 use Rattle.gl_meaning.specs.Manifest.{Manifest, ClassEntry}
 use Rattle.gl_meaning.specs.View.{kind_view}
+use Rattle.gl_wire.specs.Symbols.{place_of}
 use Rattle.gl_wire.specs.Wire as w
 use Rattle.gl_opc.specs.Coding.{count_exprs, count_both, item_symbol}
 use Rattle.gl_opc.specs.Numbers.{class_number, modifier_number, helper_number, member_op}
-use Rattle.gl_opc.specs.Piece.{Code}
+use Rattle.gl_opc.specs.Piece.{Code, missing}
 use Rattle.gl_opc.specs.Spans.{if_op}
 use Rattle.gl_opc.specs.TreeFaults.{Fault}
 use Rattle.gl_opc.specs.declared.fault.LinkFault.{LinkFault}
@@ -53,20 +54,20 @@ abbrev pub op_added : Op → State → State
 op_added o s = record s { code = record s.code { ops = s.code.ops ++ o ∷ [] } }
 
 abbrev pub text_added : Text → State → State
-text_added t s = record s { code = record s.code { texts = s.code.texts ++ t ∷ [] } }
+text_added t s = record s { code = record s.code { texts = s.code.texts ++ missing s.code.texts t } }
 
 abbrev pub name_added : Text → State → State
-name_added n s = record s { code = record s.code { names = s.code.names ++ n ∷ [] } }
+name_added n s = record s { code = record s.code { names = s.code.names ++ missing s.code.names n } }
 
 abbrev pub int_added : ℤ → State → State
 int_added z s = record s { code = record s.code { ints = s.code.ints ++ z ∷ [] } }
 
 -- an entry of a pool, with the opcode that has its place
 abbrev pub text_op_added : (ℕ → Op) → Text → State → State
-text_op_added kind t s = op_added (kind (length s.code.texts)) (text_added t s)
+text_op_added kind t s = op_added (kind (place_of s.code.texts t)) (text_added t s)
 
 abbrev pub name_op_added : (ℕ → Op) → Text → State → State
-name_op_added kind n s = op_added (kind (length s.code.names)) (name_added n s)
+name_op_added kind n s = op_added (kind (place_of s.code.names n)) (name_added n s)
 
 abbrev pub int_op_added : (ℕ → Op) → ℤ → State → State
 int_op_added kind z s = op_added (kind (length s.code.ints)) (int_added z s)
@@ -168,7 +169,7 @@ module _ (context : Context) where
   both_linked i es ns s = exprs_linked i es s >>= λ t. named_linked i ns t
 
   abbrev pub part_linked : ℕ → w.Part → State → Step State
-  part_linked i (w.attribute n t) s = Ok (op_added (op.Attr (length s.code.names) (length s.code.texts)) (text_added t (name_added n s)))
+  part_linked i (w.attribute n t) s = Ok (op_added (op.Attr (place_of s.code.names n) (place_of s.code.texts t)) (text_added t (name_added n s)))
   part_linked i (w.live n e) s = expr_linked i e s >>= λ t. Ok (name_op_added op.AttrRef n t)
   part_linked i (w.modifier n es ns) s =
       known i modifier_kind n (modifier_number context.manifest n)
@@ -203,7 +204,7 @@ module _ (context : Context) where
     stmt_linked (w.each e key is b c) s =
         expr_linked s.begun e (started s)
         >>= λ t. (body_linked b (item_added is (gap_added (name_added key t))) >>= λ y. Ok (op_added op.EndItem y))
-        >>= λ u. body_linked c (turned (op.Each (length t.code.names)) (here t) u) >>= λ x. Ok (op_added op.EndEach (met (here u) x))
+        >>= λ u. body_linked c (turned (op.Each (place_of t.code.names key)) (here t) u) >>= λ x. Ok (op_added op.EndEach (met (here u) x))
     stmt_linked (w.let_stmt es is b) s =
         exprs_linked s.begun es (started s)
         >>= λ t. body_linked b (params_linked op.Bind is (op_added (op.Let (count_exprs es)) t)) >>= λ u. Ok (op_added op.EndLet u)
@@ -217,7 +218,7 @@ module _ (context : Context) where
     slots_linked w.no_slots s = Ok s
     slots_linked (w.block name is b ss) s =
         (body_linked b (params_linked op.Param is (gap_added (name_added name s)))
-        >>= λ y. Ok (skipped_over (op.Block (length s.code.names)) (here s) (op_added op.EndBlock y)))
+        >>= λ y. Ok (skipped_over (op.Block (place_of s.code.names name)) (here s) (op_added op.EndBlock y)))
         >>= λ t. slots_linked ss t
 
   -- the first branch of an `each`, up to its end
@@ -228,7 +229,7 @@ module _ (context : Context) where
   abbrev pub slot_linked : Text → List ℕ → w.Body → State → Step State
   slot_linked name is b s =
       body_linked b (params_linked op.Param is (gap_added (name_added name s)))
-      >>= λ t. Ok (skipped_over (op.Block (length s.code.names)) (here s) (op_added op.EndBlock t))
+      >>= λ t. Ok (skipped_over (op.Block (place_of s.code.names name)) (here s) (op_added op.EndBlock t))
 
   abbrev pub template_linked : w.Body → State → Step State
   template_linked b s = body_linked b s >>= λ t. Ok (op_added op.Done t)

@@ -1,8 +1,10 @@
 -- What linking adds to a program, as lists: opcodes, and entries of the pools.
-use Rattle.std.specs.Prelude.{ℕ, ◌+◌, ℤ, List, [], ◌∷◌, ◌++◌, Option, Some, None, length}
+use Rattle.std.specs.Prelude.{ℕ, ◌+◌, ℤ, List, [], ◌∷◌, ◌++◌, Option, Some, None, length, if◌then◌else◌}
+use Rattle.gl_base.specs.Names.{has_text}
 use Rattle.gl_base.specs.Texts.{Text}
 use Rattle.gl_ops.specs.declared.op.Op.{Op}
 use Rattle.gl_ops.specs.declared.op.Op.TheVariants as op
+use Rattle.gl_wire.specs.Symbols.{place_of}
 
 pub record Code : Type 0 where
   pub ops : List Op
@@ -18,24 +20,28 @@ infixr 20 ◌⊕◌
 abbrev pub ◌⊕◌ : Code → Code → Code
 x ⊕ y = record { ops = x.ops ++ y.ops; texts = x.texts ++ y.texts; names = x.names ++ y.names; ints = x.ints ++ y.ints }
 
--- the address of the next opcode, and the places of the next entries
+-- the address of the next opcode, the texts and the names that stand in the pools, and the place of the next integer
 pub record Place : Type 0 where
   pub address : ℕ
-  pub text : ℕ
-  pub name : ℕ
+  pub texts : List Text
+  pub names : List Text
   pub integer : ℕ
 
 abbrev pub start : Place
-start = record { address = 0; text = 0; name = 0; integer = 0 }
+start = record { address = 0; texts = []; names = []; integer = 0 }
 
 -- the place behind a code that begins at a place
 abbrev pub after : Place → Code → Place
 after at x = record {
   address = at.address + length x.ops;
-  text = at.text + length x.texts;
-  name = at.name + length x.names;
+  texts = at.texts ++ x.texts;
+  names = at.names ++ x.names;
   integer = at.integer + length x.ints;
 }
+
+-- what is to be added to a pool so that a text stands in it: each stands in it once
+abbrev pub missing : List Text → Text → List Text
+missing pool t = if has_text t pool then [] else t ∷ []
 
 -- A piece is a code that is told where it begins.
 abbrev pub Piece : Type 0
@@ -59,12 +65,19 @@ one_op o = record { ops = o ∷ []; texts = []; names = []; ints = [] }
 abbrev pub op_piece : Op → Piece
 op_piece o at = one_op o
 
+-- an entry of a pool, where it doesn't stand there yet
+abbrev pub text_entry : Text → Piece
+text_entry s at = record { ops = []; texts = missing at.texts s; names = []; ints = [] }
+
+abbrev pub name_entry : Text → Piece
+name_entry n at = record { ops = []; texts = []; names = missing at.names n; ints = [] }
+
 -- an entry of a pool, and what is done with its place
 abbrev pub with_text : Text → (ℕ → Piece) → Piece
-with_text s f at = followed_by at (record { ops = []; texts = s ∷ []; names = []; ints = [] }) (f at.text)
+with_text s f at = followed_by at (text_entry s at) (f (place_of at.texts s))
 
 abbrev pub with_name : Text → (ℕ → Piece) → Piece
-with_name n f at = followed_by at (record { ops = []; texts = []; names = n ∷ []; ints = [] }) (f at.name)
+with_name n f at = followed_by at (name_entry n at) (f (place_of at.names n))
 
 abbrev pub with_int : ℤ → (ℕ → Piece) → Piece
 with_int z f at = followed_by at (record { ops = []; texts = []; names = []; ints = z ∷ [] }) (f at.integer)

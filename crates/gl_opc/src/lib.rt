@@ -16,6 +16,7 @@ mod linker;
 mod linking;
 mod lookup;
 mod names;
+mod pool;
 
 pub use app::App;
 pub use fault::LinkFault;

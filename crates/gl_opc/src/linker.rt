@@ -5,10 +5,14 @@ ghost use Rattle.gl_ops.specs.Words.{decoded, operand, IsWordOf};
 ghost use Rattle.gl_opc.specs.Linked.{here, op_added, gap_added, text_added, name_added, int_added, filled, started};
 ghost use Rattle.gl_opc.specs.Piece.{no_code};
 ghost use Rattle.gl_opc.specs.State.{state_view};
+ghost use Rattle.gl_opc.specs.Pools.{HasEachOnce};
+ghost use Rattle.gl_program.specs.View.{program_view};
+ghost use Rattle.gl_wire.specs.Symbols.{place_of};
 
+use crate::pool::Pool;
 use crate::{Ints, Program, Words};
 use gl_ops::{Op, encode};
-use gl_value::{Text, Texts};
+use gl_value::Text;
 use std::alloc::{AllocError, Global};
 
 /// The opcodes and the pools that are linked so far, and how many statements have begun. A number that has no room in 32 bits
@@ -16,8 +20,8 @@ use std::alloc::{AllocError, Global};
 #[derive(Drop)]
 pub struct Linker {
     pub ops: Vec<Op>,
-    pub texts: Texts,
-    pub names: Texts,
+    pub texts: Pool,
+    pub names: Pool,
     pub ints: Ints,
     pub begun: u64,
 }
@@ -39,8 +43,8 @@ impl Linker {
     {
         Linker {
             ops: Vec::new(alloc),
-            texts: Texts::new(alloc),
-            names: Texts::new(alloc),
+            texts: Pool::new(alloc),
+            names: Pool::new(alloc),
             ints: Ints::new(alloc),
             begun: 0,
         }
@@ -96,24 +100,20 @@ impl Linker {
         }
     }
 
-    /// Adds a text to its pool, and gives its place.
+    /// Adds a text to its pool, where it doesn't stand there yet, and gives its place.
     pub fn push_text(&mut self, text: &Text) -> Result<u32, AllocError>
-        ensures place { IfOk result (λ n. n ≡ length (state_view self.old).code.texts) }
+        ensures place { IfOk result (λ n. n ≡ place_of (state_view self.old).code.texts text.now) }
         ensures added { OnOk result (state_view self.new ≡ text_added text.now (state_view self.old)) }
     {
-        let place = number32(self.texts.len())?;
-        self.texts.push(text.copy()?)?;
-        Ok(place)
+        self.texts.put(text)
     }
 
-    /// Adds a name to its pool, and gives its place.
+    /// Adds a name to its pool, where it doesn't stand there yet, and gives its place.
     pub fn push_name(&mut self, name: &Text) -> Result<u32, AllocError>
-        ensures place { IfOk result (λ n. n ≡ length (state_view self.old).code.names) }
+        ensures place { IfOk result (λ n. n ≡ place_of (state_view self.old).code.names name.now) }
         ensures added { OnOk result (state_view self.new ≡ name_added name.now (state_view self.old)) }
     {
-        let place = number32(self.names.len())?;
-        self.names.push(name.copy()?)?;
-        Ok(place)
+        self.names.put(name)
     }
 
     /// Adds an integer to its pool, and gives its place.
@@ -132,12 +132,15 @@ impl Linker {
         ensures texts { IfOk result (λ p. p.texts ≡ (state_view self).code.texts) }
         ensures names { IfOk result (λ p. p.names ≡ (state_view self).code.names) }
         ensures ints { IfOk result (λ p. p.ints ≡ (state_view self).code.ints) }
+        ensures once { IfOk result (λ p. HasEachOnce (program_view p)) }
     {
         let words = words_of(alloc, self.ops.as_slice())?;
+        let texts = self.texts.into_texts()?;
+        let names = self.names.into_texts()?;
         Ok(Program {
             words,
-            texts: self.texts,
-            names: self.names,
+            texts,
+            names,
             ints: self.ints,
         })
     }

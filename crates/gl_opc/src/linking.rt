@@ -13,6 +13,7 @@ ghost use Rattle.gl_opc.specs.Links.{IsFirst};
 ghost use Rattle.gl_opc.specs.Lowers.{Lowers, LowersExpr};
 ghost use Rattle.gl_opc.specs.NamePlaces.{all_rising};
 ghost use Rattle.gl_opc.specs.Piece.{start};
+ghost use Rattle.gl_opc.specs.Pools.{HasEachOnce};
 ghost use Rattle.gl_opc.specs.State.{context_view};
 ghost use Rattle.gl_opc.specs.WireFaults.{body_faults, expr_unknowns};
 ghost use Rattle.gl_wire.specs.View.{expr_view, wire_view, expr_wire_view};
@@ -34,6 +35,7 @@ use std::alloc::Global;
 fn body_program(context: &Context, body: &WireBody) -> Result<Program, LinkFault>
     ensures made { IfOk result (λ p. IsProgramOf (program_view p) (template_code (context_view context.now).manifest (context_view context.now).class (context_view context.now).symbols (body_of body.now) start)) }
     ensures known { IfOk result (λ p. body_faults (context_view context.now).manifest (context_view context.now).class 0 (body_of body.now) ≡ []) }
+    ensures once { IfOk result (λ p. HasEachOnce (program_view p)) }
     ensures unknown { IfErr result (λ e. IsFirst e (first_of (body_faults (context_view context.now).manifest (context_view context.now).class 0 (body_of body.now)))) }
 {
     let mut out = Linker::new(context.alloc);
@@ -46,6 +48,7 @@ fn body_program(context: &Context, body: &WireBody) -> Result<Program, LinkFault
 fn expression_program(context: &Context, expr: &WireExpr) -> Result<Program, LinkFault>
     ensures made { IfOk result (λ p. IsProgramOf (program_view p) (expression_code (context_view context.now).manifest (context_view context.now).class (context_view context.now).symbols (expr_view expr.now) start)) }
     ensures known { IfOk result (λ p. expr_unknowns (context_view context.now).manifest (context_view context.now).class (expr_view expr.now) ≡ []) }
+    ensures once { IfOk result (λ p. HasEachOnce (program_view p)) }
     ensures unknown { IfErr result (λ e. IsFirst e (first_of (map (at_stmt 0) (expr_unknowns (context_view context.now).manifest (context_view context.now).class (expr_view expr.now))))) }
 {
     let mut out = Linker::new(context.alloc);
@@ -87,6 +90,7 @@ pub fn link(
         → Lowers (program_view p) b (manifest_view manifest.now) (class_view class.now)) }
     ensures known { IfOk result (λ p. (b : Body) → IsTemplate b → wire_of b ≡ wire_view wire.now
         → template_faults (manifest_view manifest.now) (class_view class.now) b ≡ []) }
+    ensures once { IfOk result (λ p. HasEachOnce (program_view p)) }
     ensures unknown { IfErr result (λ e. (b : Body) → IsTemplate b → wire_of b ≡ wire_view wire.now
         → IsFirst e (first_fault (manifest_view manifest.now) (class_view class.now) b)) }
 {
@@ -115,6 +119,7 @@ pub fn link_expression(
         → LowersExpr (program_view p) e params (manifest_view manifest.now) (class_view class.now)) }
     ensures known { IfOk result (λ p. (bytes : List ℕ) (e : Expr) (params : List Text) → SpellsExpr bytes e → expr_wire_of params e ≡ expr_wire_view wire.now
         → expr_faults (manifest_view manifest.now) (class_view class.now) params e ≡ []) }
+    ensures once { IfOk result (λ p. HasEachOnce (program_view p)) }
     ensures unknown { IfErr result (λ f. (bytes : List ℕ) (e : Expr) (params : List Text) → SpellsExpr bytes e → expr_wire_of params e ≡ expr_wire_view wire.now
         → IsFirst f (first_expr_fault (manifest_view manifest.now) (class_view class.now) params e)) }
 {
