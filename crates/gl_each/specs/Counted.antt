@@ -1,5 +1,6 @@
 -- The keys of a list, step by step: the key of each item, and how many equal keys stand before each.
-use Rattle.std.specs.Prelude.{ℕ, suc, List, [], ◌∷◌, ◌++◌, count_by, nat_eq}
+use Rattle.std.specs.Prelude.{◌≡◌, ℕ, suc, List, [], ◌∷◌, ◌++◌, map, false, count_by, nat_eq}
+use Rattle.std.specs.List.{list_any}
 use Rattle.gl_base.specs.Texts.{Text}
 use Rattle.gl_value.specs.Value.{Value, same, key_of}
 use Rattle.gl_value.specs.Proper.{IsProper}
@@ -21,6 +22,24 @@ counts_after before (k ∷ ks) = times k before ∷ counts_after (before ++ k �
 
 abbrev pub counts : List (Value ℕ) → List ℕ
 counts ks = counts_after [] ks
+
+-- the values of keys, and keys with no equal one before them
+abbrev pub key_values : List Key → List (Value ℕ)
+key_values ks = map (λ k. k.0) ks
+
+abbrev pub first_keys : List (Value ℕ) → List Key
+first_keys vs = map (λ v. (v, 0)) vs
+
+-- keys with these occurrences, as far as there are some
+abbrev pub put_counts : List Key → List ℕ → List Key
+put_counts [] ns = []
+put_counts (k ∷ ks) [] = k ∷ ks
+put_counts (k ∷ ks) (n ∷ ns) = (k.0, n) ∷ put_counts ks ns
+
+-- no number stands before its place, where `before` stands before the list
+abbrev pub AreNew : List ℕ → List ℕ → Type 0
+AreNew before [] = Unit {0}
+AreNew before (n ∷ ns) = (list_any (nat_eq n) before ≡ false) × AreNew (before ++ n ∷ []) ns
 
 abbrev pub AreProper : List (Value ℕ) → Type 0
 AreProper [] = Unit {0}

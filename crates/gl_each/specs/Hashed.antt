@@ -1,6 +1,7 @@
 -- What a key gives to a hash function. Equal keys give the same.
-use Rattle.std.specs.Prelude.{ℕ, List, [], ◌∷◌, ◌++◌, encode_utf8_all}
+use Rattle.std.specs.Prelude.{ℕ, List, [], ◌∷◌, ◌++◌, encode_utf8_all, fold}
 use Rattle.std.specs.Hash as fed
+use Rattle.std.specs.Hash.FoldHasher as folding
 use Rattle.gl_value.specs.Value.{Value, undefined, null, boolean, integer, text, list, pairs, action, Values, no_values, value, Members, no_members, member}
 use Rattle.gl_each.specs.Key.{Key}
 
@@ -25,3 +26,7 @@ abbrev mutual
 
 abbrev pub fed_key : Key → List (List ℕ)
 fed_key k = fed_value k.0 ++ fed.u64 k.1
+
+-- the hash of a value
+abbrev pub value_hash : Value ℕ → ℕ
+value_hash v = folding.finish (fold folding.write folding.initial (fed_value v))

@@ -55,7 +55,7 @@ impl<'a> Hash for KeyRef<'a> {
 }
 
 // Gives a value to a hash function.
-fn feed<H: Hasher>(value: &Value, state: &mut H)
+pub(crate) fn feed<H: Hasher>(value: &Value, state: &mut H)
     ensures { state.new ≡ fold H.write state.old (fed_value (view value.now)) }
 {
     match value {

@@ -1,5 +1,5 @@
 // The keys of a list's items.
-ghost use Rattle.std.specs.Prelude.{◌≡◌, ◌<◌, ◌+◌, ◌^◌, ℕ, [], IfOk, map, cond, Some, unwrap_or};
+ghost use Rattle.std.specs.Prelude.{◌≡◌, ◌<◌, ◌+◌, ◌^◌, ℕ, [], IfOk, IsTrue, map, cond, Some, unwrap_or};
 ghost use Rattle.indexmap.specs.IndexMap.{get};
 ghost use Rattle.gl_each.specs.Key as k;
 ghost use Rattle.std.specs.Str.{chars};
@@ -12,24 +12,62 @@ ghost use Rattle.gl_meaning.specs.Path.{Path};
 ghost use Rattle.gl_meaning.specs.Render.{entries};
 ghost use Rattle.gl_meaning.specs.Laws.{NoRepeat};
 ghost use Rattle.gl_each.specs.Key.{entry_keys, same_key};
-ghost use Rattle.gl_each.specs.Counted.{item_keys, counts, AreProper, KeysAreProper};
+ghost use Rattle.gl_each.specs.Counted.{item_keys, counts, first_keys, key_values, AreNew, put_counts, AreProper, KeysAreProper};
+ghost use Rattle.gl_each.specs.Hashed.{value_hash};
 ghost use Rattle.gl_each.specs.View.{seen_keys};
 
-use crate::finding::KeyRef;
+use crate::finding::{KeyRef, feed};
 use crate::{Key, Keys};
 use gl_value::{Value, key_of};
 use indexmap::IndexMap;
 use std::alloc::{AllocError, Global};
+use std::collections::HashSet;
+use std::hash::{FoldHasher, Hasher};
 
-// The key of each item, without its occurrence.
-fn values_at(alloc: Global, items: &[Value], key: &str) -> Result<Vec<Value>, AllocError>
-    ensures { IfOk result (λ vs. seen_items vs.items ≡ item_keys (chars key.now) 0 (seen_items items.now)) }
+// Keys with the occurrence 0, and the hash of each one's value.
+#[derive(Drop)]
+struct Made {
+    keys: Vec<Key>,
+    hashes: Vec<u64>,
+}
+
+fn hash_of(value: &Value) -> u64
+    ensures { result ≡ value_hash (view value.now) }
+{
+    let mut state = FoldHasher::default();
+    feed(value, &mut state);
+    state.finish()
+}
+
+// The key of each item, with the occurrence 0. Its hash is computed while the value is at hand.
+fn keys_at(alloc: Global, items: &[Value], key: &str) -> Result<Made, AllocError>
+    ensures keys { IfOk result (λ m. seen_keys m.keys.items ≡ first_keys (item_keys (chars key.now) 0 (seen_items items.now))) }
+    ensures hashes { IfOk result (λ m. m.hashes.items ≡ map value_hash (key_values (seen_keys m.keys.items))) }
 {
     let mut list = Vec::with_capacity(alloc, items.len())?;
+    let mut hashes = Vec::with_capacity(alloc, items.len())?;
     for (index, item) in items.iter().enumerate() {
-        list.push(key_of(item, index as u64, key)?)?;
+        let value = key_of(item, index as u64, key)?;
+        hashes.push(hash_of(&value))?;
+        list.push(Key {
+            value,
+            occurrence: 0,
+        })?;
     }
-    Ok(list)
+    Ok(Made { keys: list, hashes })
+}
+
+// Whether each number differs from those before it.
+fn differ(alloc: Global, numbers: &[u64]) -> Result<bool, AllocError>
+    ensures { IfOk result (λ b. IsTrue b → AreNew [] numbers.now) }
+{
+    let mut seen: HashSet<u64> = HashSet::with_capacity(alloc, numbers.len())?;
+    for number in numbers {
+        if !seen.insert(*number)? {
+            return Ok(false);
+        }
+    }
+    Ok(true)
 }
 
 // Counts one more of a value, and gives how often it was counted before. A value that is new is looked up once.
@@ -57,27 +95,49 @@ fn first<'a>(value: &'a Value) -> KeyRef<'a>
     }
 }
 
-// How many equal values stand before each.
-fn occurrences(alloc: Global, values: &[Value]) -> Result<Vec<u64>, AllocError>
-    ensures { IfOk result (λ ns. ns.items ≡ counts (seen_items values.now)) }
+// How many equal values stand before each key's.
+fn occurrences(alloc: Global, keys: &[Key]) -> Result<Vec<u64>, AllocError>
+    ensures { IfOk result (λ ns. ns.items ≡ counts (key_values (seen_keys keys.now))) }
 {
-    let mut seen: IndexMap<KeyRef, u64> = IndexMap::with_capacity(alloc, values.len())?;
-    let mut list = Vec::with_capacity(alloc, values.len())?;
-    for value in values {
-        list.push(count_one(&mut seen, value)?)?;
+    let mut seen: IndexMap<KeyRef, u64> = IndexMap::with_capacity(alloc, keys.len())?;
+    let mut list = Vec::with_capacity(alloc, keys.len())?;
+    for key in keys {
+        list.push(count_one(&mut seen, &key.value)?)?;
     }
     Ok(list)
 }
 
-// The values with their occurrences.
-fn paired(alloc: Global, values: Vec<Value>, occurrences: Vec<u64>) -> Result<Vec<Key>, AllocError>
-    ensures { IfOk result (λ ks. ks.items ≡ map (λ p. record { value = p.0; occurrence = p.1 }) (zip values.items occurrences.items)) }
+// Gives each key its occurrence.
+fn put(keys: Vec<Key>, counts: &[u64]) -> Vec<Key>
+    ensures { seen_keys result.items ≡ put_counts (seen_keys keys.items) counts.now }
 {
-    values
-        .into_iter()
-        .zip(occurrences)
-        .map(|(value, occurrence)| Key { value, occurrence })
-        .collect(alloc)
+    let mut list = keys;
+    for (place, count) in counts.iter().enumerate() {
+        if place < list.len() {
+            list[place].occurrence = *count;
+        }
+    }
+    list
+}
+
+// Counts how many equal keys stand before each.
+fn counted(alloc: Global, keys: Vec<Key>) -> Result<Vec<Key>, AllocError>
+    ensures { IfOk result (λ ks. seen_keys ks.items ≡ zip (key_values (seen_keys keys.items)) (counts (key_values (seen_keys keys.items)))) }
+{
+    let counts = occurrences(alloc, keys.as_slice())?;
+    Ok(put(keys, counts.as_slice()))
+}
+
+// The same. Keys mostly differ, and their hashes show it: a list of numbers, which is short, is asked before the keys.
+fn numbered(alloc: Global, made: Made) -> Result<Vec<Key>, AllocError>
+    requires first { seen_keys made.keys.items ≡ first_keys (key_values (seen_keys made.keys.items)) }
+    requires hashes { made.hashes.items ≡ map value_hash (key_values (seen_keys made.keys.items)) }
+    ensures { IfOk result (λ ks. seen_keys ks.items ≡ zip (key_values (seen_keys made.keys.items)) (counts (key_values (seen_keys made.keys.items)))) }
+{
+    if differ(alloc, made.hashes.as_slice())? {
+        return Ok(made.keys);
+    }
+    counted(alloc, made.keys)
 }
 
 /// The keys of a list's items for a key text: each item's key with how many items before it have an equal one.
@@ -87,7 +147,6 @@ pub fn keys(alloc: Global, items: &[Value], key: &str) -> Result<Keys, AllocErro
     ensures distinct { IfOk result (λ ks. NoRepeat ks) }
     ensures proper { IfOk result (λ ks. AreProper (seen_items items.now) → KeysAreProper ks) }
 {
-    let list = values_at(alloc, items, key)?;
-    let counts = occurrences(alloc, list.as_slice())?;
-    Ok(Keys::from_vec(paired(alloc, list, counts)?))
+    let made = keys_at(alloc, items, key)?;
+    Ok(Keys::from_vec(numbered(alloc, made)?))
 }

@@ -53,17 +53,17 @@ module _ (tags tags' : t.Tags) (rows rows' : Rows) (i : Id) (sound : IsSound tag
     by (inl q) = absurd (let n : None ≡ Some g = sym (ap (option_map (λ (r : Row). r.form)) (ap rows' q ∙ s.ended)) ∙ e in cc)
     by (inr n) = sound.known k g (sym (form_stays k n) ∙ e)
 
-  tag_same : (k u : Id) → k ≢ i → own_tag (rows k) ≡ Some u → named tags'.tags u ≡ named tags.tags u
+  pub tag_same : (k u : Id) → k ≢ i → own_tag (rows k) ≡ Some u → named tags'.tags u ≡ named tags.tags u
   tag_same k u ne e = s.tag.others u (λ q. ne (sound.owned k i u e q))
 
   -- the tag that is ended is no lead
-  own_apart : (u : Id) (leads : List Id) → named tags.tags u ≡ Some (t.combined leads) → (x : Id) → own_tag (rows i) ≡ Some x → list_any (same_id x) leads ≡ false
+  pub own_apart : (u : Id) (leads : List Id) → named tags.tags u ≡ Some (t.combined leads) → (x : Id) → own_tag (rows i) ≡ Some x → list_any (same_id x) leads ≡ false
   own_apart u leads e x o = by (t.is_dirtyable (named tags.tags x)) refl where
     by : (b : Bool) → t.is_dirtyable (named tags.tags x) ≡ b → list_any (same_id x) leads ≡ false
     by true d = unled tags rows i x sound s.unread o d u leads e
     by false d = leads_apart tags x d leads (subst (t.IsRight tags.tags tags.clock tags.count) e (sound.tags_sound.right u))
 
-  all_same : (f : Option t.Tag → ℕ) (leads : List Id) → ((x : Id) → own_tag (rows i) ≡ Some x → list_any (same_id x) leads ≡ false) → map (λ k. f (named tags'.tags k)) leads ≡ map (λ k. f (named tags.tags k)) leads
+  pub all_same : (f : Option t.Tag → ℕ) (leads : List Id) → ((x : Id) → own_tag (rows i) ≡ Some x → list_any (same_id x) leads ≡ false) → map (λ k. f (named tags'.tags k)) leads ≡ map (λ k. f (named tags.tags k)) leads
   all_same f [] h = refl
   all_same f (x ∷ xs) h =
       rw (ap f (s.tag.others x (λ q. let n : true ≡ false = sym (same_id-refl x) ∙ (or_parts (same_id x x) (list_any (same_id x) xs) (h x q)).0 in cc)), all_same f xs (λ y q. (or_parts (same_id y x) (list_any (same_id y) xs) (h y q)).1)) refl

@@ -18,3 +18,4 @@ mod Found
 mod Telling
 mod Encoded
 mod Propers
+mod Alone

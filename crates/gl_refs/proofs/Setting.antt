@@ -17,7 +17,7 @@ use Rattle.gl_refs.proofs.Rows.{combined_is, bound_fits, row_right, was_right, s
 use Rattle.gl_refs.proofs.Reaching.{reach_more}
 use Rattle.gl_refs.proofs.Leading.{not_both, last_combined, leads_kept}
 
-reads_stay : (f : Id → ℕ) (g : Id → ℕ) (s : Id) → ((k : Id) → k ≢ s → g k ≡ f k) → (leads : List Id) → list_any (same_id s) leads ≡ false → map g leads ≡ map f leads
+pub reads_stay : (f : Id → ℕ) (g : Id → ℕ) (s : Id) → ((k : Id) → k ≢ s → g k ≡ f k) → (leads : List Id) → list_any (same_id s) leads ≡ false → map g leads ≡ map f leads
 reads_stay f g s h [] e = refl
 reads_stay f g s h (x ∷ xs) e =
     let p = or_parts (same_id s x) (list_any (same_id s) xs) e in
@@ -44,10 +44,10 @@ module _ (tags tags' : t.Tags) (rows rows' : Rows) (c : Id) (value : V) (sound :
   tag_given : named tags'.tags s.tag ≡ Some (t.dirtyable tags.clock (tags.count + 1))
   tag_given = ap (λ (x : t.Tags). named x.tags s.tag) s.dirtied ∙ written.given
 
-  tag_others : (k : Id) → k ≢ s.tag → named tags'.tags k ≡ named tags.tags k
+  pub tag_others : (k : Id) → k ≢ s.tag → named tags'.tags k ≡ named tags.tags k
   tag_others k ne = ap (λ (x : t.Tags). named x.tags k) s.dirtied ∙ written.others k ne
 
-  touches : (i : Id) → (form_at (forms rows') i ≡ form_at (forms rows) i) ⊎ (list_any (same_id s.tag) (own_sources (form_at (forms rows) i)) ≡ true)
+  pub touches : (i : Id) → (form_at (forms rows') i ≡ form_at (forms rows) i) ⊎ (list_any (same_id s.tag) (own_sources (form_at (forms rows) i)) ≡ true)
   touches i = by (id_cases i c) where
     by : (i ≡ c) ⊎ (i ≢ c) → (form_at (forms rows') i ≡ form_at (forms rows) i) ⊎ (list_any (same_id s.tag) (own_sources (form_at (forms rows) i)) ≡ true)
     by (inl e) = inr (ap (λ k. list_any (same_id s.tag) (own_sources (form_at (forms rows) k))) e

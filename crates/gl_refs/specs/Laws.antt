@@ -1,13 +1,13 @@
 -- What references mean, and what keeps it.
-use Rattle.std.specs.Prelude.{◌≡◌, ℕ, ◌≤◌, ◌⊎◌, Bool, true, false, Some, option_map}
+use Rattle.std.specs.Prelude.{◌≡◌, ◌≢◌, ℕ, ◌≤◌, ◌⊎◌, Bool, true, false, Some, option_map, IsSome, is_some}
 use Rattle.std.specs.List.{list_any}
-use Rattle.gl_arena.specs.Id.{Id}
-use Rattle.gl_arena.specs.Arena.{IsStamped, by_stamp}
+use Rattle.gl_arena.specs.Id.{Id, same_id}
+use Rattle.gl_arena.specs.Arena.{IsStamped, by_stamp, Ends}
 use Rattle.gl_tags.specs.Tags as t
 use Rattle.gl_value.specs.Proper.{IsProper}
-use Rattle.gl_refs.specs.Forms.{V, Form, constant_form, source_form, Look, form_at, parts, own_sources, pair_by, below, meaning, Like, Each}
-use Rattle.gl_refs.specs.State.{Row, Rows, forms, held, held_value, held_tag, has_tag, IsKept, IsValid, IsSound, Sets, Binds, Evaluates, Frees, is_bound}
-use Rattle.gl_refs.specs.Refs.{Refs, Reads}
+use Rattle.gl_refs.specs.Forms.{V, Form, constant_form, source_form, Look, form_at, parts, own_sources, pair_by, below, meaning, Like, Each, IsUnread, IsReadFor}
+use Rattle.gl_refs.specs.State.{Row, Rows, forms, held, held_value, held_tag, has_tag, kept, own_tag, IsKept, IsValid, IsSource, Reaches, IsSound, EndsTag, Sets, Binds, Evaluates, Frees, is_bound}
+use Rattle.gl_refs.specs.Refs.{Refs, rows_of, forms_of, meaning_of, Reads, Makes, MakesSource, SetsValue}
 
 -- A reference means what its form gives where its parts mean what they mean. No rank and no graph is needed: only what
 -- was made before it is read for it.
@@ -58,6 +58,60 @@ abbrev pub ValidByTag : Type 0
 ValidByTag =
     (tags : t.Tags) (rows : Rows) (i : Id) (since : ℕ) → IsSound tags rows → has_tag (rows i) ≡ true →
     (IsValid tags since (rows i) → t.value_of tags (held_tag tags rows i) ≤ since) × (t.value_of tags (held_tag tags rows i) ≤ since → IsValid tags since (rows i))
+
+-- The sources of what a reference means are among the cells and items that are named for it, directly or through others.
+abbrev pub SourcesAreNamed : Type 0
+SourcesAreNamed =
+    (tags : t.Tags) (rows : Rows) (i c s : Id) → IsSound tags rows → IsSource rows c s → (Reaches (forms rows) i c → ⊥) →
+    list_any (same_id s) (meaning (forms rows) i).sources ≡ false
+
+-- A call leaves a reference alone: its row stays with its last evaluation, its tag has the value that it had, what may be used of it may be used
+-- still and no more, it is valid since the same revisions, and it means the same.
+pub record LeftAlone (old new : Refs) (k : Id) : Type 0 where
+  pub row : rows_of new k ≡ rows_of old k
+  pub value : (u : Id) → own_tag (rows_of old k) ≡ Some u → t.value_of new.tags u ≡ t.value_of old.tags u
+  pub usable : is_some (kept new.tags (rows_of new) k) ≡ is_some (kept old.tags (rows_of old) k)
+  pub valid : (since : ℕ) → (IsValid old.tags since (rows_of old k) → IsValid new.tags since (rows_of new k)) × (IsValid new.tags since (rows_of new k) → IsValid old.tags since (rows_of old k))
+  pub means : meaning_of new k ≡ meaning_of old k
+
+-- A read or an evaluation leaves every reference alone that isn't read for its own, directly or through others.
+abbrev pub ReadLeaves : Type 0
+ReadLeaves = (old new : Refs) (id k : Id) → IsSound old.tags (rows_of old) → Reads old new id → (IsReadFor (forms_of old) id k → ⊥) → LeftAlone old new k
+
+-- A set, and a give of another value, leave every reference alone for which the cell or item isn't named.
+abbrev pub SetLeaves : Type 0
+SetLeaves =
+    (old new : Refs) (c k : Id) (kind : Bool) (value : V) → IsSound old.tags (rows_of old) → SetsValue old new c kind value → (Reaches (forms_of old) k c → ⊥) →
+    LeftAlone old new k
+
+-- A new constant or bound reference, and a new cell or item, leave every live one alone.
+abbrev pub MakeLeaves : Type 0
+MakeLeaves = (old new : Refs) (id k : Id) (form : Form) → IsSound old.tags (rows_of old) → Makes old new id form → IsSome (forms_of old k) → LeftAlone old new k
+
+abbrev pub SourceLeaves : Type 0
+SourceLeaves =
+    (old new : Refs) (id k : Id) (kind : Bool) (value : V) → IsSound old.tags (rows_of old) → MakesSource old new id kind value → IsSome (forms_of old k) →
+    LeftAlone old new k
+
+-- The end of a reference leaves every other live one alone.
+abbrev pub FreeLeaves : Type 0
+FreeLeaves =
+    (old new : Refs) (i k : Id) → IsSound old.tags (rows_of old) → IsSound new.tags (rows_of new) → IsUnread (forms_of old) i → Ends old.rows new.rows i →
+    EndsTag old.tags new.tags (own_tag (rows_of old i)) → IsSome (forms_of old k) → k ≢ i → LeftAlone old new k
+
+-- A number that is kept for a tag with a mark: where the mark is the present count of dirtyings, it is the tag's value.
+abbrev pub IsMarked : t.Tags → Id → ℕ → ℕ → Type 0
+IsMarked tags u number mark = (mark ≤ tags.count) × (mark ≡ tags.count → number ≡ t.value_of tags u)
+
+-- What is kept with its mark stays right: a set raises the count above each mark ..
+abbrev pub SetKeepsMarks : Type 0
+SetKeepsMarks = (old new : Refs) (c u : Id) (kind : Bool) (value : V) (number mark : ℕ) → SetsValue old new c kind value → IsMarked old.tags u number mark → IsMarked new.tags u number mark
+
+-- .. and a call that touches nothing leaves the count, and the tags of those that it leaves alone.
+abbrev pub LeavingKeepsMarks : Type 0
+LeavingKeepsMarks =
+    (old new : Refs) (k u : Id) (number mark : ℕ) → LeftAlone old new k → own_tag (rows_of old k) ≡ Some u → new.tags.count ≡ old.tags.count →
+    IsMarked old.tags u number mark → IsMarked new.tags u number mark
 
 -- By stamps, as by ids: no read and no evaluation changes the form that stands at a stamp.
 abbrev pub FormsByStamp : Type 0

@@ -1,5 +1,6 @@
 -- The references with what each keeps, their tags, and the counts.
 use Rattle.std.specs.Prelude.{◌≡◌, ◌≢◌, ℕ, ◌+◌, ◌<◌, ◌≤◌, Bool, true, false, cond, ltb, List, [], ◌∷◌, map, flat_map, take, unwrap_or, Option, Some, None, IsSome, is_some, option_map, ◌⊎◌}
+use denote.Ref.{Bor}
 use Rattle.gl_value.specs.Value.{undefined}
 use Rattle.std.specs.List.{list_any}
 use Rattle.gl_arena.specs.Id.{Id, same_id}
@@ -290,6 +291,20 @@ form_placed g l = false
 abbrev pub is_position : Option Row → Bool
 is_position None = false
 is_position (Some r) = form_placed r.form r.last
+
+-- a position, be it evaluated or not
+abbrev pub all_formed : Form → Bool
+all_formed (all_form ids) = true
+all_formed g = false
+
+abbrev pub is_all : Option Form → Bool
+is_all None = false
+is_all (Some g) = all_formed g
+
+-- what a live position reads, and none where it is no live position
+abbrev pub AreParts : Option (Bor (List Id)) → Option Form → Type 0
+AreParts (Some ids) o = o ≡ Some (all_form ids.now)
+AreParts None o = is_all o ≡ false
 
 -- a source gets another value
 pub record Values (rows rows' : Rows) (i : Id) (value : V) : Type 0 where

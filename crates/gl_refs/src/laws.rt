@@ -1,7 +1,7 @@
 //! What references mean, and what keeps it. Each function does nothing: its contract is the law. The words of
 //! the contracts stand in `specs/Laws.antt`, each with its sentence.
 
-ghost use Rattle.gl_refs.specs.Laws.{MeaningIs, UntouchedStays, ApartStays, KeptIsNow, SetKeeps, BindKeeps, EvaluationKeeps, FreeKeeps, KeptLike, ValidByTag, FormsByStamp, MeansProper};
+ghost use Rattle.gl_refs.specs.Laws.{MeaningIs, UntouchedStays, ApartStays, KeptIsNow, SetKeeps, BindKeeps, EvaluationKeeps, FreeKeeps, KeptLike, ValidByTag, SourcesAreNamed, ReadLeaves, SetLeaves, MakeLeaves, SourceLeaves, FreeLeaves, SetKeepsMarks, LeavingKeepsMarks, FormsByStamp, MeansProper};
 
 /// What a reference means is one equation, whatever stands in the others.
 pub fn meaning_is()
@@ -31,6 +31,29 @@ pub fn changes_keep()
 pub fn tags_tell()
     ensures sources { KeptLike }
     ensures valid { ValidByTag }
+{}
+
+/// What a reference means has no other sources than those that are named for it.
+pub fn sources_are_named()
+    ensures { SourcesAreNamed }
+{}
+
+/// A call on one reference leaves every other alone that doesn't read it, with what is kept of it and since when it is
+/// valid: a read and an evaluation those that are not read for it, a set and a give those for which the cell or the item
+/// is not named, a making and an end all others.
+pub fn leaves_alone()
+    ensures read { ReadLeaves }
+    ensures set { SetLeaves }
+    ensures make { MakeLeaves }
+    ensures source { SourceLeaves }
+    ensures free { FreeLeaves }
+{}
+
+/// What is kept for a tag with a mark, the count of dirtyings at that time, stays right: where the mark is the present
+/// count, it is the tag's value.
+pub fn marks_stay()
+    ensures set { SetKeepsMarks }
+    ensures leaving { LeavingKeepsMarks }
 {}
 
 /// For whoever speaks of references by stamps: a read and an evaluation leave the form at each stamp.

@@ -5,7 +5,7 @@ ghost use Rattle.gl_value.specs.View.{view};
 ghost use Rattle.gl_arena.specs.Arena.{IsStamped, Ends};
 ghost use Rattle.gl_tags.specs.Tags as t;
 ghost use Rattle.gl_refs.specs.Forms.{Each, all_form, constant_form, parts, is_known, IsUnread};
-ghost use Rattle.gl_refs.specs.State.{IsKept, IsSound, IsValid, held_tag, has_tag, own_tag, is_cell, is_item, is_readable, is_position, EndsTag};
+ghost use Rattle.gl_refs.specs.State.{IsKept, IsSound, IsValid, held_tag, has_tag, own_tag, is_cell, is_item, is_readable, is_position, AreParts, EndsTag};
 ghost use Rattle.gl_refs.specs.Refs.{rows_of, forms_of, meaning_of, HasRoom, Makes, MakesSource, Keeps, SetsValue, Holds, SameCounts, HasRead, HasEvaluated};
 ghost use Rattle.gl_refs.specs.View.{seen_form};
 ghost use Rattle.gl_refs.specs.Lends.{Rests};
@@ -282,7 +282,7 @@ impl Refs {
 
     /// What a live position reads; none where it is no live position. It takes no memory.
     pub fn parts(&self, id: RefId) -> Option<&[RefId]>
-        ensures { IfSome result (λ ids. forms_of self.now id ≡ Some (all_form ids.now)) }
+        ensures { AreParts result (forms_of self.now id) }
     {
         parts_of(&self.rows, id)
     }

@@ -4,7 +4,7 @@ ghost use Rattle.gl_arena.specs.Arena.{named, with_value};
 ghost use Rattle.gl_value.specs.Value.{truthy};
 ghost use Rattle.gl_value.specs.View.{view};
 ghost use Rattle.gl_refs.specs.Forms.{all_form, reads, chosen, ids_of, form_at};
-ghost use Rattle.gl_refs.specs.State.{forms, held, held_tag, own_tag, is_readable, is_cell, is_item, is_position, IsSource, is_source, Puts};
+ghost use Rattle.gl_refs.specs.State.{AreParts, forms, held, held_tag, own_tag, is_readable, is_cell, is_item, is_position, IsSource, is_source, Puts};
 ghost use Rattle.gl_refs.specs.View.{rows_of, found_in, shown_in, value_in, seen_form, seen_last, seen_row, row_with, kind_with};
 ghost use Rattle.gl_refs.specs.Counting.{Counts};
 
@@ -144,7 +144,7 @@ pub(crate) fn is_position(rows: &Rows, id: RefId) -> bool
 
 // What a position reads.
 pub(crate) fn parts_of(rows: &Rows, id: RefId) -> Option<&[RefId]>
-    ensures { IfSome result (λ ids. forms (rows_of rows.now) id ≡ Some (all_form ids.now)) }
+    ensures { AreParts result (forms (rows_of rows.now) id) }
 {
     if rows.live(id) {
         match &rows.get(id).kind {
