@@ -1,0 +1,2 @@
+pub mod Children
+mod Cases

@@ -1,0 +1,11 @@
+use Rattle.gl_guards.proofs.laws.turns.Goals as goal
+use Rattle.gl_guards.proofs.Pages.{turn_may_pass, turn_is_renew, puts_are_renew}
+
+pub returns-clause-may : goal.returns-clause-may
+returns-clause-may c = turn_may_pass
+
+pub returns-clause-same : goal.returns-clause-same
+returns-clause-same c = turn_is_renew
+
+pub returns-clause-puts : goal.returns-clause-puts
+returns-clause-puts c = puts_are_renew

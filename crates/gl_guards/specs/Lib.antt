@@ -1,0 +1,4 @@
+pub mod Guarded
+pub mod Questions
+pub mod Settled
+pub mod Laws

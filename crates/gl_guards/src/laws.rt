@@ -1,0 +1,43 @@
+//! The laws of an update that passes over what is fresh. Each function does nothing: its contract is the law.
+
+ghost use Rattle.gl_guards.specs.Laws.{NamingsApart, FreshStays, FreshStaysIn, FreshStaysItems, FreshStaysRoot, ListGoesAlong, GuardedIsRenew, GuardedIsRenewIn, GuardedIsRenewItems, GuardedIsRenewRoot, TurnMayPass, TurnIsRenew, PutsAreRenew, FreshAsksOne, TurnAsks, PutsAsk};
+
+/// What is noted of what comes and goes leaves all things.
+pub fn notes()
+    ensures both { NamingsApart }
+{}
+
+/// Where no position in it is stale, the update of a part, a body, the items of a list or the page leaves all as it is.
+pub fn fresh()
+    ensures part { FreshStays }
+    ensures body { FreshStaysIn }
+    ensures items { FreshStaysItems }
+    ensures page { FreshStaysRoot }
+{}
+
+/// A list that wasn't touched has its items updated in order, each in its place.
+pub fn lists()
+    ensures along { ListGoesAlong }
+{}
+
+/// An update that passes over what is fresh does what the update does.
+pub fn guarded()
+    ensures part { GuardedIsRenew }
+    ensures body { GuardedIsRenewIn }
+    ensures items { GuardedIsRenewItems }
+    ensures page { GuardedIsRenewRoot }
+{}
+
+/// So it is in each turn of a session, by numbers and through the words.
+pub fn turns()
+    ensures may { TurnMayPass }
+    ensures same { TurnIsRenew }
+    ensures puts { PutsAreRenew }
+{}
+
+/// Where no position of a page is stale, one question is asked; and in each turn of a session at most as many as the turn says.
+pub fn questions()
+    ensures one { FreshAsksOne }
+    ensures most { TurnAsks }
+    ensures puts { PutsAsk }
+{}
