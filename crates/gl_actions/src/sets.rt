@@ -51,6 +51,12 @@ impl Sets {
         self.list.as_slice()
     }
 
+    pub fn into_vec(self) -> Vec<Set>
+        ensures { seen_sets result.items ≡ self }
+    {
+        self.list
+    }
+
     pub fn len(&self) -> usize
         ensures { result ≡ length self.now }
     {

@@ -1,8 +1,7 @@
 -- The numbers of a list.
 use Rattle.std.proofs.Common.{◌≡◌, ℕ, ◌+◌, ◌<◌, ◌≤◌, Bool, true, false, cond, List, [], ◌∷◌, drop, length, get_or, ◌++◌, refl, sym, ap, ◌∙◌, arith}
 use Rattle.std.specs.Prelude.{filter, flat_map, not, ◌||◌, nat_eq}
-use Rattle.std.specs.Ordering.{nat_cmp, is_eq}
-use Rattle.std.specs.BTreeSet.{BTreeSet, contains, Updates}
+use Rattle.std.specs.HashSet.{HashSet, contains, Updates}
 use Rattle.std.proofs.lemmas.Grind.{common_steps}
 use Rattle.std.proofs.lemmas.List.{drop_all}
 use Rattle.gl_base.proofs.Lists.{drop_item}
@@ -14,28 +13,28 @@ use Rattle.gl_gone.specs.declared.endings.Ending.{Ending}
 use Rattle.gl_gone.specs.declared.endings.Ending.TheVariants as ending
 use Rattle.gl_gone.specs.declared.numbers.Numbers.{Numbers}
 
-same_number : (k q : ℕ) → is_eq (nat_cmp k q) ≡ nat_eq q k
-same_number k q = grind (arith, common_steps)
+number_put : {S : Type 0} (s t : HashSet ℕ S) (k : ℕ) → Updates nat_eq s t k true → (q : ℕ) → contains nat_eq t q ≡ (nat_eq q k || contains nat_eq s q)
+number_put s t k u q = u.0 q ∙ by (nat_eq k q) (nat_eq q k) (contains nat_eq s q) (eq_flip k q) where
+  eq_flip : (x y : ℕ) → nat_eq x y ≡ nat_eq y x
+  eq_flip x y = grind (arith, common_steps)
 
-number_put : (s t : BTreeSet ℕ) (k : ℕ) → Updates nat_cmp s t k true → (q : ℕ) → contains nat_cmp t q ≡ (nat_eq q k || contains nat_cmp s q)
-number_put s t k u q = u.0 q ∙ by (is_eq (nat_cmp k q)) (nat_eq q k) (contains nat_cmp s q) (same_number k q) where
   by : (a b c : Bool) → a ≡ b → cond a true c ≡ (b || c)
   by true true c e = refl
   by false false c e = refl
   by true false c e = absurd cc
   by false true c e = absurd cc
 
-pub modifier_put : (s t : Numbers) (k : ℕ) → Updates nat_cmp s.modifiers t.modifiers k true → t.instances ≡ s.instances → (x : Ending) → is_numbered t x ≡ (id_eq (id_of x) (modifier_id k) || is_numbered s x)
+pub modifier_put : (s t : Numbers) (k : ℕ) → Updates nat_eq s.modifiers t.modifiers k true → t.instances ≡ s.instances → (x : Ending) → is_numbered t x ≡ (id_eq (id_of x) (modifier_id k) || is_numbered s x)
 modifier_put s t k u e (ending.Modifier j node name) = number_put s.modifiers t.modifiers k u j
-modifier_put s t k u e (ending.Instance j o) = ap (λ z. contains nat_cmp z j) e
+modifier_put s t k u e (ending.Instance j o) = ap (λ z. contains nat_eq z j) e
 
-pub instance_put : (s t : Numbers) (k : ℕ) → Updates nat_cmp s.instances t.instances k true → t.modifiers ≡ s.modifiers → (x : Ending) → is_numbered t x ≡ (id_eq (id_of x) (instance_id k) || is_numbered s x)
-instance_put s t k u e (ending.Modifier j node name) = ap (λ z. contains nat_cmp z j) e
+pub instance_put : (s t : Numbers) (k : ℕ) → Updates nat_eq s.instances t.instances k true → t.modifiers ≡ s.modifiers → (x : Ending) → is_numbered t x ≡ (id_eq (id_of x) (instance_id k) || is_numbered s x)
+instance_put s t k u e (ending.Modifier j node name) = ap (λ z. contains nat_eq z j) e
 instance_put s t k u e (ending.Instance j o) = number_put s.instances t.instances k u j
 
 pub none_put : (s : Numbers) → s.modifiers.keys ≡ [] → s.instances.keys ≡ [] → (xs : List Ending) (x : Ending) → (is_numbered s x || stands_in xs x) ≡ stands_in xs x
-none_put s d e xs (ending.Modifier j node name) = ap (λ ks. Rattle.std.specs.List.list_any (λ k. is_eq (nat_cmp j k)) ks || stands_in xs (ending.Modifier j node name)) d
-none_put s d e xs (ending.Instance j o) = ap (λ ks. Rattle.std.specs.List.list_any (λ k. is_eq (nat_cmp j k)) ks || stands_in xs (ending.Instance j o)) e
+none_put s d e xs (ending.Modifier j node name) = ap (λ ks. Rattle.std.specs.List.list_any (nat_eq j) ks || stands_in xs (ending.Modifier j node name)) d
+none_put s d e xs (ending.Instance j o) = ap (λ ks. Rattle.std.specs.List.list_any (nat_eq j) ks || stands_in xs (ending.Instance j o)) e
 
 -- one more
 pub put_more : (s t : Numbers) (xs : List Ending) (i : ℕ) (y : Ending) → i < length xs → y ≡ get_or xs i y → ((x : Ending) → is_numbered t x ≡ (id_eq (id_of x) (id_of y) || is_numbered s x))

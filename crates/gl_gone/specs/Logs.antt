@@ -1,7 +1,6 @@
 -- What is told of an update: the lines of what stood there before it, and stands there no more.
-use Rattle.std.specs.Prelude.{◌≡◌, ◌⊎◌, List, [], map, filter, flat_map, not, Bool, if◌then◌else◌}
-use Rattle.std.specs.Ordering.{nat_cmp}
-use Rattle.std.specs.BTreeSet.{contains}
+use Rattle.std.specs.Prelude.{◌≡◌, ◌⊎◌, List, [], map, filter, flat_map, not, Bool, if◌then◌else◌, nat_eq}
+use Rattle.std.specs.HashSet.{contains}
 use Rattle.gl_base.specs.Texts.{Text}
 use Rattle.gl_ast.specs.Template.{Body}
 use Rattle.gl_meaning.specs.Known.{Among}
@@ -34,8 +33,8 @@ stands_in xs x = has_id (id_of x) (map id_of xs)
 
 -- it has one of the numbers of its kind
 abbrev pub is_numbered : Numbers → Ending → Bool
-is_numbered s (ending.Modifier k node name) = contains nat_cmp s.modifiers k
-is_numbered s (ending.Instance k o) = contains nat_cmp s.instances k
+is_numbered s (ending.Modifier k node name) = contains nat_eq s.modifiers k
+is_numbered s (ending.Instance k o) = contains nat_eq s.instances k
 
 -- nothing for what has one of the numbers, and for all else its line
 abbrev pub gone_text : Numbers → Manifest → Ending → Text

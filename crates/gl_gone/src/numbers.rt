@@ -5,13 +5,13 @@ ghost use Rattle.gl_gone.specs.Logs.{id_of, stands_in, is_numbered};
 
 use crate::endings::Ending;
 use std::alloc::{AllocError, Global};
-use std::collections::BTreeSet;
+use std::collections::HashSet;
 
 /// The numbers of modifiers, and those of instances.
 #[derive(Drop)]
 pub struct Numbers {
-    pub modifiers: BTreeSet<u128>,
-    pub instances: BTreeSet<u128>,
+    pub modifiers: HashSet<u128>,
+    pub instances: HashSet<u128>,
 }
 
 impl Numbers {
@@ -20,8 +20,8 @@ impl Numbers {
         ensures { IfOk result (λ s. (x : _) → is_numbered s x ≡ stands_in list.now x) }
     {
         let mut numbers = Numbers {
-            modifiers: BTreeSet::new(alloc),
-            instances: BTreeSet::new(alloc),
+            modifiers: HashSet::new(alloc),
+            instances: HashSet::new(alloc),
         };
         for ending in list {
             numbers.put(ending)?;

@@ -58,7 +58,19 @@ const NESTING: &str =
 const TOO_DEEP: &str =
     "{\"classes\":{\"App\":{\"template\":\"app.hbs\"}},\"limit\":64,\"root\":\"App\"}";
 
-static ROWS: [Row; 15] = [
+const LETTER: &str =
+    "{\"classes\":{\"App\":{\"fields\":{\"l\":[\"a\"]},\"template\":\"app.hbs\"}},\"root\":\"App\"}";
+
+const ACCENT: &str =
+    "{\"classes\":{\"App\":{\"fields\":{\"a\":\"h\u{e9}\"},\"template\":\"app.hbs\"}},\"root\":\"App\"}";
+
+const BOX: &str =
+    "{\"classes\":{\"App\":{\"fields\":{\"n\":3},\"template\":\"app.hbs\"},\"Box\":{\"template\":\"box.hbs\"}},\"root\":\"App\"}";
+
+const TORN: &str =
+    "{\"classes\":{\"App\":{\"fields\":{\"s\":true},\"template\":\"app.hbs\"},\"K\":{\"teardown\":true,\"template\":\"k.hbs\"}},\"modifiers\":[\"tip\"],\"root\":\"App\"}";
+
+static ROWS: [Row; 20] = [
     (
         "a modifier is updated by a set to an equal value",
         TIP,
@@ -216,6 +228,66 @@ static ROWS: [Row; 15] = [
         "[]",
         Status::Done,
         "= 0 start\n#1 \"3\"\n",
+        "",
+    ),
+    (
+        "values of a let and quoted ones",
+        ACCENT,
+        &[(
+            "app.hbs",
+            "{{#let this.a \"x\" as |p q r|}}<p title={{p}} id=\"{{q}}-{{r}}\">{{p.length}}</p>{{/let}}",
+        )],
+        "[]",
+        Status::Done,
+        "= 0 start\n#1 <p title=\"h\u{e9}\" id=\"x-\">\n  #2 \"2\"\n",
+        "",
+    ),
+    (
+        "a value is yielded",
+        BOX,
+        &[
+            ("app.hbs", "<Box @t=\"q\" as |v|>{{v}}{{this.n}}</Box>"),
+            ("box.hbs", "[{{yield @t}}]{{@none}}"),
+        ],
+        "[]",
+        Status::Done,
+        "= 0 start\n#1 \"[\"\n#2 \"q\"\n#3 \"3\"\n#4 \"]\"\n#5 \"\"\n",
+        "",
+    ),
+    (
+        "keys by index",
+        LETTER,
+        &[(
+            "app.hbs",
+            "{{#each this.l key=\"@index\" as |x i|}}{{i}}{{x}};{{/each}}",
+        )],
+        "[{\"set\":\"l\",\"to\":[\"b\",\"c\"]}]",
+        Status::Done,
+        "= 0 start\n#1 \"0\"\n#2 \"a\"\n#3 \";\"\n= 1 set l\n#1 \"0\"\n#2 \"b\"\n#3 \";\"\n#4 \"1\"\n#5 \"c\"\n#6 \";\"\n",
+        "",
+    ),
+    (
+        "a modifier is destroyed before the instance round it",
+        TORN,
+        &[
+            ("app.hbs", "{{#if this.s}}<K />{{/if}}"),
+            ("k.hbs", "<b {{tip}}></b>"),
+        ],
+        "[{\"set\":\"s\",\"to\":false}]",
+        Status::Done,
+        "= 0 start\n#1 <b>\ninstall #1 tip\n= 1 set s\n#2 !\"\"\ndestroy #1 tip\ndestroy K\n",
+        "",
+    ),
+    (
+        "two fires of a batch, with a set between",
+        TWICE,
+        &[
+            ("app.hbs", "{{this.n}}<Kid @inc={{this.inc}} />"),
+            ("kid.hbs", "<b {{on \"click\" this.twice}}></b>"),
+        ],
+        "[{\"batch\":[{\"fire\":2,\"event\":\"click\"},{\"set\":\"n\",\"to\":7},{\"fire\":2,\"event\":\"click\"}]}]",
+        Status::Done,
+        "= 0 start\n#1 \"0\"\n#2 <b>\ninstall #2 on \"click\" \"[action twice]\"\n= 1 batch 3\n#1 \"9\"\n#2 <b>\n",
         "",
     ),
 ];

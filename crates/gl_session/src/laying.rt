@@ -1,5 +1,5 @@
 // The sets of an event, laid on the cells of a page.
-ghost use Rattle.std.specs.Prelude.{◌≡◌, map, IfOk, OnOk};
+ghost use Rattle.std.specs.Prelude.{◌≡◌, map, reverse, IfOk, OnOk};
 ghost use Rattle.gl_value.specs.View.{view};
 ghost use Rattle.gl_plain.specs.State.{touch};
 ghost use Rattle.gl_plain.specs.Turns.{begin};
@@ -8,10 +8,9 @@ ghost use Rattle.gl_vm.specs.View.{Calm};
 ghost use Rattle.gl_vm.specs.Steps.{Does};
 ghost use Rattle.gl_actions.specs.World.{World};
 ghost use Rattle.gl_actions.specs.Reads.{Reads};
-ghost use Rattle.gl_actions.specs.View.{seen_sets};
 ghost use Rattle.gl_session.specs.Laying.{GivensFor, touch_of, touch_all};
 
-use gl_actions::{Set, cell_for};
+use gl_actions::{Sets, cell_for};
 use gl_append::Page;
 use gl_opc::App;
 use gl_refs::RefId;
@@ -26,20 +25,23 @@ pub(crate) struct Given {
     pub(crate) value: Value,
 }
 
-/// The cell of each set with its value, in order.
+/// The cell of each set with its value, the first one last.
 pub(crate) fn givens_for(
     alloc: Global,
     page: &Page,
     app: &App,
-    sets: &[Set],
+    sets: Sets,
 ) -> Result<Vec<Given>, AllocError>
-    ensures { IfOk result (λ gs. (w : World) → Reads app.now page.now w → GivensFor w page.now (seen_sets sets.now) gs.items) }
+    ensures { IfOk result (λ gs. (w : World) → Reads app.now page.now w → GivensFor w page.now sets (reverse gs.items)) }
 {
+    let mut waiting = sets.into_vec();
     let mut givens = Vec::new(alloc);
-    for set in sets {
-        let cell = cell_for(alloc, page, app, set)?;
-        let value = set.to.copy()?;
-        givens.push(Given { cell, value })?;
+    while let Some(set) = waiting.pop() {
+        let cell = cell_for(alloc, page, app, &set)?;
+        givens.push(Given {
+            cell,
+            value: set.to,
+        })?;
     }
     Ok(givens)
 }
@@ -59,13 +61,14 @@ fn put(vm: &mut Vm, cell: RefId, value: Value) -> Result<(), AllocError>
     Ok(())
 }
 
-/// Gives each cell its value, in order.
-pub(crate) fn lay(vm: &mut Vm, givens: &[Given]) -> Result<(), AllocError>
-    ensures step { OnOk result (Does (λ n. touch_all (map touch_of givens.now)) vm.old vm.new) }
+/// Gives each cell its value, in order, the first one last.
+pub(crate) fn lay(vm: &mut Vm, givens: Vec<Given>) -> Result<(), AllocError>
+    ensures step { OnOk result (Does (λ n. touch_all (map touch_of (reverse givens.items))) vm.old vm.new) }
     ensures calm { Calm vm.old → Calm vm.new }
 {
-    for given in givens {
-        put(vm, given.cell, given.value.copy()?)?;
+    let mut waiting = givens;
+    while let Some(given) = waiting.pop() {
+        put(vm, given.cell, given.value)?;
     }
     Ok(())
 }

@@ -26,7 +26,6 @@ use gl_append::{Cells, Page, VmFault, append};
 use gl_events::{Applied, apply};
 use gl_gone::{Standing, push_destroyed, standing};
 use gl_meaning::Event;
-use gl_nested::stands;
 use gl_opc::App;
 use gl_update::update;
 use gl_value::Text;
@@ -78,17 +77,6 @@ fn first_made(alloc: Global, app: &App, page: Page) -> Result<(Page, Turn), Allo
     Ok((page, Turn { text, work }))
 }
 
-/// Whether the nodes of a page stand in its tree as they were rendered: where they don't it answers as for want of memory.
-fn checked(page: &Page) -> Result<(), AllocError>
-    ensures { OnOk result ((n : _) → nest_of page.now.vm.tree.forest ≡ nest (live_of (seen_code n page.now.code))) }
-{
-    if stands(&page.vm.tree, &page.code) {
-        Ok(())
-    } else {
-        Err(AllocError)
-    }
-}
-
 /// A page that is updated, and whose nodes stand in the tree as they were rendered then. It answers how many items were moved.
 fn renew(alloc: Global, app: &App, page: &mut Page) -> Result<u128, VmFault>
     requires calm { Calm page.old.vm }
@@ -100,10 +88,7 @@ fn renew(alloc: Global, app: &App, page: &mut Page) -> Result<u128, VmFault>
 {
     let cells = Cells::new(alloc);
     match update(alloc, app, &cells, page) {
-        Ok(moved) => {
-            checked(page)?;
-            Ok(moved.items)
-        }
+        Ok(moved) => Ok(moved.items),
         Err(fault) => Err(fault),
     }
 }
@@ -146,10 +131,10 @@ pub(crate) fn next_turn(
     app.keeps();
     let first = page.vm.tree.upcoming();
     let Applied { sets, missing } = apply(alloc, page, app, event)?;
-    let givens = givens_for(alloc, page, app, sets.as_slice())?;
+    let givens = givens_for(alloc, page, app, sets)?;
     let before = standing(alloc, page)?;
     begin_turn(&mut page.vm)?;
-    lay(&mut page.vm, givens.as_slice())?;
+    lay(&mut page.vm, givens)?;
     match renew(alloc, app, page) {
         Ok(moved) => {
             let work = work_of(page, first, moved);

@@ -42,7 +42,7 @@ use Rattle.gl_update.proofs.Onward.{Onward, onward_begin, onward_next, onward_fa
 use Rattle.gl_update.proofs.Renewing.{renews_same, renews_as, renews_then, renews_still, does_renews, fails_first, does_fails}
 
 -- Where none could be taken, none waits.
-pub none_waits : (es rest : List Entry) (k : ℕ) → es ≡ rest ++ [] → rest ≡ take (k - 1) es → k ≡ 0 → es ≡ []
+pub none_waits : {A : Type 0} (es rest : List A) (k : ℕ) → es ≡ rest ++ [] → rest ≡ take (k - 1) es → k ≡ 0 → es ≡ []
 none_waits es rest k is left none = is ∙ (append-nil rest ∙ (left ∙ ap (λ n. take (n - 1) es) none))
 
 module _ (a : App) (cells : CellList) where

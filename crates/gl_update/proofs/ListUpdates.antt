@@ -5,8 +5,6 @@ use Rattle.std.specs.declared.alloc.Global.{Global}
 use Rattle.gl_arena.specs.Id.{Id}
 use Rattle.gl_base.specs.Texts.{Text}
 use Rattle.gl_value.specs.Value.{Values, no_values, value}
-use Rattle.gl_value.specs.View.{view}
-use Rattle.gl_value.specs.declared.value.Value.{Value}
 use Rattle.gl_meaning.specs.Path.{otherwise, items, Path}
 use Rattle.gl_meaning.specs.Render.{Entry as PlainEntry, entries, values_listed}
 use Rattle.gl_meaning.specs.Scope.{Source}
@@ -21,7 +19,6 @@ use Rattle.gl_machine.specs.Code as c
 use Rattle.gl_machine.specs.Code.{Listing as PlainListing, Code as PlainCode, Codes as PlainCodes, ItemCodes, listed_code, unlisted_code, lives_of, items_of}
 use Rattle.gl_machine.specs.Outcome.{Outcome, ok, on_ok}
 use Rattle.gl_machine.specs.RenewCode.{Start, start, Runs, by_values, commented, kept, unlisted_with, fresh_item_as, fresh_codes, fresh_other, sync_codes_as, code_handles_as, renew_codes_as, renew_code_as}
-use Rattle.gl_vm.specs.Labels.{labelled}
 use Rattle.gl_vm.specs.View.{Tables, state_of, Agrees}
 use Rattle.gl_vm.specs.Steps.{Does}
 use Rattle.gl_vm.specs.declared.vm.Vm.{Vm}
@@ -54,11 +51,6 @@ no_items k (value v vs) f a e = absurd (cc)
 some_items : {A : Type 0} (k : Text) (vs : Values Path) (f : Values Path → A) (a : A) → (entries k 0 [] vs ≡ [] → ⊥) → by_values vs f a ≡ f vs
 some_items k no_values f a e = absurd (e refl)
 some_items k (value v vs) f a e = refl
-
--- the entries of what the position gives
-pub gives_of : (key : Text) (s : Spot) (mid : Vm) (v : Value) (es : List PlainEntry) → ((n : Tables) (u : Source → Bool) → first_value (spot_pairs (state_of n mid u) s.ref) ≡ labelled (view v)) → es ≡ entries key 0 [] (values_listed (labelled (view v)))
-    → (n : Tables) (u : Source → Bool) → es ≡ entries key 0 [] (values_listed (first_value (spot_pairs (state_of n mid u) s.ref)))
-gives_of key s mid v es f e n u = e ∙ ap (λ w. entries key 0 [] (values_listed w)) (sym (f n u))
 
 module _ (a : App) (cells : CellList) (z : Tables → PlainListing) (key : Text) (keyed : (n : Tables) → (z n).key ≡ key) (s : Spot) (left : ℕ) (p : Path) where
   -- The items are those that the position gives.

@@ -233,38 +233,42 @@ module _ (a : App) (cells : CellList) (left : ℕ) (z : Listing) (base : Path) w
 
 -- An old item
 
-module _ (a : App) (cells : CellList) (left : ℕ) (q : Path) (e : Entry) (sp : ItemSpot) (k : Option Id) (b : Codes) (x : Tables → Item) (vm vm1 vm2 : Vm) (count : Value)
-    (old : (n : Tables) → x n ≡ (seen_item_spot sp, (stamp_of k, seen_codes n b)))
-    (d1 : Does (λ n. give sp.value.1 (label sp.value.1) (labelled (view e.value))) vm vm1) (d2 : Does (λ n. give sp.index.1 (label sp.index.1) (labelled (view count))) vm1 vm2) (counts : view count ≡ count_value e.index) where
-  abbrev given : Tables → State → State
-  given n st = give sp.index.1 (label sp.index.1) (labelled (view count)) (give sp.value.1 (label sp.value.1) (labelled (view e.value)) st)
+-- what it is given
+abbrev pub given_item : ItemSpot → Entry → Tables → State → State
+given_item sp e n st = give sp.index.1 (label sp.index.1) (labelled (count_value e.index)) (give sp.value.1 (label sp.value.1) (labelled (view e.value)) st)
 
+pub item_given : (sp : ItemSpot) (e : Entry) (count : Value) (vm vm1 vm2 : Vm) → Does (λ n. give sp.value.1 (label sp.value.1) (labelled (view e.value))) vm vm1 → Does (λ n. give sp.index.1 (label sp.index.1) (labelled (view count))) vm1 vm2 → view count ≡ count_value e.index
+    → Does (given_item sp e) vm vm2
+item_given sp e count vm vm1 vm2 d1 d2 counts =
+    does_then (λ n. give sp.value.1 (label sp.value.1) (labelled (view e.value))) (λ n. give sp.index.1 (label sp.index.1) (labelled (count_value e.index))) vm vm1 vm2 d1
+    (subst (λ v. Does (λ n. give sp.index.1 (label sp.index.1) (labelled v)) vm1 vm2) counts d2)
+
+module _ (a : App) (cells : CellList) (left : ℕ) (q : Path) (e : Entry) (sp : ItemSpot) (k : Option Id) (b : Codes) (x : Tables → Item) (vm vm2 : Vm)
+    (old : (n : Tables) → x n ≡ (seen_item_spot sp, (stamp_of k, seen_codes n b)))
+    (d : Does (given_item sp e) vm vm2) where
   abbrev Walked : Renewal PlainCodes
   Walked = λ n run. renew_codes_as by_number run left q 0 (seen_codes n b)
 
   abbrev in_item : Tables → PlainCodes → Item
   in_item n cs = (seen_item_spot sp, (stamp_of k, cs))
 
-  kept_is : (n : Tables) (run : Runs) (u : Source → Bool) → on_ok (Walked n run (given n (state_of n vm u))) (λ r. ok (in_item n r.0, r.1)) ≡ KeptItem left q (seen_entry e) x n run (state_of n vm u)
+  kept_is : (n : Tables) (run : Runs) (u : Source → Bool) → on_ok (Walked n run (given_item sp e n (state_of n vm u))) (λ r. ok (in_item n r.0, r.1)) ≡ KeptItem left q (seen_entry e) x n run (state_of n vm u)
   kept_is n run u =
       let st : State = state_of n vm u in
-      ap (λ c. on_ok (Walked n run (give sp.index.1 (label sp.index.1) c (give sp.value.1 (label sp.value.1) (labelled (view e.value)) st))) (λ r. ok (in_item n r.0, r.1))) (ap labelled counts)
-      ∙ (sym (item_renewed run left q (seen_entry e) (in_item n (seen_codes n b)) st)
-      ∙ ap (λ y. one_item (renew_item_code_as by_number q (seen_entry e) (handle run left y) st)) (sym (old n)))
+      sym (item_renewed run left q (seen_entry e) (in_item n (seen_codes n b)) st)
+      ∙ ap (λ y. one_item (renew_item_code_as by_number q (seen_entry e) (handle run left y) st)) (sym (old n))
 
   pub kept_renews : (b' : Codes) (y : Tables → Item) (new : Vm) → ((n : Tables) → y n ≡ (seen_item_spot sp, (stamp_of k, seen_codes n b'))) → Renews a cells Walked vm2 (λ n. seen_codes n b') new → Renews a cells (KeptItem left q (seen_entry e) x) vm y new
   kept_renews b' y new is r =
       renews_as a cells (KeptItem left q (seen_entry e) x) (λ n. in_item n (seen_codes n b')) y vm new (λ n. sym (is n))
-      (renews_same a cells (λ n run st. on_ok (Walked n run (given n st)) (λ r. ok (in_item n r.0, r.1))) (KeptItem left q (seen_entry e) x) (λ n. in_item n (seen_codes n b')) vm new kept_is
-      (does_renews a cells given (λ n run st. on_ok (Walked n run st) (λ r. ok (in_item n r.0, r.1))) (λ n. in_item n (seen_codes n b')) vm vm2 new
-      (does_then (λ n. give sp.value.1 (label sp.value.1) (labelled (view e.value))) (λ n. give sp.index.1 (label sp.index.1) (labelled (view count))) vm vm1 vm2 d1 d2)
+      (renews_same a cells (λ n run st. on_ok (Walked n run (given_item sp e n st)) (λ r. ok (in_item n r.0, r.1))) (KeptItem left q (seen_entry e) x) (λ n. in_item n (seen_codes n b')) vm new kept_is
+      (does_renews a cells (given_item sp e) (λ n run st. on_ok (Walked n run st) (λ r. ok (in_item n r.0, r.1))) (λ n. in_item n (seen_codes n b')) vm vm2 new d
       (renews_in a cells Walked in_item (λ n. seen_codes n b') vm2 new r)))
 
   pub kept_fails : (h : VmFault) → RenewFails {A = PlainCodes} a cells Walked vm2 h → RenewFails {A = Item} a cells (KeptItem left q (seen_entry e) x) vm h
   kept_fails h r =
-      fails_same a cells (λ n run st. on_ok (Walked n run (given n st)) (λ r. ok (in_item n r.0, r.1))) (KeptItem left q (seen_entry e) x) vm h kept_is
-      (does_fails a cells given (λ n run st. on_ok (Walked n run st) (λ r. ok (in_item n r.0, r.1))) vm vm2 h
-      (does_then (λ n. give sp.value.1 (label sp.value.1) (labelled (view e.value))) (λ n. give sp.index.1 (label sp.index.1) (labelled (view count))) vm vm1 vm2 d1 d2)
+      fails_same a cells (λ n run st. on_ok (Walked n run (given_item sp e n st)) (λ r. ok (in_item n r.0, r.1))) (KeptItem left q (seen_entry e) x) vm h kept_is
+      (does_fails a cells (given_item sp e) (λ n run st. on_ok (Walked n run st) (λ r. ok (in_item n r.0, r.1))) vm vm2 h d
       (fails_in a cells Walked in_item (λ n st. st) vm2 h r))
 
 -- All of it

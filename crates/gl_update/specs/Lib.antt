@@ -4,3 +4,5 @@ pub mod ListItems
 pub mod OldItems
 pub mod Renewing
 pub mod View
+pub mod NextItem
+pub mod TakenLists

@@ -1,5 +1,7 @@
 -- Old items of a list that are taken by their keys.
 use Rattle.std.specs.Prelude.{◌≡◌, ◌≢◌, ℕ, List, [], ◌∷◌, reverse, set, Bool, true, false, Option, Some, None, slice_get}
+use Rattle.std.specs.declared.alloc.Global.{Global}
+use Rattle.std.specs.declared.boxed.Box.{Box}
 use Rattle.gl_ast.specs.ExprCode.{owned}
 use Rattle.gl_value.specs.Value.{plain}
 use Rattle.gl_value.specs.View.{view}
@@ -56,6 +58,11 @@ TakenBy (retain i) os ps o = TakenAt i os ps o
 TakenBy (move i) os ps o = TakenAt i os ps o
 TakenBy insert os ps (Some x) = ⊥
 TakenBy insert os ps None = ps ≡ os
+
+-- what may be in a box
+abbrev pub unboxed : Option (Box ItemCode Global) → Option ItemCode
+unboxed None = None
+unboxed (Some b) = Some b.value
 
 -- whether a step moves an old item
 abbrev pub is_move : Step → Bool

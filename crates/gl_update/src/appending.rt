@@ -16,6 +16,7 @@ use std::alloc::Global;
 
 /// Appends a body, of which the nodes stand nowhere yet: what is seen there, the address of its first word, its path, and
 /// how deep components may still nest.
+#[inline(never)]
 pub(crate) fn append_body(
     vm: &mut Vm,
     alloc: Global,

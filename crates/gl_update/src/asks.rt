@@ -11,6 +11,7 @@ use gl_refs::{RefId, Refs};
 use gl_value::Text;
 
 /// Whether it is a live position that was evaluated.
+#[inline(never)]
 pub(crate) fn position(refs: &Refs, id: RefId) -> bool
     ensures { IsTrue result → ((is_all (forms_of refs.now id) ≡ true) × (is_position (rows_of refs.now id) ≡ true)) }
 {
@@ -18,12 +19,14 @@ pub(crate) fn position(refs: &Refs, id: RefId) -> bool
 }
 
 /// Whether it is a text that was made.
+#[inline(never)]
 pub(crate) fn is_text(tree: &NodeTree, node: NodeId) -> bool
     ensures { IsTrue result → IsText tree.now node }
 {
     matches!(tree.find(node), Some(Node::Text(_)))
 }
 
+#[inline(never)]
 fn count_named(attrs: &[Attr], name: &Text) -> usize
     ensures { result ≡ times_named name.now attrs.now }
 {
@@ -37,6 +40,7 @@ fn count_named(attrs: &[Attr], name: &Text) -> usize
 }
 
 /// Whether it is an element that has one attribute of that name.
+#[inline(never)]
 pub(crate) fn has_once(tree: &NodeTree, node: NodeId, name: &Text) -> bool
     ensures { IsTrue result → HasOnce tree.now node name.now }
 {

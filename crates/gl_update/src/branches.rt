@@ -27,12 +27,13 @@ use std::alloc::Global;
 
 /// A branch: its condition is evaluated again where it is stale.
 #[cycle(renewing)]
+#[inline(never)]
 pub(crate) fn renew_branch(
     vm: &mut Vm,
     alloc: Global,
     app: &App,
     cells: &Cells,
-    trail: &mut Trail,
+    trail: &mut Trail<'_>,
     left: u32,
     choice: &Choice,
     spot: &Spot,
@@ -72,12 +73,13 @@ pub(crate) fn renew_branch(
 }
 
 /// The other body is appended in the place of what stood there, which is ended.
+#[inline(never)]
 fn flip(
     vm: &mut Vm,
     alloc: Global,
     app: &App,
     cells: &Cells,
-    trail: &Trail,
+    trail: &Trail<'_>,
     left: u32,
     choice: &Choice,
     shows: bool,

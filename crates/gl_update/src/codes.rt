@@ -1,5 +1,6 @@
 // What was rendered is walked along: what is stale is changed.
 ghost use Rattle.std.specs.Prelude.{◌≡◌, ◌∷◌, map, OnOk, IfErr};
+ghost use Rattle.gl_meaning.specs.Path.{main, otherwise, slot};
 ghost use Rattle.gl_meaning.specs.View.{path_view, path_step_view};
 ghost use Rattle.gl_plain.specs.Naming.{by_number};
 ghost use Rattle.gl_machine.specs.Code as c;
@@ -21,17 +22,19 @@ use gl_append::{AttrSpot, Cells, Code, Codes, ModSpot, VmFault};
 use gl_meaning::{Path, PathStep};
 use gl_nodes::NodeId;
 use gl_opc::App;
+use gl_value::Text;
 use gl_vm::Vm;
 use std::alloc::Global;
 
 /// What was rendered of a body, of which the path is the trail. Its nodes stand in the parent, or at the top.
 #[cycle(renewing)]
+#[inline(never)]
 pub(crate) fn renew_codes(
     vm: &mut Vm,
     alloc: Global,
     app: &App,
     cells: &Cells,
-    trail: &mut Trail,
+    trail: &mut Trail<'_>,
     left: u32,
     codes: &mut Codes,
     parent: &Option<NodeId>,
@@ -56,12 +59,13 @@ pub(crate) fn renew_codes(
 
 /// What was rendered of a statement, of which the path is the trail.
 #[cycle(renewing)]
+#[inline(never)]
 pub(crate) fn renew_code(
     vm: &mut Vm,
     alloc: Global,
     app: &App,
     cells: &Cells,
-    trail: &mut Trail,
+    trail: &mut Trail<'_>,
     left: u32,
     code: &mut Code,
     parent: &Option<NodeId>,
@@ -102,12 +106,9 @@ pub(crate) fn renew_code(
         Code::Unlisted { .. } => renew_list(
             vm, alloc, app, cells, trail, left, code, parent, moved,
         ),
-        Code::Let { body, .. } => {
-            let step = PathStep::Then;
-            renew_below(
-                vm, alloc, app, cells, trail, step, left, body, parent, moved,
-            )
-        }
+        Code::Let { body, .. } => renew_let(
+            vm, alloc, app, cells, trail, left, body, parent, moved,
+        ),
         Code::Component { owner, body, .. } => {
             renew_component(
                 vm,
@@ -122,23 +123,21 @@ pub(crate) fn renew_code(
             )
         }
         Code::Root { .. } => Err(VmFault::Memory),
-        Code::Yield { name, body, .. } => {
-            let step = PathStep::Slot(name.copy()?);
-            renew_below(
-                vm, alloc, app, cells, trail, step, left, body, parent, moved,
-            )
-        }
+        Code::Yield { name, body, .. } => renew_yield(
+            vm, alloc, app, cells, trail, left, name, body, parent, moved,
+        ),
     }
 }
 
 /// An element: its attributes, what is in it, and its modifiers.
 #[cycle(renewing)]
+#[inline(never)]
 fn renew_element(
     vm: &mut Vm,
     alloc: Global,
     app: &App,
     cells: &Cells,
-    trail: &mut Trail,
+    trail: &mut Trail<'_>,
     left: u32,
     node: NodeId,
     attrs: &Vec<AttrSpot>,
@@ -165,12 +164,13 @@ fn renew_element(
 
 /// What was rendered of a body, of which the path is one step below the trail.
 #[cycle(renewing)]
+#[inline(never)]
 pub(crate) fn renew_below(
     vm: &mut Vm,
     alloc: Global,
     app: &App,
     cells: &Cells,
-    trail: &mut Trail,
+    trail: &mut Trail<'_>,
     step: PathStep,
     left: u32,
     body: &mut Codes,
@@ -194,8 +194,91 @@ pub(crate) fn renew_below(
     }
 }
 
+/// The body of a `let`.
+#[cycle(renewing)]
+#[inline(never)]
+fn renew_let(
+    vm: &mut Vm,
+    alloc: Global,
+    app: &App,
+    cells: &Cells,
+    trail: &mut Trail<'_>,
+    left: u32,
+    body: &mut Codes,
+    parent: &Option<NodeId>,
+    moved: &mut Moved,
+) -> Result<(), VmFault>
+    requires calm { Calm vm.old }
+    ensures ok { OnOk result (Renews app.now cells.now (λ n run. renew_codes_as by_number run left (main ∷ trail_view trail.old) 0 (seen_codes n body.old)) vm.old (λ n. seen_codes n body.new) vm.new) }
+    ensures fails { IfErr result (RenewFails {A = PlainCodes} app.now cells.now (λ n run. renew_codes_as by_number run left (main ∷ trail_view trail.old) 0 (seen_codes n body.old)) vm.old) }
+    ensures moved { OnOk result (CodesMoved moved.old moved.new (λ n. seen_codes n body.old) (λ n. seen_codes n body.new)) }
+    ensures trail { OnOk result (trail.new ≡ trail.old) }
+    ensures calm { Calm vm.new }
+{
+    let step = PathStep::Then;
+    renew_below(
+        vm, alloc, app, cells, trail, step, left, body, parent, moved,
+    )
+}
+
+/// What stands in the place of a list's items.
+#[cycle(renewing)]
+#[inline(never)]
+pub(crate) fn renew_else(
+    vm: &mut Vm,
+    alloc: Global,
+    app: &App,
+    cells: &Cells,
+    trail: &mut Trail<'_>,
+    left: u32,
+    body: &mut Codes,
+    parent: &Option<NodeId>,
+    moved: &mut Moved,
+) -> Result<(), VmFault>
+    requires calm { Calm vm.old }
+    ensures ok { OnOk result (Renews app.now cells.now (λ n run. renew_codes_as by_number run left (otherwise ∷ trail_view trail.old) 0 (seen_codes n body.old)) vm.old (λ n. seen_codes n body.new) vm.new) }
+    ensures fails { IfErr result (RenewFails {A = PlainCodes} app.now cells.now (λ n run. renew_codes_as by_number run left (otherwise ∷ trail_view trail.old) 0 (seen_codes n body.old)) vm.old) }
+    ensures moved { OnOk result (CodesMoved moved.old moved.new (λ n. seen_codes n body.old) (λ n. seen_codes n body.new)) }
+    ensures trail { OnOk result (trail.new ≡ trail.old) }
+    ensures calm { Calm vm.new }
+{
+    let step = PathStep::Else;
+    renew_below(
+        vm, alloc, app, cells, trail, step, left, body, parent, moved,
+    )
+}
+
+/// A block that was yielded to, or what stands in its place.
+#[cycle(renewing)]
+#[inline(never)]
+fn renew_yield(
+    vm: &mut Vm,
+    alloc: Global,
+    app: &App,
+    cells: &Cells,
+    trail: &mut Trail<'_>,
+    left: u32,
+    name: &Text,
+    body: &mut Codes,
+    parent: &Option<NodeId>,
+    moved: &mut Moved,
+) -> Result<(), VmFault>
+    requires calm { Calm vm.old }
+    ensures ok { OnOk result (Renews app.now cells.now (λ n run. renew_codes_as by_number run left (slot name.now ∷ trail_view trail.old) 0 (seen_codes n body.old)) vm.old (λ n. seen_codes n body.new) vm.new) }
+    ensures fails { IfErr result (RenewFails {A = PlainCodes} app.now cells.now (λ n run. renew_codes_as by_number run left (slot name.now ∷ trail_view trail.old) 0 (seen_codes n body.old)) vm.old) }
+    ensures moved { OnOk result (CodesMoved moved.old moved.new (λ n. seen_codes n body.old) (λ n. seen_codes n body.new)) }
+    ensures trail { OnOk result (trail.new ≡ trail.old) }
+    ensures calm { Calm vm.new }
+{
+    let step = PathStep::Slot(name.copy()?);
+    renew_below(
+        vm, alloc, app, cells, trail, step, left, body, parent, moved,
+    )
+}
+
 /// What was rendered of a component, of which the path is its instance's: one level of nesting less is left.
 #[cycle(renewing)]
+#[inline(never)]
 fn renew_component(
     vm: &mut Vm,
     alloc: Global,
@@ -216,7 +299,7 @@ fn renew_component(
     if left == 0 {
         return Err(VmFault::Memory);
     }
-    let mut trail = Trail::of(alloc, path)?;
+    let mut trail = Trail::of(alloc, path);
     renew_codes(
         vm,
         alloc,

@@ -14,6 +14,7 @@ use gl_vm::Vm;
 use std::alloc::AllocError;
 
 /// Ends what was rendered in a branch, with the comment that stands there where no node does.
+#[inline(never)]
 pub(crate) fn end_branch(
     vm: &mut Vm,
     codes: &Codes,

@@ -12,6 +12,7 @@ use gl_vm::Vm;
 use std::alloc::AllocError;
 
 /// Ends all that was rendered of the items of a list.
+#[inline(never)]
 pub(crate) fn end_items(vm: &mut Vm, items: &[ItemCode]) -> Result<(), AllocError>
     requires calm { Calm vm.old }
     ensures step { OnOk result (Does (λ n. dropped_as by_number (λ q. times_items q (items_of (all_items (map (seen_item_code n) items.now))))) vm.old vm.new) }

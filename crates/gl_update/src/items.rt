@@ -28,6 +28,7 @@ use gl_vm::Vm;
 use std::alloc::{AllocError, Global};
 
 /// The path of an item, below that of the items of its list.
+#[inline(never)]
 pub(crate) fn item_path(
     alloc: Global,
     base: &Path,
@@ -41,6 +42,7 @@ pub(crate) fn item_path(
 }
 
 /// One more item, at the end.
+#[inline(never)]
 pub(crate) fn add(items: &mut Vec<ItemCode>, item: ItemCode) -> Result<(), AllocError>
     ensures { OnOk result (items.new.items ≡ items.old.items ++ item ∷ []) }
 {
@@ -49,6 +51,7 @@ pub(crate) fn add(items: &mut Vec<ItemCode>, item: ItemCode) -> Result<(), Alloc
 }
 
 // The body of an item is appended, which has its references: what is seen there, and the address of its first word.
+#[inline(never)]
 fn item_body(
     vm: &mut Vm,
     alloc: Global,
@@ -77,6 +80,7 @@ fn item_body(
 }
 
 /// Appends an item of a list at its path, and puts its nodes into the tree.
+#[inline(never)]
 pub(crate) fn fresh_item(
     vm: &mut Vm,
     alloc: Global,
@@ -121,6 +125,7 @@ pub(crate) fn fresh_item(
 
 /// Appends all items of a list, of which the first one is the last, below the path of its items, and puts their nodes into
 /// the tree.
+#[inline(never)]
 pub(crate) fn fresh_items(
     vm: &mut Vm,
     alloc: Global,

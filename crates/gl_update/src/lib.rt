@@ -18,6 +18,7 @@ mod positions;
 mod seating;
 mod standing;
 mod syncing;
+mod taken;
 mod tops;
 mod trail;
 

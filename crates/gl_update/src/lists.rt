@@ -1,18 +1,12 @@
 // `each`: items are kept by their keys, appended, and ended.
 ghost use Rattle.std.specs.Prelude.{◌≡◌, ◌≢◌, ◌+◌, [], map, IfOk, OnOk, IfErr};
-ghost use Rattle.gl_value.specs.View.{view};
 ghost use Rattle.gl_nodes.specs.Flat.{stamp_of};
-ghost use Rattle.gl_plain.specs.Binding.{first_value};
 ghost use Rattle.gl_plain.specs.Live.{times_in, times_comment, times_items};
 ghost use Rattle.gl_plain.specs.Naming.{by_number};
-ghost use Rattle.gl_plain.specs.Renew.{spot_pairs};
-ghost use Rattle.gl_plain.specs.Renew as r;
 ghost use Rattle.gl_machine.specs.Code as c;
 ghost use Rattle.gl_machine.specs.Code.{Code as PlainCode, live_of, lives_of, items_of as lives_in};
 ghost use Rattle.gl_machine.specs.RenewCode.{renew_code_as};
-ghost use Rattle.gl_vm.specs.Labels.{labelled};
-ghost use Rattle.gl_vm.specs.View.{Calm, state_of};
-ghost use Rattle.gl_vm.specs.Steps.{Does};
+ghost use Rattle.gl_vm.specs.View.{Calm};
 ghost use Rattle.gl_append.specs.CodeView.{seen_code, seen_codes, seen_listing, seen_spot, seen_item_code, all_items};
 ghost use Rattle.gl_append.specs.MachineView.{seen_left};
 ghost use Rattle.gl_update.specs.Counted.{CodeMoved, IsListed, IsUnlisted};
@@ -21,55 +15,34 @@ ghost use Rattle.gl_update.specs.ListItems.{ListsFresh, ListsNone};
 ghost use Rattle.gl_update.specs.Renewing.{Renews, RenewFails};
 
 use crate::appending::append_body;
-use crate::codes::renew_below;
+use crate::codes::renew_else;
 use crate::counting::Moved;
 use crate::ending::end_branch;
 use crate::ending_items::end_items;
 use crate::items::fresh_items;
-use crate::positions::{reread, shown};
 use crate::standing::{behind, behind_items, seat_with_comment};
-use crate::syncing::{keys_of, sync_list};
+use crate::syncing::sync_list;
+use crate::taken::{
+    Listed, Ready, Taken, Unlisted, boxed_code, first_of, lost_list, put_list, read_listed,
+    read_unlisted, take_list, without_items,
+};
 use crate::trail::Trail;
-use gl_append::{Cells, Code, Codes, Entry, ItemCode, Listing, Spot, VmFault, items_of};
+use gl_append::{Cells, Code, Codes, Entry, ItemCode, Listing, Spot, VmFault};
 use gl_meaning::PathStep;
 use gl_nodes::NodeId;
 use gl_opc::App;
-use gl_refs::{Ids, RefId};
-use gl_value::Value;
 use gl_vm::Vm;
-use std::alloc::{AllocError, Global};
-use std::mem;
-
-// What stands in the place of a list while it is updated.
-fn hollow(alloc: Global) -> Code {
-    Code::Let {
-        made: Ids::new(alloc),
-        params: Ids::new(alloc),
-        body: Codes {
-            list: Vec::new(alloc),
-        },
-    }
-}
-
-// What a position gives now: it is evaluated again where it is stale.
-fn value_now(vm: &mut Vm, id: RefId) -> Result<Value, AllocError>
-    requires calm { Calm vm.old }
-    ensures step { OnOk result (Does (λ n. r.reread id.1) vm.old vm.new) }
-    ensures value { IfOk result (λ v. (n : _) (touched : _) → first_value (spot_pairs (state_of n vm.new touched) id.1) ≡ labelled (view v)) }
-    ensures calm { Calm vm.new }
-{
-    reread(vm, id)?;
-    shown(vm, id)
-}
+use std::alloc::Global;
 
 /// An `each`, with or without items. Anything else is told as want of memory.
 #[cycle(renewing)]
+#[inline(never)]
 pub(crate) fn renew_list(
     vm: &mut Vm,
     alloc: Global,
     app: &App,
     cells: &Cells,
-    trail: &mut Trail,
+    trail: &mut Trail<'_>,
     left: u32,
     code: &mut Code,
     parent: &Option<NodeId>,
@@ -82,81 +55,106 @@ pub(crate) fn renew_list(
     ensures trail { OnOk result (trail.new ≡ trail.old) }
     ensures calm { Calm vm.new }
 {
-    match mem::replace(code, hollow(alloc)) {
-        Code::Listed {
-            listing,
-            spot,
-            items,
-        } => match renew_listed(
-            vm, alloc, app, cells, trail, left, listing, spot, items, parent, moved,
+    match take_list(alloc, code)? {
+        Taken::Items(list) => match renew_listed(
+            vm, alloc, app, cells, trail, left, list, parent, moved,
         ) {
             Ok(new) => {
-                *code = new;
+                put_list(code, new);
                 Ok(())
             }
             Err(fault) => Err(fault),
         },
-        Code::Unlisted {
-            listing,
-            spot,
-            comment,
-            body,
-        } => match renew_unlisted(
-            vm, alloc, app, cells, trail, left, listing, spot, comment, body, parent, moved,
+        Taken::Other(list) => match renew_unlisted(
+            vm, alloc, app, cells, trail, left, list, parent, moved,
         ) {
             Ok(new) => {
-                *code = new;
+                put_list(code, new);
                 Ok(())
             }
             Err(fault) => Err(fault),
         },
-        _ => Err(VmFault::Memory),
+        Taken::Nothing => Err(VmFault::Memory),
     }
 }
 
 // An `each` with items. Where it has none any more, they are ended and the other body is appended.
 #[cycle(renewing)]
+#[inline(never)]
 fn renew_listed(
     vm: &mut Vm,
     alloc: Global,
     app: &App,
     cells: &Cells,
-    trail: &mut Trail,
+    trail: &mut Trail<'_>,
     left: u32,
-    listing: Listing,
-    spot: Spot,
-    items: Vec<ItemCode>,
+    list: Box<Listed>,
     parent: &Option<NodeId>,
     moved: &mut Moved,
-) -> Result<Code, VmFault>
+) -> Result<Box<Code>, VmFault>
     requires calm { Calm vm.old }
-    ensures ok { IfOk result (λ r. Renews app.now cells.now (λ n run. renew_code_as by_number run left (trail_view trail.old) (c.listed_code (seen_listing n listing) (seen_spot spot) (all_items (map (seen_item_code n) items.items)))) vm.old (λ n. seen_code n r) vm.new) }
-    ensures fails { IfErr result (RenewFails {A = PlainCode} app.now cells.now (λ n run. renew_code_as by_number run left (trail_view trail.old) (c.listed_code (seen_listing n listing) (seen_spot spot) (all_items (map (seen_item_code n) items.items)))) vm.old) }
-    ensures moved { IfOk result (λ r. CodeMoved moved.old moved.new (λ n. c.listed_code (seen_listing n listing) (seen_spot spot) (all_items (map (seen_item_code n) items.items))) (λ n. seen_code n r)) }
+    ensures ok { IfOk result (λ r. Renews app.now cells.now (λ n run. renew_code_as by_number run left (trail_view trail.old) (c.listed_code (seen_listing n list.value.listing) (seen_spot list.value.spot) (all_items (map (seen_item_code n) list.value.items.items)))) vm.old (λ n. seen_code n r.value) vm.new) }
+    ensures fails { IfErr result (RenewFails {A = PlainCode} app.now cells.now (λ n run. renew_code_as by_number run left (trail_view trail.old) (c.listed_code (seen_listing n list.value.listing) (seen_spot list.value.spot) (all_items (map (seen_item_code n) list.value.items.items)))) vm.old) }
+    ensures moved { IfOk result (λ r. CodeMoved moved.old moved.new (λ n. c.listed_code (seen_listing n list.value.listing) (seen_spot list.value.spot) (all_items (map (seen_item_code n) list.value.items.items))) (λ n. seen_code n r.value)) }
     ensures trail { OnOk result (trail.new ≡ trail.old) }
     ensures calm { Calm vm.new }
 {
-    let value = value_now(vm, spot.id)?;
-    let keys = keys_of(alloc, &value, &listing.key)?;
-    let entries = items_of(alloc, value, &listing.key)?;
-    if entries.is_empty() {
-        unlist(
-            vm, alloc, app, cells, trail, left, listing, spot, &items, parent,
-        )
+    let read = read_listed(vm, alloc, list)?;
+    if read.1.entries.is_empty() {
+        end_list(vm, alloc, app, cells, trail, left, read.0, read.1, parent)
     } else {
         sync_list(
-            vm, alloc, app, cells, trail, left, listing, spot, items, entries, &keys, parent, moved,
+            vm, alloc, app, cells, trail, left, read.0, read.1, parent, moved,
         )
     }
 }
 
 // The items are ended, and the other body is appended in their place.
+#[inline(never)]
+fn end_list(
+    vm: &mut Vm,
+    alloc: Global,
+    app: &App,
+    cells: &Cells,
+    trail: &Trail<'_>,
+    left: u32,
+    list: Box<Listed>,
+    ready: Box<Ready>,
+    parent: &Option<NodeId>,
+) -> Result<Box<Code>, VmFault>
+    requires calm { Calm vm.old }
+    ensures ok { IfOk result (λ r. Renews app.now cells.now (ListsNone (λ n. seen_listing n list.value.listing) (seen_spot list.value.spot) left (trail_view trail.now) (λ n q. times_items q (lives_in (all_items (map (seen_item_code n) list.value.items.items))))) vm.old (λ n. seen_code n r.value) vm.new) }
+    ensures fails { IfErr result (RenewFails {A = PlainCode} app.now cells.now (ListsNone (λ n. seen_listing n list.value.listing) (seen_spot list.value.spot) left (trail_view trail.now) (λ n q. times_items q (lives_in (all_items (map (seen_item_code n) list.value.items.items))))) vm.old) }
+    ensures none { IfOk result (λ r. (n : _) → IsUnlisted (live_of (seen_code n r.value))) }
+    ensures calm { Calm vm.new }
+{
+    drop(ready);
+    let list = Box::into_inner(list);
+    match unlist(
+        vm,
+        alloc,
+        app,
+        cells,
+        trail,
+        left,
+        list.listing,
+        list.spot,
+        &list.items,
+        parent,
+    ) {
+        Ok(code) => Ok(boxed_code(alloc, code)?),
+        Err(fault) => Err(fault),
+    }
+}
+
+// The items are ended, and the other body is appended in their place.
+#[inline(never)]
 fn unlist(
     vm: &mut Vm,
     alloc: Global,
     app: &App,
     cells: &Cells,
-    trail: &Trail,
+    trail: &Trail<'_>,
     left: u32,
     listing: Listing,
     spot: Spot,
@@ -184,52 +182,95 @@ fn unlist(
 
 // An `each` without items. Where it has some now, what stood there is ended and all items are appended.
 #[cycle(renewing)]
+#[inline(never)]
 fn renew_unlisted(
     vm: &mut Vm,
     alloc: Global,
     app: &App,
     cells: &Cells,
-    trail: &mut Trail,
+    trail: &mut Trail<'_>,
     left: u32,
-    listing: Listing,
-    spot: Spot,
-    comment: Option<NodeId>,
-    body: Codes,
+    list: Box<Unlisted>,
     parent: &Option<NodeId>,
     moved: &mut Moved,
-) -> Result<Code, VmFault>
+) -> Result<Box<Code>, VmFault>
     requires calm { Calm vm.old }
-    ensures ok { IfOk result (λ r. Renews app.now cells.now (λ n run. renew_code_as by_number run left (trail_view trail.old) (c.unlisted_code (seen_listing n listing) (seen_spot spot) (stamp_of comment) (seen_codes n body))) vm.old (λ n. seen_code n r) vm.new) }
-    ensures fails { IfErr result (RenewFails {A = PlainCode} app.now cells.now (λ n run. renew_code_as by_number run left (trail_view trail.old) (c.unlisted_code (seen_listing n listing) (seen_spot spot) (stamp_of comment) (seen_codes n body))) vm.old) }
-    ensures moved { IfOk result (λ r. CodeMoved moved.old moved.new (λ n. c.unlisted_code (seen_listing n listing) (seen_spot spot) (stamp_of comment) (seen_codes n body)) (λ n. seen_code n r)) }
+    ensures ok { IfOk result (λ r. Renews app.now cells.now (λ n run. renew_code_as by_number run left (trail_view trail.old) (c.unlisted_code (seen_listing n list.value.listing) (seen_spot list.value.spot) (stamp_of list.value.comment) (seen_codes n list.value.body))) vm.old (λ n. seen_code n r.value) vm.new) }
+    ensures fails { IfErr result (RenewFails {A = PlainCode} app.now cells.now (λ n run. renew_code_as by_number run left (trail_view trail.old) (c.unlisted_code (seen_listing n list.value.listing) (seen_spot list.value.spot) (stamp_of list.value.comment) (seen_codes n list.value.body))) vm.old) }
+    ensures moved { IfOk result (λ r. CodeMoved moved.old moved.new (λ n. c.unlisted_code (seen_listing n list.value.listing) (seen_spot list.value.spot) (stamp_of list.value.comment) (seen_codes n list.value.body)) (λ n. seen_code n r.value)) }
     ensures trail { OnOk result (trail.new ≡ trail.old) }
     ensures calm { Calm vm.new }
 {
-    let value = value_now(vm, spot.id)?;
-    let entries = items_of(alloc, value, &listing.key)?;
-    if entries.is_empty() {
-        let mut body = body;
-        let step = PathStep::Else;
-        match renew_below(
-            vm, alloc, app, cells, trail, step, left, &mut body, parent, moved,
+    let read = read_unlisted(vm, alloc, list)?;
+    if read.1.entries.is_empty() {
+        let mut list = first_of(read.0, read.1);
+        match renew_else(
+            vm,
+            alloc,
+            app,
+            cells,
+            trail,
+            left,
+            &mut list.body,
+            parent,
+            moved,
         ) {
-            Ok(()) => Ok(Code::unlisted(listing, spot, comment, body)),
-            Err(fault) => Err(fault),
+            Ok(()) => Ok(without_items(alloc, list)?),
+            Err(fault) => Err(lost_list(list, fault)),
         }
     } else {
-        list(
-            vm, alloc, app, cells, trail, left, listing, spot, &comment, &body, entries, parent,
-        )
+        begin_list(vm, alloc, app, cells, trail, left, read.0, read.1, parent)
     }
 }
 
 // What stood there is ended, and these items are appended in its place.
-fn list(
+#[inline(never)]
+fn begin_list(
     vm: &mut Vm,
     alloc: Global,
     app: &App,
     cells: &Cells,
-    trail: &Trail,
+    trail: &Trail<'_>,
+    left: u32,
+    list: Box<Unlisted>,
+    ready: Box<Ready>,
+    parent: &Option<NodeId>,
+) -> Result<Box<Code>, VmFault>
+    requires calm { Calm vm.old }
+    ensures ok { IfOk result (λ r. Renews app.now cells.now (ListsFresh (λ n. seen_listing n list.value.listing) (seen_spot list.value.spot) left (trail_view trail.now) (seen_left ready.value.entries.items) (λ n q. times_in q (lives_of (seen_codes n list.value.body)) + times_comment q (stamp_of list.value.comment))) vm.old (λ n. seen_code n r.value) vm.new) }
+    ensures fails { IfErr result (RenewFails {A = PlainCode} app.now cells.now (ListsFresh (λ n. seen_listing n list.value.listing) (seen_spot list.value.spot) left (trail_view trail.now) (seen_left ready.value.entries.items) (λ n q. times_in q (lives_of (seen_codes n list.value.body)) + times_comment q (stamp_of list.value.comment))) vm.old) }
+    ensures some { IfOk result (λ r. (n : _) → IsListed (live_of (seen_code n r.value))) }
+    ensures calm { Calm vm.new }
+{
+    let list = Box::into_inner(list);
+    let ready = Box::into_inner(ready);
+    match list_items(
+        vm,
+        alloc,
+        app,
+        cells,
+        trail,
+        left,
+        list.listing,
+        list.spot,
+        &list.comment,
+        &list.body,
+        ready.entries,
+        parent,
+    ) {
+        Ok(code) => Ok(boxed_code(alloc, code)?),
+        Err(fault) => Err(fault),
+    }
+}
+
+// What stood there is ended, and these items are appended in its place.
+#[inline(never)]
+fn list_items(
+    vm: &mut Vm,
+    alloc: Global,
+    app: &App,
+    cells: &Cells,
+    trail: &Trail<'_>,
     left: u32,
     listing: Listing,
     spot: Spot,

@@ -18,6 +18,7 @@ use gl_vm::Vm;
 use std::alloc::{AllocError, Global};
 
 /// The values of the positional arguments.
+#[inline(never)]
 fn positional(alloc: Global, vm: &Vm, spot: &ModSpot) -> Result<List, AllocError>
     ensures { IfOk result (λ v. (n : _) (touched : _) → first_values spot.now.positional (values_in (spot_pairs (state_of n vm.now touched) spot.now.spot.id.1)) ≡ all_labelled v) }
 {
@@ -32,6 +33,7 @@ fn positional(alloc: Global, vm: &Vm, spot: &ModSpot) -> Result<List, AllocError
 }
 
 /// What references give, with these names.
+#[inline(never)]
 fn paired(alloc: Global, vm: &Vm, names: &[Text], ids: &[RefId]) -> Result<NamedValues, AllocError>
     ensures { IfOk result (λ v. (n : _) (touched : _) → named_with names.now (map (λ q. (pair_of (state_of n vm.now touched).look q).value) (stamps ids.now)) ≡ names_labelled v) }
 {
@@ -47,6 +49,7 @@ fn paired(alloc: Global, vm: &Vm, names: &[Text], ids: &[RefId]) -> Result<Named
 }
 
 /// The values of the arguments with names.
+#[inline(never)]
 fn named(alloc: Global, vm: &Vm, spot: &ModSpot) -> Result<NamedValues, AllocError>
     ensures { IfOk result (λ v. (n : _) (touched : _) → named_with spot.now.names (values_from spot.now.positional (values_in (spot_pairs (state_of n vm.now touched) spot.now.spot.id.1))) ≡ names_labelled v) }
 {
@@ -60,6 +63,7 @@ fn named(alloc: Global, vm: &Vm, spot: &ModSpot) -> Result<NamedValues, AllocErr
     }
 }
 
+#[inline(never)]
 fn renew_mod(vm: &mut Vm, alloc: Global, spot: &ModSpot) -> Result<(), AllocError>
     requires calm { Calm vm.old }
     ensures step { OnOk result (Does (λ n. r.renew_mods (seen_mod_spot spot.now ∷ [])) vm.old vm.new) }
@@ -78,6 +82,7 @@ fn renew_mod(vm: &mut Vm, alloc: Global, spot: &ModSpot) -> Result<(), AllocErro
 }
 
 /// The modifiers of an element: each gets the values of now where its position is stale.
+#[inline(never)]
 pub(crate) fn renew_mods(vm: &mut Vm, alloc: Global, mods: &[ModSpot]) -> Result<(), AllocError>
     requires calm { Calm vm.old }
     ensures step { OnOk result (Does (λ n. r.renew_mods (map seen_mod_spot mods.now)) vm.old vm.new) }

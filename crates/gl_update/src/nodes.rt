@@ -16,6 +16,7 @@ use gl_value::Text;
 use gl_vm::Vm;
 use std::alloc::{AllocError, Global};
 
+#[inline(never)]
 fn put_text(vm: &mut Vm, node: NodeId, text: &Text) -> Result<(), AllocError>
     ensures step { OnOk result (Does (λ n. put_thing (node_id node.1) (content (text_content text.now))) vm.old vm.new) }
     ensures calm { Calm vm.old → Calm vm.new }
@@ -27,6 +28,7 @@ fn put_text(vm: &mut Vm, node: NodeId, text: &Text) -> Result<(), AllocError>
 }
 
 /// The text of a mustache, which changes where its position is stale.
+#[inline(never)]
 pub(crate) fn renew_text(
     vm: &mut Vm,
     alloc: Global,
@@ -46,6 +48,7 @@ pub(crate) fn renew_text(
     put_text(vm, node, &text)
 }
 
+#[inline(never)]
 fn put_attribute(
     vm: &mut Vm,
     node: NodeId,
@@ -64,6 +67,7 @@ fn put_attribute(
     }
 }
 
+#[inline(never)]
 fn renew_attr(vm: &mut Vm, alloc: Global, node: NodeId, attr: &AttrSpot) -> Result<(), AllocError>
     requires calm { Calm vm.old }
     ensures step { OnOk result (Does (λ n. r.renew_attrs node.1 (seen_attr_spot attr.now ∷ [])) vm.old vm.new) }
@@ -78,6 +82,7 @@ fn renew_attr(vm: &mut Vm, alloc: Global, node: NodeId, attr: &AttrSpot) -> Resu
 }
 
 /// The attributes of an element that take a live value: each changes where its position is stale.
+#[inline(never)]
 pub(crate) fn renew_attrs(
     vm: &mut Vm,
     alloc: Global,

@@ -9,7 +9,8 @@ ghost use Rattle.gl_each.specs.View.{key_view, seen_keys, seen_steps, step_view}
 ghost use Rattle.gl_kept.specs.Between.{moves_between};
 ghost use Rattle.gl_append.specs.MachineView.{seen_left};
 ghost use Rattle.gl_update.specs.ListItems.{there};
-ghost use Rattle.gl_update.specs.OldItems.{raw_key, code_key, Plans, TakenAt, TakenBy, IsReady, is_move};
+ghost use Rattle.gl_update.specs.OldItems.{raw_key, code_key, Plans, TakenAt, TakenBy, IsReady, is_move, unboxed};
+ghost use Rattle.gl_update.specs.NextItem.{Follows};
 
 use gl_append::{Entry, ItemCode};
 use gl_each::{Key, Keys, PlanStep, keys, plan};
@@ -25,12 +26,22 @@ pub(crate) struct Work {
     pub(crate) olds: Vec<Option<ItemCode>>,
 }
 
+/// An entry with its old item, where there is one, and whether that moves.
+#[derive(Drop)]
+pub(crate) struct Next {
+    pub(crate) entry: Box<Entry>,
+    pub(crate) old: Option<Box<ItemCode>>,
+    pub(crate) moves: bool,
+}
+
+#[inline(never)]
 fn is_key_of(key: &Key, item: &ItemCode) -> bool
     ensures { result ≡ same_key (key_view key.now) (raw_key item.now) }
 {
     key.value.same(&item.spot.key) && key.occurrence == item.spot.occurrence
 }
 
+#[inline(never)]
 fn are_keys_of(keys: &[Key], items: &[ItemCode]) -> bool
     ensures { IsTrue result → seen_keys keys.now ≡ map raw_key items.now }
 {
@@ -46,6 +57,7 @@ fn are_keys_of(keys: &[Key], items: &[ItemCode]) -> bool
 }
 
 // The keys of the items. Where one stands twice, as in no list, it answers as for want of memory.
+#[inline(never)]
 fn keys_of_items(alloc: Global, items: &[ItemCode]) -> Result<Keys, AllocError>
     ensures once { IfOk result (λ ks. NoRepeat ks) }
     ensures keys { IfOk result (λ ks. ks ≡ map code_key items.now) }
@@ -62,6 +74,7 @@ fn keys_of_items(alloc: Global, items: &[ItemCode]) -> Result<Keys, AllocError>
     }
 }
 
+#[inline(never)]
 fn all_there(alloc: Global, items: Vec<ItemCode>) -> Result<Vec<Option<ItemCode>>, AllocError>
     ensures { IfOk result (λ os. os.items ≡ map Some items.items) }
 {
@@ -69,6 +82,7 @@ fn all_there(alloc: Global, items: Vec<ItemCode>) -> Result<Vec<Option<ItemCode>
 }
 
 // The steps for these keys, the first one last.
+#[inline(never)]
 fn steps_for(old: &Keys, new: &Keys) -> Result<Vec<PlanStep>, AllocError>
     requires { NoRepeat old.now }
     ensures plans { IfOk result (λ ss. Plans old.now new.now (reverse (seen_steps ss.items))) }
@@ -81,6 +95,7 @@ fn steps_for(old: &Keys, new: &Keys) -> Result<Vec<PlanStep>, AllocError>
 }
 
 // Takes the old item at a place.
+#[inline(never)]
 fn take_at(olds: &mut Vec<Option<ItemCode>>, place: u64) -> Result<Option<ItemCode>, AllocError>
     ensures { IfOk result (λ o. TakenAt place olds.old.items olds.new.items o) }
 {
@@ -96,6 +111,7 @@ fn take_at(olds: &mut Vec<Option<ItemCode>>, place: u64) -> Result<Option<ItemCo
 
 impl Work {
     /// What is to be done where these items become those of these entries, the first one last, with these keys.
+    #[inline(never)]
     pub(crate) fn new(
         alloc: Global,
         items: Vec<ItemCode>,
@@ -121,6 +137,7 @@ impl Work {
     }
 
     /// Whether the old item of the entry that was the next one moves.
+    #[inline(never)]
     pub(crate) fn moves(&self) -> bool
         ensures { (s : Step) (ss : _) → reverse (seen_steps self.now.steps.items) ≡ s ∷ ss → result ≡ is_move s }
     {
@@ -131,6 +148,7 @@ impl Work {
     }
 
     /// Takes the old item of the entry that was the next one, where there is one.
+    #[inline(never)]
     pub(crate) fn take(&mut self) -> Result<Option<ItemCode>, AllocError>
         ensures taken { IfOk result (λ o. (s : Step) (ss : _) → reverse (seen_steps self.old.steps.items) ≡ s ∷ ss → (reverse (seen_steps self.new.steps.items) ≡ ss) × TakenBy s self.old.olds.items self.new.olds.items o) }
         ensures keys { self.new.keys ≡ self.old.keys }
@@ -142,7 +160,34 @@ impl Work {
         }
     }
 
+    /// The next entry with its old item, where there is one, and whether that moves.
+    #[inline(never)]
+    pub(crate) fn next(&mut self, alloc: Global) -> Result<Option<Next>, AllocError>
+        ensures { IfOk result (λ o. Follows self.old self.new o) }
+    {
+        match self.waiting.pop() {
+            Some(entry) => Ok(Some(self.next_for(alloc, entry)?)),
+            None => Ok(None),
+        }
+    }
+
+    // What is the next one, with this entry.
+    #[inline(never)]
+    fn next_for(&mut self, alloc: Global, entry: Entry) -> Result<Next, AllocError>
+        ensures entry { IfOk result (λ x. x.entry.value ≡ entry) }
+        ensures taken { IfOk result (λ x. (s : Step) (ss : _) → reverse (seen_steps self.old.steps.items) ≡ s ∷ ss → (reverse (seen_steps self.new.steps.items) ≡ ss) × TakenBy s self.old.olds.items self.new.olds.items (unboxed x.old)) }
+        ensures moves { IfOk result (λ x. (s : Step) (ss : _) → reverse (seen_steps self.old.steps.items) ≡ s ∷ ss → x.moves ≡ is_move s) }
+        ensures keys { self.new.keys ≡ self.old.keys }
+        ensures waiting { self.new.waiting ≡ self.old.waiting }
+    {
+        let moves = self.moves();
+        let old = boxed_old(alloc, self.take()?)?;
+        let entry = Box::new(alloc, entry)?;
+        Ok(Next { entry, old, moves })
+    }
+
     /// The old items that were not taken.
+    #[inline(never)]
     pub(crate) fn left(
         alloc: Global,
         olds: Vec<Option<ItemCode>>,
@@ -153,6 +198,18 @@ impl Work {
     }
 }
 
+#[inline(never)]
+// An old item, out of the way.
+#[inline(never)]
+fn boxed_old(alloc: Global, old: Option<ItemCode>) -> Result<Option<Box<ItemCode>>, AllocError>
+    ensures { IfOk result (λ o. unboxed o ≡ old) }
+{
+    match old {
+        Some(item) => Ok(Some(Box::new(alloc, item)?)),
+        None => Ok(None),
+    }
+}
+
 fn moves_by(step: &PlanStep) -> bool
     ensures { result ≡ is_move (step_view step.now) }
 {
@@ -160,6 +217,7 @@ fn moves_by(step: &PlanStep) -> bool
 }
 
 // Takes the old item that a step keeps.
+#[inline(never)]
 fn old_of(olds: &mut Vec<Option<ItemCode>>, step: PlanStep) -> Result<Option<ItemCode>, AllocError>
     ensures { IfOk result (λ o. TakenBy (step_view step) olds.old.items olds.new.items o) }
 {

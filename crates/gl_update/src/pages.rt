@@ -1,24 +1,57 @@
 // The update of a page.
-ghost use Rattle.std.specs.Prelude.{◌≡◌, IfOk, OnOk, IfErr};
+ghost use Rattle.std.specs.Prelude.{◌≡◌, ◌+◌, IfOk, OnOk, IfErr, IsTrue};
 ghost use Rattle.gl_plain.specs.Naming.{by_number};
 ghost use Rattle.gl_machine.specs.Code.{Code as PlainCode, live_of};
 ghost use Rattle.gl_machine.specs.Root.{renew_root_code_as};
+ghost use Rattle.gl_machine.specs.Shape.{nest};
 ghost use Rattle.gl_kept.specs.Between.{moved_between};
 ghost use Rattle.gl_vm.specs.View.{Calm};
 ghost use Rattle.gl_append.specs.CodeView.{seen_code};
+ghost use Rattle.gl_append.specs.Hung.{nest_of};
 ghost use Rattle.gl_update.specs.Renewing.{Renews, RenewFails};
 
 use crate::codes::renew_codes;
 use crate::counting::Moved;
 use crate::trail::Trail;
 use gl_append::{Cells, Code, Page, VmFault};
+use gl_meaning::{Path, PathSteps};
+use gl_nested::stands;
 use gl_opc::App;
 use std::alloc::Global;
 
 /// Changes a page so that it shows the cells of now: what a touched source reached is evaluated again, branches of which the
 /// condition flipped are ended and the other ones appended, items are kept by their keys. New instances have the initial
-/// values of their fields. It answers how many items were moved. After a fault the page is not to be used.
+/// values of their fields. The nodes of the page then stand in its tree as they were rendered, in their order, and no others.
+/// It answers how many items were moved, each by one move of nodes. After a fault the page is not to be used.
 pub fn update(alloc: Global, app: &App, cells: &Cells, page: &mut Page) -> Result<Moved, VmFault>
+    requires calm { Calm page.old.vm }
+    ensures ok { OnOk result (Renews app.now cells.now (λ n run. renew_root_code_as by_number app.now.manifest.limit run (seen_code n page.old.code)) page.old.vm (λ n. seen_code n page.new.code) page.new.vm) }
+    ensures fails { IfErr result (RenewFails {A = PlainCode} app.now cells.now (λ n run. renew_root_code_as by_number app.now.manifest.limit run (seen_code n page.old.code)) page.old.vm) }
+    ensures nodes { OnOk result ((n : _) → nest_of page.new.vm.tree.forest ≡ nest (live_of (seen_code n page.new.code))) }
+    ensures moved { IfOk result (λ m. (n : _) → m.items ≡ moved_between (live_of (seen_code n page.old.code)) (live_of (seen_code n page.new.code))) }
+    ensures moves { IfOk result (λ m. page.new.vm.tree.moves ≡ page.old.vm.tree.moves + m.items) }
+    ensures calm { Calm page.new.vm }
+{
+    let before = page.vm.tree.moves();
+    let moved = renew_page(alloc, app, cells, page)?;
+    if is_settled(page, before, &moved) {
+        Ok(moved)
+    } else {
+        Err(VmFault::Memory)
+    }
+}
+
+// Whether the nodes of a page stand as they were rendered, and were moved as often as items were.
+fn is_settled(page: &Page, before: u128, moved: &Moved) -> bool
+    ensures nodes { IsTrue result → (n : _) → nest_of page.now.vm.tree.forest ≡ nest (live_of (seen_code n page.now.code)) }
+    ensures moves { IsTrue result → page.now.vm.tree.moves ≡ before + moved.now.items }
+{
+    before.checked_add(moved.items) == Some(page.vm.tree.moves())
+        && stands(&page.vm.tree, &page.code)
+}
+
+// The walk along a page. It answers how many items were moved.
+fn renew_page(alloc: Global, app: &App, cells: &Cells, page: &mut Page) -> Result<Moved, VmFault>
     requires calm { Calm page.old.vm }
     ensures ok { OnOk result (Renews app.now cells.now (λ n run. renew_root_code_as by_number app.now.manifest.limit run (seen_code n page.old.code)) page.old.vm (λ n. seen_code n page.new.code) page.new.vm) }
     ensures fails { IfErr result (RenewFails {A = PlainCode} app.now cells.now (λ n run. renew_root_code_as by_number app.now.manifest.limit run (seen_code n page.old.code)) page.old.vm) }
@@ -29,7 +62,10 @@ pub fn update(alloc: Global, app: &App, cells: &Cells, page: &mut Page) -> Resul
     if limit == 0 {
         return Err(VmFault::Memory);
     }
-    let mut trail = Trail::new(alloc);
+    let root = Path {
+        steps: PathSteps::new(alloc),
+    };
+    let mut trail = Trail::of(alloc, &root);
     let mut moved = Moved::none();
     match &mut page.code {
         Code::Root { body, .. } => match renew_codes(

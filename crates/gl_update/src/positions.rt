@@ -19,6 +19,7 @@ use gl_vm::Vm;
 use std::alloc::{AllocError, Global};
 
 /// Whether a position is stale: a source that it read at its last evaluation was touched.
+#[inline(never)]
 pub(crate) fn is_stale(vm: &mut Vm, id: RefId) -> Result<bool, AllocError>
     requires calm { Calm vm.old }
     ensures exact { IfOk result (λ b. (n : _) (touched : _) → Agrees touched vm.old → r.is_stale (state_of n vm.old touched) id.1 ≡ b) }
@@ -39,6 +40,7 @@ pub(crate) fn is_stale(vm: &mut Vm, id: RefId) -> Result<bool, AllocError>
 }
 
 /// Evaluates a position again where it is stale, and tells whether it was.
+#[inline(never)]
 pub(crate) fn reread(vm: &mut Vm, id: RefId) -> Result<bool, AllocError>
     requires calm { Calm vm.old }
     ensures step { OnOk result (Does (λ n. r.reread id.1) vm.old vm.new) }
@@ -54,6 +56,7 @@ pub(crate) fn reread(vm: &mut Vm, id: RefId) -> Result<bool, AllocError>
 }
 
 /// What the first reference of a position gives.
+#[inline(never)]
 pub(crate) fn shown(vm: &Vm, id: RefId) -> Result<Value, AllocError>
     ensures { IfOk result (λ v. (n : _) (touched : _) → first_value (spot_pairs (state_of n vm.now touched) id.1) ≡ labelled (view v)) }
 {
@@ -65,6 +68,7 @@ pub(crate) fn shown(vm: &Vm, id: RefId) -> Result<Value, AllocError>
 }
 
 /// The text that an attribute has over a position, where it isn't left out.
+#[inline(never)]
 pub(crate) fn attribute(alloc: Global, vm: &Vm, id: RefId) -> Result<Option<Text>, AllocError>
     ensures { IfOk result (λ o. (n : _) (touched : _) → attribute_value (spot_pairs (state_of n vm.now touched) id.1) ≡ o) }
 {
@@ -76,6 +80,7 @@ pub(crate) fn attribute(alloc: Global, vm: &Vm, id: RefId) -> Result<Option<Text
 }
 
 /// Evaluates a condition again where it is stale, and tells whether the main body is to be shown.
+#[inline(never)]
 pub(crate) fn condition(vm: &mut Vm, unless: bool, id: RefId) -> Result<bool, AllocError>
     requires calm { Calm vm.old }
     ensures step { OnOk result (Does (λ n. r.reread id.1) vm.old vm.new) }

@@ -14,6 +14,7 @@ pub(crate) struct Seat {
 
 /// The nodes of a body, and after them the comment where there is one.
 #[cycle(seating)]
+#[inline(never)]
 pub(crate) fn seat_body(
     tree: &mut NodeTree,
     seat: &Seat,
@@ -30,6 +31,7 @@ pub(crate) fn seat_body(
 }
 
 #[cycle(seating)]
+#[inline(never)]
 fn seat_codes(tree: &mut NodeTree, seat: &Seat, codes: &Codes) -> Result<(), AllocError>
     ensures { OnOk result (tree.new.nodes ≡ tree.old.nodes) }
 {
@@ -40,6 +42,7 @@ fn seat_codes(tree: &mut NodeTree, seat: &Seat, codes: &Codes) -> Result<(), All
 }
 
 #[cycle(seating)]
+#[inline(never)]
 fn seat_code(tree: &mut NodeTree, seat: &Seat, code: &Code) -> Result<(), AllocError>
     ensures { OnOk result (tree.new.nodes ≡ tree.old.nodes) }
 {
@@ -58,6 +61,7 @@ fn seat_code(tree: &mut NodeTree, seat: &Seat, code: &Code) -> Result<(), AllocE
 }
 
 #[cycle(seating)]
+#[inline(never)]
 fn seat_items(tree: &mut NodeTree, seat: &Seat, items: &[ItemCode]) -> Result<(), AllocError>
     ensures { OnOk result (tree.new.nodes ≡ tree.old.nodes) }
 {
@@ -68,6 +72,7 @@ fn seat_items(tree: &mut NodeTree, seat: &Seat, items: &[ItemCode]) -> Result<()
 }
 
 // A new element, and in it the nodes of its body.
+#[inline(never)]
 fn seat_element(
     tree: &mut NodeTree,
     seat: &Seat,
@@ -80,6 +85,7 @@ fn seat_element(
     hang(tree, Some(node), body)
 }
 
+#[inline(never)]
 fn seat_node(tree: &mut NodeTree, seat: &Seat, node: NodeId) -> Result<(), AllocError>
     ensures { OnOk result (tree.new.nodes ≡ tree.old.nodes) }
 {

@@ -16,6 +16,7 @@ use std::alloc::AllocError;
 
 /// The place behind the last node of a body with its comment. Where it has no node at all, as no branch and no item, it
 /// answers as for want of memory.
+#[inline(never)]
 pub(crate) fn behind(
     vm: &Vm,
     parent: &Option<NodeId>,
@@ -32,6 +33,7 @@ pub(crate) fn behind(
 }
 
 /// The place behind the last item. Where there is none it answers as for want of memory.
+#[inline(never)]
 pub(crate) fn behind_items(
     vm: &Vm,
     parent: &Option<NodeId>,
@@ -44,6 +46,7 @@ pub(crate) fn behind_items(
 }
 
 /// The place before the first item. Where there is none it answers as for want of memory.
+#[inline(never)]
 pub(crate) fn before_items(
     parent: &Option<NodeId>,
     items: &[ItemCode],
@@ -54,6 +57,7 @@ pub(crate) fn before_items(
     }
 }
 
+#[inline(never)]
 fn before(
     parent: &Option<NodeId>,
     body: &Codes,
@@ -68,6 +72,7 @@ fn before(
     }
 }
 
+#[inline(never)]
 fn seat_all(
     vm: &mut Vm,
     seat: &Seat,
@@ -82,6 +87,7 @@ fn seat_all(
 
 /// Makes the empty comment of a branch or an item, where what was rendered in it has no node, and puts all its nodes into
 /// the tree.
+#[inline(never)]
 pub(crate) fn seat_with_comment(
     vm: &mut Vm,
     seat: &Seat,
@@ -95,6 +101,7 @@ pub(crate) fn seat_with_comment(
     Ok(comment)
 }
 
+#[inline(never)]
 fn shift_body(
     tree: &mut NodeTree,
     seat: &Seat,
@@ -112,6 +119,7 @@ fn shift_body(
     tree.shift(first, last, seat.next)
 }
 
+#[inline(never)]
 fn move_item(
     vm: &mut Vm,
     seat: &Seat,
@@ -125,6 +133,7 @@ fn move_item(
 }
 
 /// An item that is kept moves to the seat, which is counted, or stays, and then the seat is behind it.
+#[inline(never)]
 pub(crate) fn settle_item(
     vm: &mut Vm,
     moves: bool,

@@ -1,7 +1,7 @@
 // The items of a list become those of other entries: an old item with the key of an entry is kept, where there is none one
 // is appended, and what is left of the old ones is ended.
-ghost use Rattle.std.specs.Prelude.{◌≡◌, ◌∷◌, [], map, reverse, IfOk, OnOk, IfErr};
-ghost use Rattle.gl_value.specs.Value.{plain};
+ghost use Rattle.std.specs.Prelude.{◌≡◌, ◌∷◌, ◌++◌, ◌+◌, ◌<◌, ◌^◌, [], length, map, reverse, IfOk, OnOk, IfErr};
+ghost use Rattle.gl_value.specs.Value.{count_value, plain};
 ghost use Rattle.gl_value.specs.View.{view};
 ghost use Rattle.gl_meaning.specs.Path.{item};
 ghost use Rattle.gl_meaning.specs.Render.{entries, values_listed};
@@ -9,29 +9,32 @@ ghost use Rattle.gl_meaning.specs.View.{path_view};
 ghost use Rattle.gl_each.specs.Key.{entry_key, entry_keys};
 ghost use Rattle.gl_each.specs.Moved.{moves as count_moves};
 ghost use Rattle.gl_each.specs.View.{seen_steps};
+ghost use Rattle.gl_plain.specs.Live.{times_items};
+ghost use Rattle.gl_plain.specs.Naming.{by_number, dropped_as};
 ghost use Rattle.gl_plain.specs.Renew as r;
 ghost use Rattle.gl_machine.specs.Code as c;
-ghost use Rattle.gl_machine.specs.Code.{Code as PlainCode, ItemCodes};
+ghost use Rattle.gl_machine.specs.Code.{Code as PlainCode, ItemCodes, items_of};
 ghost use Rattle.gl_vm.specs.Labels.{label, labelled};
 ghost use Rattle.gl_vm.specs.View.{Calm};
 ghost use Rattle.gl_vm.specs.Steps.{Does};
 ghost use Rattle.gl_append.specs.CodeView.{seen_code, seen_listing, seen_spot, seen_item_code, all_items};
 ghost use Rattle.gl_append.specs.MachineView.{seen_entry, seen_left};
 ghost use Rattle.gl_update.specs.View.{trail_view};
-ghost use Rattle.gl_update.specs.ListItems.{Item, spot_key, there, KeptItem, SyncItems, Syncs};
-ghost use Rattle.gl_update.specs.Counted.{CodeMoved, HasKey, ItemMoved, ItemsMoved, KeptMoved};
-ghost use Rattle.gl_update.specs.OldItems.{IsReady, OneItem};
+ghost use Rattle.gl_update.specs.ListItems.{Item, spot_key, there, FreshItem, KeptItem, SyncItems, Syncs};
+ghost use Rattle.gl_update.specs.Counted.{CodeMoved, HasKey, ItemMoved, ItemsMoved, KeptMoved, one_if};
+ghost use Rattle.gl_update.specs.OldItems.{IsReady, OneItem, unboxed};
 ghost use Rattle.gl_update.specs.Renewing.{Renews, RenewFails};
 
-use crate::codes::renew_below;
+use crate::codes::renew_codes;
 use crate::counting::Moved;
 use crate::ending_items::end_items;
 use crate::items::{add, fresh_item, item_path};
-use crate::old_items::Work;
+use crate::old_items::{Next, Work};
 use crate::seating::Seat;
-use crate::standing::{before_items, settle_item};
+use crate::standing::settle_item;
+use crate::taken::{Begun, Listed, Ready, begin_sync, end_sync, lost_sync};
 use crate::trail::Trail;
-use gl_append::{Cells, Code, Entry, ItemCode, Listing, Spot, VmFault, counted};
+use gl_append::{Cells, Code, Entry, ItemCode, Listing, VmFault, counted};
 use gl_each::{Keys, keys};
 use gl_meaning::{Path, PathStep};
 use gl_nodes::NodeId;
@@ -40,8 +43,10 @@ use gl_refs::RefId;
 use gl_value::{Text, Value};
 use gl_vm::Vm;
 use std::alloc::{AllocError, Global};
+use std::mem;
 
 /// The keys of the items of a value that is a list. Any other value has none.
+#[inline(never)]
 pub(crate) fn keys_of(alloc: Global, value: &Value, key: &Text) -> Result<Keys, AllocError>
     ensures { IfOk result (λ ks. ks ≡ entry_keys (entries key.now 0 [] (values_listed (labelled (view value.now))))) }
 {
@@ -52,6 +57,7 @@ pub(crate) fn keys_of(alloc: Global, value: &Value, key: &Text) -> Result<Keys, 
 }
 
 // Gives an item's reference a value, where it is a live one.
+#[inline(never)]
 fn give(vm: &mut Vm, id: RefId, value: Value) -> Result<(), AllocError>
     ensures step { OnOk result (Does (λ n. r.give id.1 (label id.1) (labelled (view value))) vm.old vm.new) }
     ensures calm { Calm vm.old → Calm vm.new }
@@ -66,179 +72,270 @@ fn give(vm: &mut Vm, id: RefId, value: Value) -> Result<(), AllocError>
     Ok(())
 }
 
+// An old item is given the value and the index of an entry, and the trail is at it.
+#[inline(never)]
+fn begin_item(
+    vm: &mut Vm,
+    trail: &mut Trail<'_>,
+    old: Box<ItemCode>,
+    entry: Box<Entry>,
+) -> Result<Box<ItemCode>, AllocError>
+    ensures item { IfOk result (λ r. r ≡ old) }
+    ensures step { OnOk result (Does (λ n st. r.give old.value.spot.index.1 (label old.value.spot.index.1) (labelled (count_value entry.value.index)) (r.give old.value.spot.value.1 (label old.value.spot.value.1) (labelled (view entry.value.value)) st)) vm.old vm.new) }
+    ensures base { OnOk result (trail.new.base ≡ trail.old.base) }
+    ensures steps { OnOk result (trail.new.path.steps ≡ trail.old.path.steps ++ item (plain (view entry.value.key)) entry.value.occurrence ∷ []) }
+    ensures view { OnOk result (trail_view trail.new ≡ item (plain (view entry.value.key)) entry.value.occurrence ∷ trail_view trail.old) }
+    ensures room { OnOk result (length trail.old.path.steps < 2 ^ 64) }
+    ensures calm { Calm vm.old → Calm vm.new }
+{
+    let entry = Box::into_inner(entry);
+    give(vm, old.spot.value, entry.value)?;
+    give(vm, old.spot.index, counted(entry.index))?;
+    trail.push(PathStep::Item {
+        key: entry.key,
+        occurrence: entry.occurrence,
+    })?;
+    Ok(old)
+}
+
+// An item that was walked along is settled.
+#[inline(never)]
+fn settled(
+    vm: &mut Vm,
+    moves: bool,
+    item: Box<ItemCode>,
+    seat: &mut Seat,
+    moved: &mut Moved,
+) -> Result<Box<ItemCode>, AllocError>
+    ensures item { IfOk result (λ r. r ≡ item) }
+    ensures step { OnOk result (Does (λ n st. st) vm.old vm.new) }
+    ensures moved { OnOk result (moved.new.items ≡ moved.old.items + one_if moves) }
+    ensures calm { Calm vm.old → Calm vm.new }
+{
+    settle_item(vm, moves, &item.body, &item.comment, seat, moved)?;
+    Ok(item)
+}
+
+// An item is lost, where what stands in it could not be updated. It is dropped here, so that the walk takes less stack.
+#[inline(never)]
+fn lost_item(item: Box<ItemCode>, fault: VmFault) -> VmFault
+    ensures { result ≡ fault }
+{
+    drop(item);
+    fault
+}
+
 // An old item is given the value and the index of an entry, and what was rendered in it is walked along. The trail is that of
 // the items of the list.
 #[cycle(renewing)]
+#[inline(never)]
 fn kept_item(
     vm: &mut Vm,
     alloc: Global,
     app: &App,
     cells: &Cells,
-    trail: &mut Trail,
+    trail: &mut Trail<'_>,
     left: u32,
-    old: ItemCode,
-    entry: Entry,
+    old: Box<ItemCode>,
+    entry: Box<Entry>,
     moves: bool,
     seat: &mut Seat,
     moved: &mut Moved,
-) -> Result<ItemCode, VmFault>
+) -> Result<Box<ItemCode>, VmFault>
     requires calm { Calm vm.old }
-    ensures ok { IfOk result (λ r. Renews app.now cells.now (KeptItem left (item (plain (view entry.key)) entry.occurrence ∷ trail_view trail.old) (seen_entry entry) (λ n. seen_item_code n old)) vm.old (λ n. seen_item_code n r) vm.new) }
-    ensures fails { IfErr result (RenewFails {A = Item} app.now cells.now (KeptItem left (item (plain (view entry.key)) entry.occurrence ∷ trail_view trail.old) (seen_entry entry) (λ n. seen_item_code n old)) vm.old) }
-    ensures moved { IfOk result (λ r. KeptMoved moved.old moved.new moves (λ n. seen_item_code n old) (λ n. seen_item_code n r)) }
-    ensures key { IfOk result (λ r. (n : _) → spot_key (seen_item_code n r) ≡ spot_key (seen_item_code n old)) }
+    ensures ok { IfOk result (λ r. Renews app.now cells.now (KeptItem left (item (plain (view entry.value.key)) entry.value.occurrence ∷ trail_view trail.old) (seen_entry entry.value) (λ n. seen_item_code n old.value)) vm.old (λ n. seen_item_code n r.value) vm.new) }
+    ensures fails { IfErr result (RenewFails {A = Item} app.now cells.now (KeptItem left (item (plain (view entry.value.key)) entry.value.occurrence ∷ trail_view trail.old) (seen_entry entry.value) (λ n. seen_item_code n old.value)) vm.old) }
+    ensures moved { IfOk result (λ r. KeptMoved moved.old moved.new moves (λ n. seen_item_code n old.value) (λ n. seen_item_code n r.value)) }
+    ensures key { IfOk result (λ r. (n : _) → spot_key (seen_item_code n r.value) ≡ spot_key (seen_item_code n old.value)) }
     ensures trail { OnOk result (trail.new ≡ trail.old) }
     ensures calm { Calm vm.new }
 {
-    let ItemCode {
-        spot,
-        comment,
-        body,
-    } = old;
-    give(vm, spot.value, entry.value)?;
-    give(vm, spot.index, counted(entry.index))?;
-    let step = PathStep::Item {
-        key: entry.key,
-        occurrence: entry.occurrence,
-    };
-    let mut body = body;
-    match renew_below(
+    let mut kept = begin_item(vm, trail, old, entry)?;
+    match renew_codes(
         vm,
         alloc,
         app,
         cells,
         trail,
-        step,
         left,
-        &mut body,
+        &mut kept.body,
         &seat.parent,
         moved,
     ) {
         Ok(()) => {
-            settle_item(vm, moves, &body, &comment, seat, moved)?;
-            Ok(ItemCode::rendered(spot, comment, body))
+            trail.pop(alloc);
+            Ok(settled(vm, moves, kept, seat, moved)?)
         }
+        Err(fault) => Err(lost_item(kept, fault)),
+    }
+}
+
+// An item, out of the way.
+fn boxed(alloc: Global, item: ItemCode) -> Result<Box<ItemCode>, AllocError>
+    ensures { IfOk result (λ b. b.value ≡ item) }
+{
+    Ok(Box::new(alloc, item)?)
+}
+
+// The item of an entry, which is a new one.
+#[inline(never)]
+fn new_item(
+    vm: &mut Vm,
+    alloc: Global,
+    app: &App,
+    cells: &Cells,
+    left: u32,
+    listing: &Listing,
+    base: &Path,
+    entry: Box<Entry>,
+    seat: &Seat,
+) -> Result<Box<ItemCode>, VmFault>
+    requires calm { Calm vm.old }
+    ensures ok { IfOk result (λ r. Renews app.now cells.now (FreshItem (λ n. seen_listing n listing.now) left (item (plain (view entry.value.key)) entry.value.occurrence ∷ path_view base.now) (seen_entry entry.value)) vm.old (λ n. seen_item_code n r.value) vm.new) }
+    ensures fails { IfErr result (RenewFails {A = Item} app.now cells.now (FreshItem (λ n. seen_listing n listing.now) left (item (plain (view entry.value.key)) entry.value.occurrence ∷ path_view base.now) (seen_entry entry.value)) vm.old) }
+    ensures key { IfOk result (λ r. (n : _) → spot_key (seen_item_code n r.value) ≡ entry_key (seen_entry entry.value)) }
+    ensures calm { Calm vm.new }
+{
+    let entry = Box::into_inner(entry);
+    let path = item_path(alloc, base, &entry.key, entry.occurrence)?;
+    match fresh_item(vm, alloc, app, cells, left, listing, path, entry, seat) {
+        Ok(item) => Ok(boxed(alloc, item)?),
         Err(fault) => Err(fault),
     }
 }
 
 // The item of an entry: the old one that was taken for it, or a new one. The trail is that of the items of the list.
 #[cycle(renewing)]
+#[inline(never)]
 fn entry_item(
     vm: &mut Vm,
     alloc: Global,
     app: &App,
     cells: &Cells,
-    trail: &mut Trail,
+    trail: &mut Trail<'_>,
     left: u32,
     listing: &Listing,
     base: &Path,
-    old: Option<ItemCode>,
-    entry: Entry,
-    moves: bool,
+    next: Next,
     seat: &mut Seat,
     moved: &mut Moved,
-) -> Result<ItemCode, VmFault>
+) -> Result<Box<ItemCode>, VmFault>
     requires calm { Calm vm.old }
     requires base { path_view base.now ≡ trail_view trail.old }
-    ensures ok { IfOk result (λ r. Renews app.now cells.now (OneItem (λ n. seen_listing n listing.now) left (item (plain (view entry.key)) entry.occurrence ∷ trail_view trail.old) (seen_entry entry) old) vm.old (λ n. seen_item_code n r) vm.new) }
-    ensures fails { IfErr result (RenewFails {A = Item} app.now cells.now (OneItem (λ n. seen_listing n listing.now) left (item (plain (view entry.key)) entry.occurrence ∷ trail_view trail.old) (seen_entry entry) old) vm.old) }
-    ensures moved { IfOk result (λ r. ItemMoved moved.old moved.new moves old r) }
-    ensures key { IfOk result (λ r. (n : _) → HasKey n old (entry_key (seen_entry entry)) r) }
+    ensures ok { IfOk result (λ r. Renews app.now cells.now (OneItem (λ n. seen_listing n listing.now) left (item (plain (view next.entry.value.key)) next.entry.value.occurrence ∷ trail_view trail.old) (seen_entry next.entry.value) (unboxed next.old)) vm.old (λ n. seen_item_code n r.value) vm.new) }
+    ensures fails { IfErr result (RenewFails {A = Item} app.now cells.now (OneItem (λ n. seen_listing n listing.now) left (item (plain (view next.entry.value.key)) next.entry.value.occurrence ∷ trail_view trail.old) (seen_entry next.entry.value) (unboxed next.old)) vm.old) }
+    ensures moved { IfOk result (λ r. ItemMoved moved.old moved.new next.moves (unboxed next.old) r.value) }
+    ensures key { IfOk result (λ r. (n : _) → HasKey n (unboxed next.old) (entry_key (seen_entry next.entry.value)) r.value) }
     ensures trail { OnOk result (trail.new ≡ trail.old) }
     ensures calm { Calm vm.new }
 {
+    let Next { entry, old, moves } = next;
     match old {
         Some(item) => kept_item(
             vm, alloc, app, cells, trail, left, item, entry, moves, seat, moved,
         ),
-        None => {
-            let path = item_path(alloc, base, &entry.key, entry.occurrence)?;
-            fresh_item(vm, alloc, app, cells, left, listing, path, entry, seat)
-        }
+        None => new_item(vm, alloc, app, cells, left, listing, base, entry, seat),
     }
+}
+
+// One more item, at the end.
+#[inline(never)]
+fn add_item(items: &mut Vec<ItemCode>, item: Box<ItemCode>) -> Result<(), AllocError>
+    ensures { OnOk result (items.new.items ≡ items.old.items ++ item.value ∷ []) }
+{
+    add(items, Box::into_inner(item))
+}
+
+// The old items that were not taken are ended.
+#[inline(never)]
+fn end_left(vm: &mut Vm, alloc: Global, work: &mut Work) -> Result<(), AllocError>
+    requires calm { Calm vm.old }
+    ensures step { OnOk result (Does (λ n. dropped_as by_number (λ q. times_items q (items_of (all_items (map (seen_item_code n) (there work.old.olds.items)))))) vm.old vm.new) }
+    ensures calm { Calm vm.new }
+{
+    let untaken = mem::replace(&mut work.olds, Vec::new(alloc));
+    let olds = Work::left(alloc, untaken)?;
+    end_items(vm, olds.as_slice())
 }
 
 // The entries that wait, one after another, and then the end of the old items that are left. The trail is that of the items
 // of the list.
 #[cycle(renewing)]
+#[inline(never)]
 fn sync_items(
     vm: &mut Vm,
     alloc: Global,
     app: &App,
     cells: &Cells,
-    trail: &mut Trail,
+    trail: &mut Trail<'_>,
     left: u32,
-    listing: &Listing,
-    base: &Path,
-    work: Work,
-    seat: Seat,
+    begun: &mut Begun,
     moved: &mut Moved,
 ) -> Result<Vec<ItemCode>, VmFault>
     requires calm { Calm vm.old }
-    requires base { path_view base.now ≡ trail_view trail.old }
-    requires ready { IsReady work }
-    ensures ok { IfOk result (λ r. Renews app.now cells.now (SyncItems (λ n. seen_listing n listing.now) left (trail_view trail.old) (seen_left work.waiting.items) (λ n. map (seen_item_code n) (there work.olds.items))) vm.old (λ n. all_items (map (seen_item_code n) r.items)) vm.new) }
-    ensures fails { IfErr result (RenewFails {A = ItemCodes} app.now cells.now (SyncItems (λ n. seen_listing n listing.now) left (trail_view trail.old) (seen_left work.waiting.items) (λ n. map (seen_item_code n) (there work.olds.items))) vm.old) }
-    ensures moved { IfOk result (λ r. ItemsMoved moved.old moved.new (count_moves (reverse (seen_steps work.steps.items))) (there work.olds.items) r.items) }
-    ensures keys { IfOk result (λ r. (n : _) → map spot_key (map (seen_item_code n) r.items) ≡ entry_keys (seen_left work.waiting.items)) }
+    requires base { path_view begun.old.base ≡ trail_view trail.old }
+    requires ready { IsReady begun.old.work }
+    ensures ok { IfOk result (λ r. Renews app.now cells.now (SyncItems (λ n. seen_listing n begun.old.listing) left (trail_view trail.old) (seen_left begun.old.work.waiting.items) (λ n. map (seen_item_code n) (there begun.old.work.olds.items))) vm.old (λ n. all_items (map (seen_item_code n) r.items)) vm.new) }
+    ensures fails { IfErr result (RenewFails {A = ItemCodes} app.now cells.now (SyncItems (λ n. seen_listing n begun.old.listing) left (trail_view trail.old) (seen_left begun.old.work.waiting.items) (λ n. map (seen_item_code n) (there begun.old.work.olds.items))) vm.old) }
+    ensures moved { IfOk result (λ r. ItemsMoved moved.old moved.new (count_moves (reverse (seen_steps begun.old.work.steps.items))) (there begun.old.work.olds.items) r.items) }
+    ensures keys { IfOk result (λ r. (n : _) → map spot_key (map (seen_item_code n) r.items) ≡ entry_keys (seen_left begun.old.work.waiting.items)) }
+    ensures listing { OnOk result (begun.new.listing ≡ begun.old.listing) }
+    ensures spot { OnOk result (begun.new.spot ≡ begun.old.spot) }
     ensures trail { OnOk result (trail.new ≡ trail.old) }
     ensures calm { Calm vm.new }
 {
-    let mut work = work;
-    let mut seat = seat;
     let mut done = Vec::new(alloc);
-    while let Some(entry) = work.waiting.pop() {
-        let moves = work.moves();
-        let old = work.take()?;
+    while let Some(next) = begun.work.next(alloc)? {
         match entry_item(
-            vm, alloc, app, cells, trail, left, listing, base, old, entry, moves, &mut seat, moved,
+            vm,
+            alloc,
+            app,
+            cells,
+            trail,
+            left,
+            &begun.listing,
+            &begun.base,
+            next,
+            &mut begun.seat,
+            moved,
         ) {
-            Ok(item) => add(&mut done, item)?,
+            Ok(item) => add_item(&mut done, item)?,
             Err(fault) => return Err(fault),
         }
     }
-    let olds = Work::left(alloc, work.olds)?;
-    end_items(vm, olds.as_slice())?;
+    end_left(vm, alloc, &mut begun.work)?;
     Ok(done)
 }
 
-/// The items of a list become those of these entries, the first one last, with these keys.
+/// The items of a list become those that it has now.
 #[cycle(renewing)]
+#[inline(never)]
 pub(crate) fn sync_list(
     vm: &mut Vm,
     alloc: Global,
     app: &App,
     cells: &Cells,
-    trail: &mut Trail,
+    trail: &mut Trail<'_>,
     left: u32,
-    listing: Listing,
-    spot: Spot,
-    items: Vec<ItemCode>,
-    entries: Vec<Entry>,
-    keys: &Keys,
+    list: Box<Listed>,
+    ready: Box<Ready>,
     parent: &Option<NodeId>,
     moved: &mut Moved,
-) -> Result<Code, VmFault>
+) -> Result<Box<Code>, VmFault>
     requires calm { Calm vm.old }
-    requires keys { keys.now ≡ entry_keys (seen_left entries.items) }
-    ensures ok { IfOk result (λ r. Renews app.now cells.now (Syncs (λ n. seen_listing n listing) (seen_spot spot) left (trail_view trail.old) (seen_left entries.items) (λ n. map (seen_item_code n) items.items)) vm.old (λ n. seen_code n r) vm.new) }
-    ensures fails { IfErr result (RenewFails {A = PlainCode} app.now cells.now (Syncs (λ n. seen_listing n listing) (seen_spot spot) left (trail_view trail.old) (seen_left entries.items) (λ n. map (seen_item_code n) items.items)) vm.old) }
-    ensures moved { IfOk result (λ r. CodeMoved moved.old moved.new (λ n. c.listed_code (seen_listing n listing) (seen_spot spot) (all_items (map (seen_item_code n) items.items))) (λ n. seen_code n r)) }
+    requires keys { ready.value.keys ≡ entry_keys (seen_left ready.value.entries.items) }
+    ensures ok { IfOk result (λ r. Renews app.now cells.now (Syncs (λ n. seen_listing n list.value.listing) (seen_spot list.value.spot) left (trail_view trail.old) (seen_left ready.value.entries.items) (λ n. map (seen_item_code n) list.value.items.items)) vm.old (λ n. seen_code n r.value) vm.new) }
+    ensures fails { IfErr result (RenewFails {A = PlainCode} app.now cells.now (Syncs (λ n. seen_listing n list.value.listing) (seen_spot list.value.spot) left (trail_view trail.old) (seen_left ready.value.entries.items) (λ n. map (seen_item_code n) list.value.items.items)) vm.old) }
+    ensures moved { IfOk result (λ r. CodeMoved moved.old moved.new (λ n. c.listed_code (seen_listing n list.value.listing) (seen_spot list.value.spot) (all_items (map (seen_item_code n) list.value.items.items))) (λ n. seen_code n r.value)) }
     ensures trail { OnOk result (trail.new ≡ trail.old) }
     ensures calm { Calm vm.new }
 {
-    let seat = before_items(parent, items.as_slice())?;
-    let work = Work::new(alloc, items, entries, keys)?;
-    let base = trail.below(alloc, PathStep::Items)?;
-    trail.push(PathStep::Items)?;
-    match sync_items(
-        vm, alloc, app, cells, trail, left, &listing, &base, work, seat, moved,
-    ) {
+    let mut begun = begin_sync(alloc, trail, list, ready, parent)?;
+    match sync_items(vm, alloc, app, cells, trail, left, &mut begun, moved) {
         Ok(items) => {
             trail.pop(alloc);
-            Ok(Code::listed(listing, spot, items))
+            Ok(end_sync(alloc, begun, items)?)
         }
-        Err(fault) => Err(fault),
+        Err(fault) => Err(lost_sync(begun, fault)),
     }
 }

@@ -4,6 +4,7 @@ use gl_nodes::NodeId;
 
 /// The first one of a body, or else its comment.
 #[cycle(first)]
+#[inline(never)]
 pub(crate) fn first_top(body: &Codes, comment: &Option<NodeId>) -> Option<NodeId> {
     match first_of_body(body) {
         Some(node) => Some(node),
@@ -12,6 +13,7 @@ pub(crate) fn first_top(body: &Codes, comment: &Option<NodeId>) -> Option<NodeId
 }
 
 #[cycle(first)]
+#[inline(never)]
 fn first_of_body(body: &Codes) -> Option<NodeId> {
     for code in body.list.as_slice() {
         let node = first_of_code(code);
@@ -23,6 +25,7 @@ fn first_of_body(body: &Codes) -> Option<NodeId> {
 }
 
 #[cycle(first)]
+#[inline(never)]
 fn first_of_code(code: &Code) -> Option<NodeId> {
     match code {
         Code::Still { node } => Some(*node),
@@ -39,6 +42,7 @@ fn first_of_code(code: &Code) -> Option<NodeId> {
 }
 
 #[cycle(first)]
+#[inline(never)]
 fn first_of_items(items: &[ItemCode]) -> Option<NodeId> {
     for item in items {
         let node = first_top(&item.body, &item.comment);
@@ -51,6 +55,7 @@ fn first_of_items(items: &[ItemCode]) -> Option<NodeId> {
 
 /// The comment of a body, or else the last one of it.
 #[cycle(last)]
+#[inline(never)]
 pub(crate) fn last_top(body: &Codes, comment: &Option<NodeId>) -> Option<NodeId> {
     match comment {
         Some(node) => Some(*node),
@@ -59,6 +64,7 @@ pub(crate) fn last_top(body: &Codes, comment: &Option<NodeId>) -> Option<NodeId>
 }
 
 #[cycle(last)]
+#[inline(never)]
 fn last_of_body(body: &Codes) -> Option<NodeId> {
     for code in body.list.as_slice().iter().rev() {
         let node = last_of_code(code);
@@ -70,6 +76,7 @@ fn last_of_body(body: &Codes) -> Option<NodeId> {
 }
 
 #[cycle(last)]
+#[inline(never)]
 fn last_of_code(code: &Code) -> Option<NodeId> {
     match code {
         Code::Still { node } => Some(*node),
@@ -86,6 +93,7 @@ fn last_of_code(code: &Code) -> Option<NodeId> {
 }
 
 #[cycle(last)]
+#[inline(never)]
 fn last_of_items(items: &[ItemCode]) -> Option<NodeId> {
     for item in items.iter().rev() {
         let node = last_top(&item.body, &item.comment);

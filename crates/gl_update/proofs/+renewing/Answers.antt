@@ -1,13 +1,13 @@
-use Rattle.std.proofs.Common.{rules, Bool, ◌≡◌, ◌≢◌, ℕ, ◌∷◌, ◌∙◌, length, drop, Some, None, map, ◌++◌, [], ◌-◌, ap, sym, subst, arith, get_or, get_or-set_other, List, Option, refl}
+use Rattle.std.proofs.Common.{rules, Bool, ◌≡◌, ◌≢◌, ℕ, ◌+◌, ◌∷◌, ◌∙◌, length, drop, Some, None, map, ◌++◌, [], ◌-◌, ap, sym, subst, arith, get_or, get_or-set_other, List, Option, refl, ap₂, reverse, nat_eq, true, false}
 use Rattle.std.specs.Prelude.{if◌then◌else◌, OnOk, IfErr, List, Option}
 use Rattle.std.proofs.lemmas.List.{length-set}
 use Rattle.std.proofs.lemmas.Result.{on_ok_weaker, IfOk-weaker, IfErr-weaker}
 use Rattle.std.specs.Cmp.{booleans_Decides}
-use Rattle.gl_meaning.specs.Path.{at, main, otherwise, slot, Path, item}
+use Rattle.gl_meaning.specs.Path.{at, main, otherwise, slot, Path, item, items}
 use Rattle.gl_meaning.specs.View.{path_view}
 use Rattle.gl_nodes.specs.Flat.{stamp_of}
 use Rattle.gl_plain.specs.Ids as ids
-use Rattle.gl_plain.specs.Naming.{by_number, dropped_as}
+use Rattle.gl_plain.specs.Naming.{by_number}
 use Rattle.gl_plain.specs.Renew.{renew_attrs, renew_mods, renew_text}
 use Rattle.gl_machine.specs.Code as p
 use Rattle.gl_plain.specs.State.{Names, Inst}
@@ -26,7 +26,7 @@ use Rattle.gl_vm.specs.View.{Tables, stamps, name_stamps}
 use Rattle.gl_vm.specs.Steps.{Does}
 use Rattle.gl_append.specs.View.{refs_made, seen_owner}
 use Rattle.gl_append.specs.declared.code.Code.{the_lemmas}
-use Rattle.gl_append.specs.CodeView.{seen_attr_spot, seen_choice, seen_code, seen_codes, seen_mod_spot, seen_spot, seen_listing, seen_item_code, all_items}
+use Rattle.gl_append.specs.CodeView.{seen_attr_spot, seen_choice, seen_code, seen_codes, seen_mod_spot, seen_spot, seen_listing, seen_item_code, all_items, seen_item_spot}
 use Rattle.gl_update.specs.View.{trail_view}
 use Rattle.gl_update.specs.Renewing.{Renews, RenewFails}
 use Rattle.gl_update.proofs.Renewing.{renews_by, renews_still, renews_in, renews_at, fails_in, fails_at, renews_as}
@@ -38,21 +38,29 @@ use Rattle.std.specs.Vec.{vec_len}
 use Rattle.std.specs.Result.{IfOk, IfErr}
 use Rattle.gl_value.specs.Value.{plain}
 use Rattle.gl_value.specs.View.{view}
-use Rattle.gl_plain.specs.Live.{times_items}
-use Rattle.gl_machine.specs.Code.{Listing, Code as PlainCode, Codes as PlainCodes, ItemCodes, listed_code, unlisted_code, items_of}
+use Rattle.gl_plain.specs.Live.{times_items, times_in, times_comment}
+use Rattle.gl_machine.specs.Code.{Listing, Code as PlainCode, Codes as PlainCodes, ItemCodes, listed_code, unlisted_code, items_of, lives_of, live_of}
 use Rattle.gl_append.specs.MachineView.{seen_entry, seen_left}
 use Rattle.gl_append.proofs.ListEnds.{none_counted, some_counted, none_left}
-use Rattle.gl_update.specs.ListItems.{Item, there, FreshItem, ListsFresh, ListsNone, Syncs}
-use Rattle.gl_update.specs.OldItems.{OneItem}
-use Rattle.gl_update.proofs.ListUpdates.{listed_is, unlisted_is, gives_of, unlisted_stays, unlisted_stays_fails, unlisted_lists, unlisted_lists_fails, Unlisting, gone, listed_ends, listed_ends_fails, listed_syncs, listed_syncs_fails, Relisting}
-use Rattle.gl_update.proofs.OldKeys.{there_is}
-use Rattle.gl_update.proofs.FreshItems.{none_waits}
-use Rattle.gl_update.proofs.SyncItems.{All, sync_begin, sync_next, sync_fails, sync_end, still_waits, work_next, kept_renews, kept_fails, list_syncs, list_sync_fails, item_is}
+use Rattle.gl_update.specs.ListItems.{Item, there, FreshItem, ListsFresh, ListsNone, Syncs, KeptItem, SyncItems, spot_key}
+use Rattle.gl_update.specs.OldItems.{OneItem, unboxed, code_key}
+use Rattle.gl_update.specs.NextItem.{Follows, Taking}
+use Rattle.gl_update.specs.TakenLists.{TakenOut}
+use Rattle.std.specs.declared.boxed.Box.{Box}
+use Rattle.gl_each.specs.Moved.{moves as count_moves}
+use Rattle.gl_each.specs.View.{seen_steps}
+use Rattle.gl_kept.specs.Between.{moves_between}
+use Rattle.gl_append.specs.declared.code.Listing.{Listing as ListingCode}
+use Rattle.gl_update.specs.declared.taken.Begun.{Begun}
+use Rattle.gl_update.specs.declared.taken.Listed.{Listed}
+use Rattle.gl_update.specs.declared.taken.Ready.{Ready}
+use Rattle.gl_update.specs.declared.taken.Unlisted.{Unlisted}
+use Rattle.gl_update.proofs.SyncItems.{given_item, All, sync_begin, sync_next, sync_fails, sync_end, work_next, kept_renews, kept_fails, list_syncs, list_sync_fails, item_is}
+use Rattle.gl_append.specs.declared.code.ItemCode.{ItemCode}
+use Rattle.gl_update.proofs.ListUpdates.{unlisted_stays, unlisted_stays_fails, unlisted_lists, unlisted_lists_fails, Unlisting, gone, listed_ends, listed_ends_fails, listed_syncs, listed_syncs_fails, Relisting}
 use Rattle.gl_update.proofs.Still.{renews_on}
-use Rattle.gl_machine.specs.Code.{live_of}
 use Rattle.gl_each.specs.Key.{entry_key}
 use Rattle.gl_update.specs.Counted.{CodeMoved, CodesMoved, HasKey, IsListed, IsUnlisted, ItemMoved}
-use Rattle.gl_update.specs.ListItems.{spot_key}
 use Rattle.gl_update.proofs.MovedCodes.{none_moved, code_moved, arm_moved, walked_begin, walked_next, walked_end, same_moved, flip_moved, ended_moved, begun_moved, kept_moved}
 use Rattle.gl_update.proofs.SyncCounts.{syncing_begin, syncing_next, syncing_end, list_moved}
 use Rattle.gl_update.proofs.+renewing.Goals as goal
@@ -64,6 +72,14 @@ codes::renew_below-returns-in-Ok-clause-ok t c =
 pub codes::renew_below-returns-in-Err-clause-fails : goal.codes::renew_below-returns-in-Err-clause-fails
 codes::renew_below-returns-in-Err-clause-fails t c =
     subst (λ q. RenewFails c.args.app.now c.args.cells.now (Below c.args.app.now c.args.cells.now c.args.left q q c.args.body.now) c.args.vm.now c.in-Err.fault) c.in_ok-push.ensures.view c.in-Err.ensures.fails
+
+pub codes::renew_yield-returns-clause-ok : goal.codes::renew_yield-returns-clause-ok
+codes::renew_yield-returns-clause-ok t c =
+    subst (λ y. OnOk c.renew_below.result (Renews c.args.app.now c.args.cells.now (λ n run. renew_codes_as by_number run c.args.left (slot y ∷ trail_view c.args.trail.now) 0 (seen_codes n c.args.body.now)) c.args.vm.now (λ n. seen_codes n c.renew_below.new.body) c.renew_below.new.vm)) c.in_ok-copy.ensures c.renew_below.ensures.ok
+
+pub codes::renew_yield-returns-clause-fails : goal.codes::renew_yield-returns-clause-fails
+codes::renew_yield-returns-clause-fails t c =
+    subst (λ y. IfErr c.renew_below.result (RenewFails {A = p.Codes} c.args.app.now c.args.cells.now (λ n run. renew_codes_as by_number run c.args.left (slot y ∷ trail_view c.args.trail.now) 0 (seen_codes n c.args.body.now)) c.args.vm.now)) c.in_ok-copy.ensures c.renew_below.ensures.fails
 
 pub codes::renew_element-returns-in_ok-renew_mods-in-Ok-clause-ok : goal.codes::renew_element-returns-in_ok-renew_mods-in-Ok-clause-ok
 codes::renew_element-returns-in_ok-renew_mods-in-Ok-clause-ok t c = λ made.
@@ -79,13 +95,13 @@ codes::renew_element-returns-in-Err-clause-fails t c = λ made.
 pub codes::renew_component-returns-clause-ok : goal.codes::renew_component-returns-clause-ok
 codes::renew_component-returns-clause-ok t c =
     on_ok_weaker c.renew_codes.result
-    (λ r i made gm args k q e. component_renews c.args.app.now c.args.cells.now c.args.left q i made gm args k (c.args.left - 1) (omega arith) (trail_view c.in_ok-trail.trail) (e ∙ sym c.in_ok-trail.ensures) c.args.body.now c.renew_codes.new.codes c.args.vm.now c.renew_codes.new.vm r)
+    (λ r i made gm args k q e. component_renews c.args.app.now c.args.cells.now c.args.left q i made gm args k (c.args.left - 1) (omega arith) (trail_view c.of-trail.result) (e ∙ sym c.of-trail.ensures) c.args.body.now c.renew_codes.new.codes c.args.vm.now c.renew_codes.new.vm r)
     c.renew_codes.ensures.ok
 
 pub codes::renew_component-returns-clause-fails : goal.codes::renew_component-returns-clause-fails
 codes::renew_component-returns-clause-fails t c = λ i made gm args k q e.
     if_err c.renew_codes.result
-    (λ f r. component_fails c.args.app.now c.args.cells.now c.args.left q i made gm args k (c.args.left - 1) (omega arith) (trail_view c.in_ok-trail.trail) (e ∙ sym c.in_ok-trail.ensures) c.args.body.now c.args.vm.now f r)
+    (λ f r. component_fails c.args.app.now c.args.cells.now c.args.left q i made gm args k (c.args.left - 1) (omega arith) (trail_view c.of-trail.result) (e ∙ sym c.of-trail.ensures) c.args.body.now c.args.vm.now f r)
     c.renew_codes.ensures.fails
 
 pub codes::renew_codes-loop-place-init : goal.codes::renew_codes-loop-place-init
@@ -104,7 +120,8 @@ codes::renew_codes-loop-place-preserved t c = record {
     λ k d le. let ne : k ≢ c.loop-place.place = omega (arith, le) in
         get_or-set_other c.loop-place.code-items c.loop-place.place k c.renew_code.new.code d ne ∙ c.loop-place.invariant.unvisited.1 k d (omega (arith, le)),
   );
-  trail = c.pop.ensures c.args.trail.now (at c.loop-place.place) (ap (λ x. x.path.steps) c.in-Ok.ensures.trail ∙ (c.in_ok-push.ensures.steps ∙ ap (λ x. x.path.steps ++ at c.loop-place.place ∷ []) c.loop-place.invariant.trail));
+  trail = c.pop.ensures c.args.trail.now (at c.loop-place.place) (ap (λ x. x.base) c.in-Ok.ensures.trail ∙ (c.push.ensures.base ∙ ap (λ x. x.base) c.loop-place.invariant.trail))
+      (ap (λ x. x.path.steps) c.in-Ok.ensures.trail ∙ (c.in_ok-push.ensures.steps ∙ ap (λ x. x.path.steps ++ at c.loop-place.place ∷ []) c.loop-place.invariant.trail));
   calm = c.in-Ok.ensures.calm;
   walks = walks_next c.args.app.now c.args.cells.now c.args.left (trail_view c.args.trail.now) c.loop-place.code-items c.loop-place.place c.code-item.result (let lt = c.loop-place-test.true in let e = c.loop-place.invariant.unvisited.0 in omega (arith, lt, e)) c.code-item.is (trail_view c.push.new.self)
       (c.in_ok-push.ensures.view ∙ ap (λ x. at c.loop-place.place ∷ trail_view x) c.loop-place.invariant.trail) c.args.codes.now c.args.vm.now c.loop-place.vm c.renew_code.new.vm c.renew_code.new.code c.loop-place.invariant.walks
@@ -202,19 +219,19 @@ codes::renew_code-returns-in-Still-clause-ok t c =
 pub codes::renew_code-returns-in-Let-clause-ok : goal.codes::renew_code-returns-in-Let-clause-ok
 codes::renew_code-returns-in-Let-clause-ok t c =
     let k : Tables → p.Codes → p.Code = λ n cs. p.let_code (refs_made c.in-Let.made) (stamps c.in-Let.params) cs in
-    let held : OnOk c.renew_below.result (Renews c.args.app.now c.args.cells.now (λ n run. renew_codes_as by_number run c.args.left (main ∷ trail_view c.args.trail.now) 0 (seen_codes n c.in-Let.body)) c.args.vm.now (λ n. seen_codes n c.renew_below.new.body) c.renew_below.new.vm) =
-    subst (λ z. OnOk c.renew_below.result (Renews c.args.app.now c.args.cells.now (λ n run. renew_codes_as by_number run c.args.left (main ∷ trail_view c.args.trail.now) 0 (seen_codes n z)) c.args.vm.now (λ n. seen_codes n c.renew_below.new.body) c.renew_below.new.vm)) c.in-Let.body-is c.renew_below.ensures.ok in
-    on_ok_weaker c.renew_below.result
-    (λ r. arm c.args.app.now c.args.cells.now c.args.left (trail_view c.args.trail.now) c.args.code.now _ (λ n. k n (seen_codes n c.in-Let.body)) (λ n. k n (seen_codes n c.renew_below.new.body)) c.args.vm.now c.renew_below.new.vm (λ n. ap (seen_code n) c.in-Let.is ∙ let_is n c.in-Let.made c.in-Let.params c.in-Let.body) (λ n. search (rules, the_lemmas))
-    (renews_in c.args.app.now c.args.cells.now (λ n run. renew_codes_as by_number run c.args.left (main ∷ trail_view c.args.trail.now) 0 (seen_codes n c.in-Let.body)) k (λ n. seen_codes n c.renew_below.new.body) c.args.vm.now c.renew_below.new.vm r))
+    let held : OnOk c.renew_let.result (Renews c.args.app.now c.args.cells.now (λ n run. renew_codes_as by_number run c.args.left (main ∷ trail_view c.args.trail.now) 0 (seen_codes n c.in-Let.body)) c.args.vm.now (λ n. seen_codes n c.renew_let.new.body) c.renew_let.new.vm) =
+    subst (λ z. OnOk c.renew_let.result (Renews c.args.app.now c.args.cells.now (λ n run. renew_codes_as by_number run c.args.left (main ∷ trail_view c.args.trail.now) 0 (seen_codes n z)) c.args.vm.now (λ n. seen_codes n c.renew_let.new.body) c.renew_let.new.vm)) c.in-Let.body-is c.renew_let.ensures.ok in
+    on_ok_weaker c.renew_let.result
+    (λ r. arm c.args.app.now c.args.cells.now c.args.left (trail_view c.args.trail.now) c.args.code.now _ (λ n. k n (seen_codes n c.in-Let.body)) (λ n. k n (seen_codes n c.renew_let.new.body)) c.args.vm.now c.renew_let.new.vm (λ n. ap (seen_code n) c.in-Let.is ∙ let_is n c.in-Let.made c.in-Let.params c.in-Let.body) (λ n. search (rules, the_lemmas))
+    (renews_in c.args.app.now c.args.cells.now (λ n run. renew_codes_as by_number run c.args.left (main ∷ trail_view c.args.trail.now) 0 (seen_codes n c.in-Let.body)) k (λ n. seen_codes n c.renew_let.new.body) c.args.vm.now c.renew_let.new.vm r))
     held
 
 pub codes::renew_code-returns-in-Let-clause-fails : goal.codes::renew_code-returns-in-Let-clause-fails
 codes::renew_code-returns-in-Let-clause-fails t c =
     let k : Tables → p.Codes → p.Code = λ n cs. p.let_code (refs_made c.in-Let.made) (stamps c.in-Let.params) cs in
-    let held : IfErr c.renew_below.result (RenewFails {A = p.Codes} c.args.app.now c.args.cells.now (λ n run. renew_codes_as by_number run c.args.left (main ∷ trail_view c.args.trail.now) 0 (seen_codes n c.in-Let.body)) c.args.vm.now) =
-    subst (λ z. IfErr c.renew_below.result (RenewFails {A = p.Codes} c.args.app.now c.args.cells.now (λ n run. renew_codes_as by_number run c.args.left (main ∷ trail_view c.args.trail.now) 0 (seen_codes n z)) c.args.vm.now)) c.in-Let.body-is c.renew_below.ensures.fails in
-    if_err c.renew_below.result
+    let held : IfErr c.renew_let.result (RenewFails {A = p.Codes} c.args.app.now c.args.cells.now (λ n run. renew_codes_as by_number run c.args.left (main ∷ trail_view c.args.trail.now) 0 (seen_codes n c.in-Let.body)) c.args.vm.now) =
+    subst (λ z. IfErr c.renew_let.result (RenewFails {A = p.Codes} c.args.app.now c.args.cells.now (λ n run. renew_codes_as by_number run c.args.left (main ∷ trail_view c.args.trail.now) 0 (seen_codes n z)) c.args.vm.now)) c.in-Let.body-is c.renew_let.ensures.fails in
+    if_err c.renew_let.result
     (λ f r. arm_fails c.args.app.now c.args.cells.now c.args.left (trail_view c.args.trail.now) c.args.code.now (λ n. k n (seen_codes n c.in-Let.body)) c.args.vm.now f (λ n. ap (seen_code n) c.in-Let.is ∙ let_is n c.in-Let.made c.in-Let.params c.in-Let.body)
     (fails_in c.args.app.now c.args.cells.now (λ n run. renew_codes_as by_number run c.args.left (main ∷ trail_view c.args.trail.now) 0 (seen_codes n c.in-Let.body)) k (λ n st. st) c.args.vm.now f r))
     held
@@ -272,20 +289,20 @@ codes::renew_code-returns-in-Branch-clause-fails t c =
     (λ f r. arm_fails c.args.app.now c.args.cells.now c.args.left (trail_view c.args.trail.now) c.args.code.now (λ n. p.branch_code (seen_choice n c.in-Branch.choice) (seen_spot c.in-Branch.spot) c.in-Branch.main (stamp_of c.in-Branch.comment) (seen_codes n c.in-Branch.body)) c.args.vm.now f (λ n. ap (seen_code n) c.in-Branch.is ∙ branch_is n c.in-Branch.choice c.in-Branch.spot c.in-Branch.main c.in-Branch.comment c.in-Branch.body) r)
     (moved5 (λ (z : Choice) (x : Spot) (u : Bool) (k : Option Id) (b : Codes). IfErr c.renew_branch.result (RenewFails {A = p.Code} c.args.app.now c.args.cells.now (λ n run. renew_code_as by_number run c.args.left (trail_view c.args.trail.now) (p.branch_code (seen_choice n z) (seen_spot x) u (stamp_of k) (seen_codes n b))) c.args.vm.now)) c.in-Branch.choice-is c.in-Branch.spot-is c.in-Branch.main-is c.in-Branch.comment-is c.in-Branch.body-is c.renew_branch.ensures.fails)
 
-pub codes::renew_code-returns-in_ok-copy-in-Yield-clause-ok : goal.codes::renew_code-returns-in_ok-copy-in-Yield-clause-ok
-codes::renew_code-returns-in_ok-copy-in-Yield-clause-ok t c =
+pub codes::renew_code-returns-in-Yield-clause-ok : goal.codes::renew_code-returns-in-Yield-clause-ok
+codes::renew_code-returns-in-Yield-clause-ok t c =
     let k : Tables → p.Codes → p.Code = λ n cs. p.yield_code c.in-Yield.name (refs_made c.in-Yield.made) (stamps c.in-Yield.params) cs in
-    on_ok_weaker c.renew_below-in-Yield.result
-    (λ r. arm c.args.app.now c.args.cells.now c.args.left (trail_view c.args.trail.now) c.args.code.now _ (λ n. k n (seen_codes n c.in-Yield.body)) (λ n. k n (seen_codes n c.renew_below-in-Yield.new.body)) c.args.vm.now c.renew_below-in-Yield.new.vm (λ n. ap (seen_code n) c.in-Yield.is ∙ yield_is n c.in-Yield.name c.in-Yield.made c.in-Yield.params c.in-Yield.body) (λ n. search (rules, the_lemmas))
-    (renews_in c.args.app.now c.args.cells.now (λ n run. renew_codes_as by_number run c.args.left (slot c.in-Yield.name ∷ trail_view c.args.trail.now) 0 (seen_codes n c.in-Yield.body)) k (λ n. seen_codes n c.renew_below-in-Yield.new.body) c.args.vm.now c.renew_below-in-Yield.new.vm r))
-    (moved2 (λ (y : Text) (b : Codes). OnOk c.renew_below-in-Yield.result (Renews c.args.app.now c.args.cells.now (λ n run. renew_codes_as by_number run c.args.left (slot y ∷ trail_view c.args.trail.now) 0 (seen_codes n b)) c.args.vm.now (λ n. seen_codes n c.renew_below-in-Yield.new.body) c.renew_below-in-Yield.new.vm)) (c.in_ok-copy-in-Yield.ensures ∙ c.in-Yield.name-is) c.in-Yield.body-is c.renew_below-in-Yield.ensures.ok)
+    on_ok_weaker c.renew_yield.result
+    (λ r. arm c.args.app.now c.args.cells.now c.args.left (trail_view c.args.trail.now) c.args.code.now _ (λ n. k n (seen_codes n c.in-Yield.body)) (λ n. k n (seen_codes n c.renew_yield.new.body)) c.args.vm.now c.renew_yield.new.vm (λ n. ap (seen_code n) c.in-Yield.is ∙ yield_is n c.in-Yield.name c.in-Yield.made c.in-Yield.params c.in-Yield.body) (λ n. search (rules, the_lemmas))
+    (renews_in c.args.app.now c.args.cells.now (λ n run. renew_codes_as by_number run c.args.left (slot c.in-Yield.name ∷ trail_view c.args.trail.now) 0 (seen_codes n c.in-Yield.body)) k (λ n. seen_codes n c.renew_yield.new.body) c.args.vm.now c.renew_yield.new.vm r))
+    (moved2 (λ (y : Text) (b : Codes). OnOk c.renew_yield.result (Renews c.args.app.now c.args.cells.now (λ n run. renew_codes_as by_number run c.args.left (slot y ∷ trail_view c.args.trail.now) 0 (seen_codes n b)) c.args.vm.now (λ n. seen_codes n c.renew_yield.new.body) c.renew_yield.new.vm)) c.in-Yield.name-is c.in-Yield.body-is c.renew_yield.ensures.ok)
 
-pub codes::renew_code-returns-in_ok-copy-in-Yield-clause-fails : goal.codes::renew_code-returns-in_ok-copy-in-Yield-clause-fails
-codes::renew_code-returns-in_ok-copy-in-Yield-clause-fails t c =
+pub codes::renew_code-returns-in-Yield-clause-fails : goal.codes::renew_code-returns-in-Yield-clause-fails
+codes::renew_code-returns-in-Yield-clause-fails t c =
     let k : Tables → p.Codes → p.Code = λ n cs. p.yield_code c.in-Yield.name (refs_made c.in-Yield.made) (stamps c.in-Yield.params) cs in
-    if_err c.renew_below-in-Yield.result
+    if_err c.renew_yield.result
     (λ f r. arm_fails c.args.app.now c.args.cells.now c.args.left (trail_view c.args.trail.now) c.args.code.now (λ n. k n (seen_codes n c.in-Yield.body)) c.args.vm.now f (λ n. ap (seen_code n) c.in-Yield.is ∙ yield_is n c.in-Yield.name c.in-Yield.made c.in-Yield.params c.in-Yield.body) (fails_in c.args.app.now c.args.cells.now (λ n run. renew_codes_as by_number run c.args.left (slot c.in-Yield.name ∷ trail_view c.args.trail.now) 0 (seen_codes n c.in-Yield.body)) k (λ n st. st) c.args.vm.now f r))
-    (moved2 (λ (y : Text) (b : Codes). IfErr c.renew_below-in-Yield.result (RenewFails {A = p.Codes} c.args.app.now c.args.cells.now (λ n run. renew_codes_as by_number run c.args.left (slot y ∷ trail_view c.args.trail.now) 0 (seen_codes n b)) c.args.vm.now)) (c.in_ok-copy-in-Yield.ensures ∙ c.in-Yield.name-is) c.in-Yield.body-is c.renew_below-in-Yield.ensures.fails)
+    (moved2 (λ (y : Text) (b : Codes). IfErr c.renew_yield.result (RenewFails {A = p.Codes} c.args.app.now c.args.cells.now (λ n run. renew_codes_as by_number run c.args.left (slot y ∷ trail_view c.args.trail.now) 0 (seen_codes n b)) c.args.vm.now)) c.in-Yield.name-is c.in-Yield.body-is c.renew_yield.ensures.fails)
 
 -- what was moved
 
@@ -304,21 +321,21 @@ codes::renew_code-returns-in_ok-renew_text-in-Put-clause-moved t c =
 pub codes::renew_code-returns-in-Let-clause-moved : goal.codes::renew_code-returns-in-Let-clause-moved
 codes::renew_code-returns-in-Let-clause-moved t c =
     let k : Tables → p.Codes → p.Code = λ n cs. p.let_code (refs_made c.in-Let.made) (stamps c.in-Let.params) cs in
-    let held : OnOk c.renew_below.result (CodesMoved c.args.moved.now c.renew_below.new.moved (λ n. seen_codes n c.in-Let.body) (λ n. seen_codes n c.renew_below.new.body)) =
-    subst (λ z. OnOk c.renew_below.result (CodesMoved c.args.moved.now c.renew_below.new.moved (λ n. seen_codes n z) (λ n. seen_codes n c.renew_below.new.body))) c.in-Let.body-is c.renew_below.ensures.moved in
-    on_ok_weaker c.renew_below.result
-    (λ r. arm_moved c.args.moved.now c.renew_below.new.moved c.args.code.now _ (λ n. k n (seen_codes n c.in-Let.body)) (λ n. k n (seen_codes n c.renew_below.new.body)) (λ n. ap (seen_code n) c.in-Let.is ∙ let_is n c.in-Let.made c.in-Let.params c.in-Let.body) (λ n. search (rules, the_lemmas)) r)
+    let held : OnOk c.renew_let.result (CodesMoved c.args.moved.now c.renew_let.new.moved (λ n. seen_codes n c.in-Let.body) (λ n. seen_codes n c.renew_let.new.body)) =
+    subst (λ z. OnOk c.renew_let.result (CodesMoved c.args.moved.now c.renew_let.new.moved (λ n. seen_codes n z) (λ n. seen_codes n c.renew_let.new.body))) c.in-Let.body-is c.renew_let.ensures.moved in
+    on_ok_weaker c.renew_let.result
+    (λ r. arm_moved c.args.moved.now c.renew_let.new.moved c.args.code.now _ (λ n. k n (seen_codes n c.in-Let.body)) (λ n. k n (seen_codes n c.renew_let.new.body)) (λ n. ap (seen_code n) c.in-Let.is ∙ let_is n c.in-Let.made c.in-Let.params c.in-Let.body) (λ n. search (rules, the_lemmas)) r)
     held
 
-pub codes::renew_code-returns-in_ok-copy-in-Yield-clause-moved : goal.codes::renew_code-returns-in_ok-copy-in-Yield-clause-moved
-codes::renew_code-returns-in_ok-copy-in-Yield-clause-moved t c =
+pub codes::renew_code-returns-in-Yield-clause-moved : goal.codes::renew_code-returns-in-Yield-clause-moved
+codes::renew_code-returns-in-Yield-clause-moved t c =
     let k : Tables → p.Codes → p.Code = λ n cs. p.yield_code c.in-Yield.name (refs_made c.in-Yield.made) (stamps c.in-Yield.params) cs in
     let m = c.args.moved.now in
-    let m2 = c.renew_below-in-Yield.new.moved in
-    let held : OnOk c.renew_below-in-Yield.result (CodesMoved m m2 (λ n. seen_codes n c.in-Yield.body) (λ n. seen_codes n c.renew_below-in-Yield.new.body)) =
-    subst (λ z. OnOk c.renew_below-in-Yield.result (CodesMoved m m2 (λ n. seen_codes n z) (λ n. seen_codes n c.renew_below-in-Yield.new.body))) c.in-Yield.body-is c.renew_below-in-Yield.ensures.moved in
-    on_ok_weaker c.renew_below-in-Yield.result
-    (λ r. arm_moved m m2 c.args.code.now _ (λ n. k n (seen_codes n c.in-Yield.body)) (λ n. k n (seen_codes n c.renew_below-in-Yield.new.body)) (λ n. ap (seen_code n) c.in-Yield.is ∙ yield_is n c.in-Yield.name c.in-Yield.made c.in-Yield.params c.in-Yield.body) (λ n. search (rules, the_lemmas)) r)
+    let m2 = c.renew_yield.new.moved in
+    let held : OnOk c.renew_yield.result (CodesMoved m m2 (λ n. seen_codes n c.in-Yield.body) (λ n. seen_codes n c.renew_yield.new.body)) =
+    subst (λ z. OnOk c.renew_yield.result (CodesMoved m m2 (λ n. seen_codes n z) (λ n. seen_codes n c.renew_yield.new.body))) c.in-Yield.body-is c.renew_yield.ensures.moved in
+    on_ok_weaker c.renew_yield.result
+    (λ r. arm_moved m m2 c.args.code.now _ (λ n. k n (seen_codes n c.in-Yield.body)) (λ n. k n (seen_codes n c.renew_yield.new.body)) (λ n. ap (seen_code n) c.in-Yield.is ∙ yield_is n c.in-Yield.name c.in-Yield.made c.in-Yield.params c.in-Yield.body) (λ n. search (rules, the_lemmas)) r)
     held
 
 pub codes::renew_code-returns-in-Component-clause-moved : goal.codes::renew_code-returns-in-Component-clause-moved
@@ -356,359 +373,472 @@ codes::renew_code-returns-in-Branch-clause-moved t c =
 
 pub lists::renew_list-returns-in-Ok-clause-moved : goal.lists::renew_list-returns-in-Ok-clause-moved
 lists::renew_list-returns-in-Ok-clause-moved t c =
-    let l = c.in-Listed.listing in
-    let s = c.in-Listed.spot in
-    let xs = c.in-Listed.items in
-    arm_moved c.args.moved.now c.renew_listed.new.moved c.args.code.now c.in-Ok.new (λ n. listed_code (seen_listing n l) (seen_spot s) (all_items (map (seen_item_code n) xs.items))) (λ n. seen_code n c.in-Ok.new)
-    (λ n. ap (seen_code n) (sym c.replace.ensures.value ∙ c.in-Listed.is) ∙ listed_is n l s xs) (λ n. refl) c.in-Ok.ensures.moved
+    let l = c.in-Items.list.value.listing in
+    let s = c.in-Items.list.value.spot in
+    let xs = c.in-Items.list.value.items in
+    arm_moved c.args.moved.now c.renew_listed.new.moved c.args.code.now c.put_list.new.code (λ n. listed_code (seen_listing n l) (seen_spot s) (all_items (map (seen_item_code n) xs.items))) (λ n. seen_code n c.in-Ok.new.value)
+    (subst (TakenOut c.args.code.now) c.in-Items.is c.in_ok-list.ensures) (λ n. ap (seen_code n) c.put_list.ensures) c.in-Ok.ensures.moved
 
 pub lists::renew_list-returns-in-Ok-renew_unlisted-clause-moved : goal.lists::renew_list-returns-in-Ok-renew_unlisted-clause-moved
 lists::renew_list-returns-in-Ok-renew_unlisted-clause-moved t c =
-    let l = c.in-Unlisted.listing in
-    let s = c.in-Unlisted.spot in
-    let k = c.in-Unlisted.comment in
-    let b = c.in-Unlisted.body in
-    arm_moved c.args.moved.now c.renew_unlisted.new.moved c.args.code.now c.in-Ok-renew_unlisted.new (λ n. unlisted_code (seen_listing n l) (seen_spot s) (stamp_of k) (seen_codes n b)) (λ n. seen_code n c.in-Ok-renew_unlisted.new)
-    (λ n. ap (seen_code n) (sym c.replace.ensures.value ∙ c.in-Unlisted.is) ∙ unlisted_is n l s k b) (λ n. refl) c.in-Ok-renew_unlisted.ensures.moved
+    let l = c.in-Other.list.value.listing in
+    let s = c.in-Other.list.value.spot in
+    let k = c.in-Other.list.value.comment in
+    let b = c.in-Other.list.value.body in
+    arm_moved c.args.moved.now c.renew_unlisted.new.moved c.args.code.now c.put_list-in-Ok-renew_unlisted.new.code (λ n. unlisted_code (seen_listing n l) (seen_spot s) (stamp_of k) (seen_codes n b)) (λ n. seen_code n c.in-Ok-renew_unlisted.new.value)
+    (subst (TakenOut c.args.code.now) c.in-Other.is c.in_ok-list.ensures) (λ n. ap (seen_code n) c.put_list-in-Ok-renew_unlisted.ensures) c.in-Ok-renew_unlisted.ensures.moved
 
 pub lists::renew_list-returns-in-Ok-clause-ok : goal.lists::renew_list-returns-in-Ok-clause-ok
 lists::renew_list-returns-in-Ok-clause-ok t c =
-    let l = c.in-Listed.listing in
-    let s = c.in-Listed.spot in
-    let xs = c.in-Listed.items in
-    arm c.args.app.now c.args.cells.now c.args.left (trail_view c.args.trail.now) c.args.code.now c.in-Ok.new (λ n. listed_code (seen_listing n l) (seen_spot s) (all_items (map (seen_item_code n) xs.items))) (λ n. seen_code n c.in-Ok.new) c.args.vm.now c.renew_listed.new.vm
-    (λ n. ap (seen_code n) (sym c.replace.ensures.value ∙ c.in-Listed.is) ∙ listed_is n l s xs) (λ n. refl) c.in-Ok.ensures.ok
+    let l = c.in-Items.list.value.listing in
+    let s = c.in-Items.list.value.spot in
+    let xs = c.in-Items.list.value.items in
+    arm c.args.app.now c.args.cells.now c.args.left (trail_view c.args.trail.now) c.args.code.now c.put_list.new.code (λ n. listed_code (seen_listing n l) (seen_spot s) (all_items (map (seen_item_code n) xs.items))) (λ n. seen_code n c.in-Ok.new.value) c.args.vm.now c.renew_listed.new.vm
+    (subst (TakenOut c.args.code.now) c.in-Items.is c.in_ok-list.ensures) (λ n. ap (seen_code n) c.put_list.ensures) c.in-Ok.ensures.ok
 
-pub lists::renew_list-returns-in-Listed-clause-fails : goal.lists::renew_list-returns-in-Listed-clause-fails
-lists::renew_list-returns-in-Listed-clause-fails t c =
-    let l = c.in-Listed.listing in
-    let s = c.in-Listed.spot in
-    let xs = c.in-Listed.items in
+pub lists::renew_list-returns-in-Err-clause-fails : goal.lists::renew_list-returns-in-Err-clause-fails
+lists::renew_list-returns-in-Err-clause-fails t c =
+    let l = c.in-Items.list.value.listing in
+    let s = c.in-Items.list.value.spot in
+    let xs = c.in-Items.list.value.items in
     arm_fails c.args.app.now c.args.cells.now c.args.left (trail_view c.args.trail.now) c.args.code.now (λ n. listed_code (seen_listing n l) (seen_spot s) (all_items (map (seen_item_code n) xs.items))) c.args.vm.now c.in-Err.fault
-    (λ n. ap (seen_code n) (sym c.replace.ensures.value ∙ c.in-Listed.is) ∙ listed_is n l s xs) c.in-Err.ensures.fails
+    (subst (TakenOut c.args.code.now) c.in-Items.is c.in_ok-list.ensures) c.in-Err.ensures.fails
 
 pub lists::renew_list-returns-in-Ok-renew_unlisted-clause-ok : goal.lists::renew_list-returns-in-Ok-renew_unlisted-clause-ok
 lists::renew_list-returns-in-Ok-renew_unlisted-clause-ok t c =
-    let l = c.in-Unlisted.listing in
-    let s = c.in-Unlisted.spot in
-    let k = c.in-Unlisted.comment in
-    let b = c.in-Unlisted.body in
-    arm c.args.app.now c.args.cells.now c.args.left (trail_view c.args.trail.now) c.args.code.now c.in-Ok-renew_unlisted.new (λ n. unlisted_code (seen_listing n l) (seen_spot s) (stamp_of k) (seen_codes n b)) (λ n. seen_code n c.in-Ok-renew_unlisted.new) c.args.vm.now c.renew_unlisted.new.vm
-    (λ n. ap (seen_code n) (sym c.replace.ensures.value ∙ c.in-Unlisted.is) ∙ unlisted_is n l s k b) (λ n. refl) c.in-Ok-renew_unlisted.ensures.ok
+    let l = c.in-Other.list.value.listing in
+    let s = c.in-Other.list.value.spot in
+    let k = c.in-Other.list.value.comment in
+    let b = c.in-Other.list.value.body in
+    arm c.args.app.now c.args.cells.now c.args.left (trail_view c.args.trail.now) c.args.code.now c.put_list-in-Ok-renew_unlisted.new.code (λ n. unlisted_code (seen_listing n l) (seen_spot s) (stamp_of k) (seen_codes n b)) (λ n. seen_code n c.in-Ok-renew_unlisted.new.value) c.args.vm.now c.renew_unlisted.new.vm
+    (subst (TakenOut c.args.code.now) c.in-Other.is c.in_ok-list.ensures) (λ n. ap (seen_code n) c.put_list-in-Ok-renew_unlisted.ensures) c.in-Ok-renew_unlisted.ensures.ok
 
-pub lists::renew_list-returns-in-Unlisted-clause-fails : goal.lists::renew_list-returns-in-Unlisted-clause-fails
-lists::renew_list-returns-in-Unlisted-clause-fails t c =
-    let l = c.in-Unlisted.listing in
-    let s = c.in-Unlisted.spot in
-    let k = c.in-Unlisted.comment in
-    let b = c.in-Unlisted.body in
+pub lists::renew_list-returns-in-Err-renew_unlisted-clause-fails : goal.lists::renew_list-returns-in-Err-renew_unlisted-clause-fails
+lists::renew_list-returns-in-Err-renew_unlisted-clause-fails t c =
+    let l = c.in-Other.list.value.listing in
+    let s = c.in-Other.list.value.spot in
+    let k = c.in-Other.list.value.comment in
+    let b = c.in-Other.list.value.body in
     arm_fails c.args.app.now c.args.cells.now c.args.left (trail_view c.args.trail.now) c.args.code.now (λ n. unlisted_code (seen_listing n l) (seen_spot s) (stamp_of k) (seen_codes n b)) c.args.vm.now c.in-Err-renew_unlisted.fault
-    (λ n. ap (seen_code n) (sym c.replace.ensures.value ∙ c.in-Unlisted.is) ∙ unlisted_is n l s k b) c.in-Err-renew_unlisted.ensures.fails
+    (subst (TakenOut c.args.code.now) c.in-Other.is c.in_ok-list.ensures) c.in-Err-renew_unlisted.ensures.fails
 
 -- with items
 
 pub lists::renew_listed-returns-then-is_empty-clause-ok : goal.lists::renew_listed-returns-then-is_empty-clause-ok
 lists::renew_listed-returns-then-is_empty-clause-ok t c =
-    let z : Tables → Listing = λ n. seen_listing n c.args.listing in
-    let s = seen_spot c.args.spot in
+    let z : Tables → Listing = λ n. seen_listing n c.args.list.value.listing in
+    let s = seen_spot c.args.list.value.spot in
     let p = trail_view c.args.trail.now in
-    let xs : Tables → List Item = λ n. map (seen_item_code n) c.args.items.items in
-    let es = c.in_ok-entries.entries in
+    let xs : Tables → List Item = λ n. map (seen_item_code n) c.args.list.value.items.items in
+    let es = c.in_ok-read.read.1.value.entries in
     let l : vec_len es ≡ length es.items = search rules in
-    let none = none_counted es.items (vec_len es) l (sym c.is_empty.ensures ∙ c.if-is_empty.true) in
-    IfOk-weaker c.unlist.result
-    (λ r. Renews c.args.app.now c.args.cells.now (ListsNone z s c.args.left p (λ n q. times_items q (items_of (all_items (xs n))))) c.value_now.new.vm (λ n. seen_code n r) c.unlist.new.vm)
-    (λ r. Renews c.args.app.now c.args.cells.now (Relisting c.args.app.now c.args.cells.now z c.args.listing.key (λ n. refl) s c.args.left p xs) c.args.vm.now (λ n. seen_code n r) c.unlist.new.vm)
-    (λ r h. listed_ends c.args.app.now c.args.cells.now z c.args.listing.key (λ n. refl) s c.args.left p xs c.args.vm.now c.value_now.new.vm c.unlist.new.vm (λ n. seen_code n r) c.in_ok-value.ensures.step
-    (λ n u. sym (ap seen_left none) ∙ gives_of c.args.listing.key s c.value_now.new.vm c.in_ok-value.value (seen_left es.items) c.in_ok-value.ensures.value c.in_ok-entries.ensures n u) h)
-    c.unlist.ensures.ok
+    let none = none_counted es.items (vec_len es) l (subst (λ (x : Ready). nat_eq (vec_len x.entries) 0 ≡ true) c.deref.ensures (sym c.is_empty.ensures ∙ c.if-is_empty.true)) in
+    IfOk-weaker c.end_list.result
+    (λ r. Renews c.args.app.now c.args.cells.now (ListsNone z s c.args.left p (λ n q. times_items q (items_of (all_items (xs n))))) c.read_listed.new.vm (λ n. seen_code n r.value) c.end_list.new.vm)
+    (λ r. Renews c.args.app.now c.args.cells.now (Relisting c.args.app.now c.args.cells.now z c.args.list.value.listing.key (λ n. refl) s c.args.left p xs) c.args.vm.now (λ n. seen_code n r.value) c.end_list.new.vm)
+    (λ r h. listed_ends c.args.app.now c.args.cells.now z c.args.list.value.listing.key (λ n. refl) s c.args.left p xs c.args.vm.now c.read_listed.new.vm c.end_list.new.vm (λ n. seen_code n r.value) c.in_ok-read.ensures.step
+    (λ n u. sym (ap seen_left none) ∙ c.in_ok-read.ensures.entries n u) h)
+    (subst (λ (b : Box Listed Global). IfOk c.end_list.result (λ r. Renews c.args.app.now c.args.cells.now (ListsNone (λ n. seen_listing n b.value.listing) (seen_spot b.value.spot) c.args.left (trail_view c.args.trail.now) (λ n q. times_items q (items_of (all_items (map (seen_item_code n) b.value.items.items))))) c.read_listed.new.vm (λ n. seen_code n r.value) c.end_list.new.vm)) c.in_ok-read.ensures.list c.end_list.ensures.ok)
 
 pub lists::renew_listed-returns-then-is_empty-clause-fails : goal.lists::renew_listed-returns-then-is_empty-clause-fails
 lists::renew_listed-returns-then-is_empty-clause-fails t c =
-    let z : Tables → Listing = λ n. seen_listing n c.args.listing in
-    let s = seen_spot c.args.spot in
+    let z : Tables → Listing = λ n. seen_listing n c.args.list.value.listing in
+    let s = seen_spot c.args.list.value.spot in
     let p = trail_view c.args.trail.now in
-    let xs : Tables → List Item = λ n. map (seen_item_code n) c.args.items.items in
-    let es = c.in_ok-entries.entries in
+    let xs : Tables → List Item = λ n. map (seen_item_code n) c.args.list.value.items.items in
+    let es = c.in_ok-read.read.1.value.entries in
     let l : vec_len es ≡ length es.items = search rules in
-    let none = none_counted es.items (vec_len es) l (sym c.is_empty.ensures ∙ c.if-is_empty.true) in
-    IfErr-weaker c.unlist.result
-    (RenewFails {A = PlainCode} c.args.app.now c.args.cells.now (ListsNone z s c.args.left p (λ n q. times_items q (items_of (all_items (xs n))))) c.value_now.new.vm)
-    (RenewFails {A = PlainCode} c.args.app.now c.args.cells.now (Relisting c.args.app.now c.args.cells.now z c.args.listing.key (λ n. refl) s c.args.left p xs) c.args.vm.now)
-    (λ f h. listed_ends_fails c.args.app.now c.args.cells.now z c.args.listing.key (λ n. refl) s c.args.left p xs c.args.vm.now c.value_now.new.vm f c.in_ok-value.ensures.step
-    (λ n u. sym (ap seen_left none) ∙ gives_of c.args.listing.key s c.value_now.new.vm c.in_ok-value.value (seen_left es.items) c.in_ok-value.ensures.value c.in_ok-entries.ensures n u) h)
-    c.unlist.ensures.fails
+    let none = none_counted es.items (vec_len es) l (subst (λ (x : Ready). nat_eq (vec_len x.entries) 0 ≡ true) c.deref.ensures (sym c.is_empty.ensures ∙ c.if-is_empty.true)) in
+    IfErr-weaker c.end_list.result
+    (RenewFails {A = PlainCode} c.args.app.now c.args.cells.now (ListsNone z s c.args.left p (λ n q. times_items q (items_of (all_items (xs n))))) c.read_listed.new.vm)
+    (RenewFails {A = PlainCode} c.args.app.now c.args.cells.now (Relisting c.args.app.now c.args.cells.now z c.args.list.value.listing.key (λ n. refl) s c.args.left p xs) c.args.vm.now)
+    (λ f h. listed_ends_fails c.args.app.now c.args.cells.now z c.args.list.value.listing.key (λ n. refl) s c.args.left p xs c.args.vm.now c.read_listed.new.vm f c.in_ok-read.ensures.step
+    (λ n u. sym (ap seen_left none) ∙ c.in_ok-read.ensures.entries n u) h)
+    (subst (λ (b : Box Listed Global). IfErr c.end_list.result (RenewFails {A = PlainCode} c.args.app.now c.args.cells.now (ListsNone (λ n. seen_listing n b.value.listing) (seen_spot b.value.spot) c.args.left (trail_view c.args.trail.now) (λ n q. times_items q (items_of (all_items (map (seen_item_code n) b.value.items.items))))) c.read_listed.new.vm)) c.in_ok-read.ensures.list c.end_list.ensures.fails)
 
 pub lists::renew_listed-returns-else-is_empty-clause-ok : goal.lists::renew_listed-returns-else-is_empty-clause-ok
 lists::renew_listed-returns-else-is_empty-clause-ok t c =
-    let z : Tables → Listing = λ n. seen_listing n c.args.listing in
-    let s = seen_spot c.args.spot in
+    let z : Tables → Listing = λ n. seen_listing n c.args.list.value.listing in
+    let s = seen_spot c.args.list.value.spot in
     let p = trail_view c.args.trail.now in
-    let xs : Tables → List Item = λ n. map (seen_item_code n) c.args.items.items in
-    let es = c.in_ok-entries.entries in
+    let xs : Tables → List Item = λ n. map (seen_item_code n) c.args.list.value.items.items in
+    let es = c.in_ok-read.read.1.value.entries in
     let l : vec_len es ≡ length es.items = search rules in
-    let some = some_counted es.items (vec_len es) l (sym c.is_empty.ensures ∙ c.if-is_empty.false) in
+    let some = some_counted es.items (vec_len es) l (subst (λ (x : Ready). nat_eq (vec_len x.entries) 0 ≡ false) c.deref.ensures (sym c.is_empty.ensures ∙ c.if-is_empty.false)) in
     IfOk-weaker c.sync_list.result
-    (λ r. Renews c.args.app.now c.args.cells.now (Syncs z s c.args.left p (seen_left es.items) xs) c.value_now.new.vm (λ n. seen_code n r) c.sync_list.new.vm)
-    (λ r. Renews c.args.app.now c.args.cells.now (Relisting c.args.app.now c.args.cells.now z c.args.listing.key (λ n. refl) s c.args.left p xs) c.args.vm.now (λ n. seen_code n r) c.sync_list.new.vm)
-    (λ r h. listed_syncs c.args.app.now c.args.cells.now z c.args.listing.key (λ n. refl) s c.args.left p xs (seen_left es.items) c.args.vm.now c.value_now.new.vm c.sync_list.new.vm (λ n. seen_code n r) (λ e. some (none_left es.items e)) c.in_ok-value.ensures.step
-    (gives_of c.args.listing.key s c.value_now.new.vm c.in_ok-value.value (seen_left es.items) c.in_ok-value.ensures.value c.in_ok-entries.ensures) h)
-    c.sync_list.ensures.ok
+    (λ r. Renews c.args.app.now c.args.cells.now (Syncs z s c.args.left p (seen_left es.items) xs) c.read_listed.new.vm (λ n. seen_code n r.value) c.sync_list.new.vm)
+    (λ r. Renews c.args.app.now c.args.cells.now (Relisting c.args.app.now c.args.cells.now z c.args.list.value.listing.key (λ n. refl) s c.args.left p xs) c.args.vm.now (λ n. seen_code n r.value) c.sync_list.new.vm)
+    (λ r h. listed_syncs c.args.app.now c.args.cells.now z c.args.list.value.listing.key (λ n. refl) s c.args.left p xs (seen_left es.items) c.args.vm.now c.read_listed.new.vm c.sync_list.new.vm (λ n. seen_code n r.value) (λ e. some (none_left es.items e)) c.in_ok-read.ensures.step
+    c.in_ok-read.ensures.entries h)
+    (subst (λ (b : Box Listed Global). IfOk c.sync_list.result (λ r. Renews c.args.app.now c.args.cells.now (Syncs (λ n. seen_listing n b.value.listing) (seen_spot b.value.spot) c.args.left (trail_view c.args.trail.now) (seen_left c.in_ok-read.read.1.value.entries.items) (λ n. map (seen_item_code n) b.value.items.items)) c.read_listed.new.vm (λ n. seen_code n r.value) c.sync_list.new.vm)) c.in_ok-read.ensures.list c.sync_list.ensures.ok)
 
 pub lists::renew_listed-returns-else-is_empty-clause-fails : goal.lists::renew_listed-returns-else-is_empty-clause-fails
 lists::renew_listed-returns-else-is_empty-clause-fails t c =
-    let z : Tables → Listing = λ n. seen_listing n c.args.listing in
-    let s = seen_spot c.args.spot in
+    let z : Tables → Listing = λ n. seen_listing n c.args.list.value.listing in
+    let s = seen_spot c.args.list.value.spot in
     let p = trail_view c.args.trail.now in
-    let xs : Tables → List Item = λ n. map (seen_item_code n) c.args.items.items in
-    let es = c.in_ok-entries.entries in
+    let xs : Tables → List Item = λ n. map (seen_item_code n) c.args.list.value.items.items in
+    let es = c.in_ok-read.read.1.value.entries in
     let l : vec_len es ≡ length es.items = search rules in
-    let some = some_counted es.items (vec_len es) l (sym c.is_empty.ensures ∙ c.if-is_empty.false) in
+    let some = some_counted es.items (vec_len es) l (subst (λ (x : Ready). nat_eq (vec_len x.entries) 0 ≡ false) c.deref.ensures (sym c.is_empty.ensures ∙ c.if-is_empty.false)) in
     IfErr-weaker c.sync_list.result
-    (RenewFails {A = PlainCode} c.args.app.now c.args.cells.now (Syncs z s c.args.left p (seen_left es.items) xs) c.value_now.new.vm)
-    (RenewFails {A = PlainCode} c.args.app.now c.args.cells.now (Relisting c.args.app.now c.args.cells.now z c.args.listing.key (λ n. refl) s c.args.left p xs) c.args.vm.now)
-    (λ f h. listed_syncs_fails c.args.app.now c.args.cells.now z c.args.listing.key (λ n. refl) s c.args.left p xs (seen_left es.items) c.args.vm.now c.value_now.new.vm f (λ e. some (none_left es.items e)) c.in_ok-value.ensures.step
-    (gives_of c.args.listing.key s c.value_now.new.vm c.in_ok-value.value (seen_left es.items) c.in_ok-value.ensures.value c.in_ok-entries.ensures) h)
-    c.sync_list.ensures.fails
+    (RenewFails {A = PlainCode} c.args.app.now c.args.cells.now (Syncs z s c.args.left p (seen_left es.items) xs) c.read_listed.new.vm)
+    (RenewFails {A = PlainCode} c.args.app.now c.args.cells.now (Relisting c.args.app.now c.args.cells.now z c.args.list.value.listing.key (λ n. refl) s c.args.left p xs) c.args.vm.now)
+    (λ f h. listed_syncs_fails c.args.app.now c.args.cells.now z c.args.list.value.listing.key (λ n. refl) s c.args.left p xs (seen_left es.items) c.args.vm.now c.read_listed.new.vm f (λ e. some (none_left es.items e)) c.in_ok-read.ensures.step
+    c.in_ok-read.ensures.entries h)
+    (subst (λ (b : Box Listed Global). IfErr c.sync_list.result (RenewFails {A = PlainCode} c.args.app.now c.args.cells.now (Syncs (λ n. seen_listing n b.value.listing) (seen_spot b.value.spot) c.args.left (trail_view c.args.trail.now) (seen_left c.in_ok-read.read.1.value.entries.items) (λ n. map (seen_item_code n) b.value.items.items)) c.read_listed.new.vm)) c.in_ok-read.ensures.list c.sync_list.ensures.fails)
+
+pub lists::renew_listed-returns-else-is_empty-clause-moved : goal.lists::renew_listed-returns-else-is_empty-clause-moved
+lists::renew_listed-returns-else-is_empty-clause-moved t c =
+    subst (λ (b : Box Listed Global). IfOk c.sync_list.result (λ r. CodeMoved c.args.moved.now c.sync_list.new.moved (λ n. listed_code (seen_listing n b.value.listing) (seen_spot b.value.spot) (all_items (map (seen_item_code n) b.value.items.items))) (λ n. seen_code n r.value))) c.in_ok-read.ensures.list c.sync_list.ensures.moved
 
 pub lists::renew_listed-returns-then-is_empty-clause-moved : goal.lists::renew_listed-returns-then-is_empty-clause-moved
 lists::renew_listed-returns-then-is_empty-clause-moved t c =
-    let z : Tables → Listing = λ n. seen_listing n c.args.listing in
-    let s = seen_spot c.args.spot in
-    let xs : Tables → List Item = λ n. map (seen_item_code n) c.args.items.items in
-    IfOk-weaker c.unlist.result (λ r. (n : Tables) → IsUnlisted (live_of (seen_code n r))) (λ r. CodeMoved c.args.moved.now c.args.moved.now (λ n. listed_code (z n) s (all_items (xs n))) (λ n. seen_code n r))
-    (λ r h. ended_moved c.args.moved.now z s xs (λ n. seen_code n r) h) c.unlist.ensures.none
+    let z : Tables → Listing = λ n. seen_listing n c.args.list.value.listing in
+    let s = seen_spot c.args.list.value.spot in
+    let xs : Tables → List Item = λ n. map (seen_item_code n) c.args.list.value.items.items in
+    IfOk-weaker c.end_list.result (λ r. (n : Tables) → IsUnlisted (live_of (seen_code n r.value))) (λ r. CodeMoved c.args.moved.now c.args.moved.now (λ n. listed_code (z n) s (all_items (xs n))) (λ n. seen_code n r.value))
+    (λ r h. ended_moved c.args.moved.now z s xs (λ n. seen_code n r.value) h) c.end_list.ensures.none
 
 -- without items
 
-pub lists::renew_unlisted-returns-in-Ok-clause-moved : goal.lists::renew_unlisted-returns-in-Ok-clause-moved
-lists::renew_unlisted-returns-in-Ok-clause-moved t c =
-    let z : Tables → Listing = λ n. seen_listing n c.args.listing in
-    let s = seen_spot c.args.spot in
-    let k = stamp_of c.args.comment in
-    let old : Tables → PlainCode = λ n. unlisted_code (z n) s k (seen_codes n c.args.body) in
-    code_moved c.args.moved.now c.renew_below.new.moved old (λ n. seen_code n c.unlisted.result) old (λ n. unlisted_code (z n) s k (seen_codes n c.renew_below.new.body)) (λ n. refl) c.unlisted.ensures c.in-Ok.ensures.moved
+pub lists::renew_unlisted-returns-in_ok-without_items-in-Ok-clause-moved : goal.lists::renew_unlisted-returns-in_ok-without_items-in-Ok-clause-moved
+lists::renew_unlisted-returns-in_ok-without_items-in-Ok-clause-moved t c =
+    let z : Tables → Listing = λ n. seen_listing n c.args.list.value.listing in
+    let s = seen_spot c.args.list.value.spot in
+    let p = trail_view c.args.trail.now in
+    let k = stamp_of c.args.list.value.comment in
+    let cs : Tables → PlainCodes = λ n. seen_codes n c.args.list.value.body in
+    let es = c.in_ok-read.read.1.value.entries in
+    let l : vec_len es ≡ length es.items = search rules in
+    let d : c.deref_mut.result.now ≡ c.args.list.value = c.deref_mut.ensures.value ∙ (ap (λ (b : Box Unlisted Global). b.value) c.first_of-list.ensures ∙ ap (λ (b : Box Unlisted Global). b.value) c.in_ok-read.ensures.list) in
+    let old : Tables → PlainCode = λ n. unlisted_code (z n) s k (cs n) in
+    let mid : (n : Tables) → seen_code n c.in_ok-without_items-in-Ok.field-0.value ≡ unlisted_code (z n) s k (seen_codes n c.renew_else.new.body) =
+    λ n. c.in_ok-without_items-in-Ok.ensures n ∙ ap (λ (x : Unlisted). unlisted_code (seen_listing n x.listing) (seen_spot x.spot) (stamp_of x.comment) (seen_codes n c.renew_else.new.body)) d in
+    code_moved c.args.moved.now c.renew_else.new.moved old (λ n. seen_code n c.in_ok-without_items-in-Ok.field-0.value) old (λ n. unlisted_code (z n) s k (seen_codes n c.renew_else.new.body)) (λ n. refl) mid
+    (subst (λ (x : Unlisted). CodesMoved c.args.moved.now c.renew_else.new.moved (λ n. seen_codes n x.body) (λ n. seen_codes n c.renew_else.new.body)) d c.in-Ok.ensures.moved)
 
 pub lists::renew_unlisted-returns-else-is_empty-clause-moved : goal.lists::renew_unlisted-returns-else-is_empty-clause-moved
 lists::renew_unlisted-returns-else-is_empty-clause-moved t c =
-    let z : Tables → Listing = λ n. seen_listing n c.args.listing in
-    let s = seen_spot c.args.spot in
-    let k = stamp_of c.args.comment in
-    let cs : Tables → PlainCodes = λ n. seen_codes n c.args.body in
-    IfOk-weaker c.list.result (λ r. (n : Tables) → IsListed (live_of (seen_code n r))) (λ r. CodeMoved c.args.moved.now c.args.moved.now (λ n. unlisted_code (z n) s k (cs n)) (λ n. seen_code n r))
-    (λ r h. begun_moved c.args.moved.now z s k cs (λ n. seen_code n r) h) c.list.ensures.some
-
-pub lists::renew_unlisted-returns-in-Ok-clause-ok : goal.lists::renew_unlisted-returns-in-Ok-clause-ok
-lists::renew_unlisted-returns-in-Ok-clause-ok t c =
-    let z : Tables → Listing = λ n. seen_listing n c.args.listing in
-    let s = seen_spot c.args.spot in
+    let z : Tables → Listing = λ n. seen_listing n c.args.list.value.listing in
+    let s = seen_spot c.args.list.value.spot in
     let p = trail_view c.args.trail.now in
-    let k = stamp_of c.args.comment in
-    let cs : Tables → PlainCodes = λ n. seen_codes n c.args.body in
-    let ds : Tables → PlainCodes = λ n. seen_codes n c.renew_below.new.body in
-    let es = c.in_ok-entries.entries in
+    let k = stamp_of c.args.list.value.comment in
+    let cs : Tables → PlainCodes = λ n. seen_codes n c.args.list.value.body in
+    let es = c.in_ok-read.read.1.value.entries in
     let l : vec_len es ≡ length es.items = search rules in
-    let none = none_counted es.items (vec_len es) l (sym c.is_empty.ensures ∙ c.if-is_empty.true) in
-    renews_as c.args.app.now c.args.cells.now (Unlisting c.args.app.now c.args.cells.now z c.args.listing.key (λ n. refl) s c.args.left p k cs) (λ n. unlisted_code (z n) s k (ds n)) (λ n. seen_code n c.unlisted.result) c.args.vm.now c.renew_below.new.vm (λ n. sym (c.unlisted.ensures n))
-    (unlisted_stays c.args.app.now c.args.cells.now z c.args.listing.key (λ n. refl) s c.args.left p k cs c.args.vm.now c.value_now.new.vm c.renew_below.new.vm ds c.in_ok-value.ensures.step
-    (λ n u. sym (ap seen_left none) ∙ gives_of c.args.listing.key s c.value_now.new.vm c.in_ok-value.value (seen_left es.items) c.in_ok-value.ensures.value c.in_ok-entries.ensures n u) c.in-Ok.ensures.ok)
+    IfOk-weaker c.begin_list.result (λ r. (n : Tables) → IsListed (live_of (seen_code n r.value))) (λ r. CodeMoved c.args.moved.now c.args.moved.now (λ n. unlisted_code (z n) s k (cs n)) (λ n. seen_code n r.value))
+    (λ r h. begun_moved c.args.moved.now z s k cs (λ n. seen_code n r.value) h) c.begin_list.ensures.some
+
+pub lists::renew_unlisted-returns-in_ok-without_items-in-Ok-clause-ok : goal.lists::renew_unlisted-returns-in_ok-without_items-in-Ok-clause-ok
+lists::renew_unlisted-returns-in_ok-without_items-in-Ok-clause-ok t c =
+    let z : Tables → Listing = λ n. seen_listing n c.args.list.value.listing in
+    let s = seen_spot c.args.list.value.spot in
+    let p = trail_view c.args.trail.now in
+    let k = stamp_of c.args.list.value.comment in
+    let cs : Tables → PlainCodes = λ n. seen_codes n c.args.list.value.body in
+    let es = c.in_ok-read.read.1.value.entries in
+    let l : vec_len es ≡ length es.items = search rules in
+    let none = none_counted es.items (vec_len es) l (subst (λ (x : Ready). nat_eq (vec_len x.entries) 0 ≡ true) c.deref.ensures (sym c.is_empty.ensures ∙ c.if-is_empty.true)) in
+    let d : c.deref_mut.result.now ≡ c.args.list.value = c.deref_mut.ensures.value ∙ (ap (λ (b : Box Unlisted Global). b.value) c.first_of-list.ensures ∙ ap (λ (b : Box Unlisted Global). b.value) c.in_ok-read.ensures.list) in
+    let ds : Tables → PlainCodes = λ n. seen_codes n c.renew_else.new.body in
+    let mid : (n : Tables) → seen_code n c.in_ok-without_items-in-Ok.field-0.value ≡ unlisted_code (z n) s k (ds n) =
+    λ n. c.in_ok-without_items-in-Ok.ensures n ∙ ap (λ (x : Unlisted). unlisted_code (seen_listing n x.listing) (seen_spot x.spot) (stamp_of x.comment) (ds n)) d in
+    renews_as c.args.app.now c.args.cells.now (Unlisting c.args.app.now c.args.cells.now z c.args.list.value.listing.key (λ n. refl) s c.args.left p k cs) (λ n. unlisted_code (z n) s k (ds n)) (λ n. seen_code n c.in_ok-without_items-in-Ok.field-0.value) c.args.vm.now c.renew_else.new.vm (λ n. sym (mid n))
+    (unlisted_stays c.args.app.now c.args.cells.now z c.args.list.value.listing.key (λ n. refl) s c.args.left p k cs c.args.vm.now c.read_unlisted.new.vm c.renew_else.new.vm ds c.in_ok-read.ensures.step
+    (λ n u. sym (ap seen_left none) ∙ c.in_ok-read.ensures.entries n u)
+    (subst (λ (x : Unlisted). Renews c.args.app.now c.args.cells.now (λ n run. renew_codes_as by_number run c.args.left (otherwise ∷ p) 0 (seen_codes n x.body)) c.read_unlisted.new.vm ds c.renew_else.new.vm) d c.in-Ok.ensures.ok))
 
 pub lists::renew_unlisted-returns-in-Err-clause-fails : goal.lists::renew_unlisted-returns-in-Err-clause-fails
 lists::renew_unlisted-returns-in-Err-clause-fails t c =
-    let z : Tables → Listing = λ n. seen_listing n c.args.listing in
-    let s = seen_spot c.args.spot in
+    let z : Tables → Listing = λ n. seen_listing n c.args.list.value.listing in
+    let s = seen_spot c.args.list.value.spot in
     let p = trail_view c.args.trail.now in
-    let k = stamp_of c.args.comment in
-    let cs : Tables → PlainCodes = λ n. seen_codes n c.args.body in
-    let es = c.in_ok-entries.entries in
+    let k = stamp_of c.args.list.value.comment in
+    let cs : Tables → PlainCodes = λ n. seen_codes n c.args.list.value.body in
+    let es = c.in_ok-read.read.1.value.entries in
     let l : vec_len es ≡ length es.items = search rules in
-    let none = none_counted es.items (vec_len es) l (sym c.is_empty.ensures ∙ c.if-is_empty.true) in
-    unlisted_stays_fails c.args.app.now c.args.cells.now z c.args.listing.key (λ n. refl) s c.args.left p k cs c.args.vm.now c.value_now.new.vm c.in-Err.fault c.in_ok-value.ensures.step
-    (λ n u. sym (ap seen_left none) ∙ gives_of c.args.listing.key s c.value_now.new.vm c.in_ok-value.value (seen_left es.items) c.in_ok-value.ensures.value c.in_ok-entries.ensures n u) c.in-Err.ensures.fails
+    let none = none_counted es.items (vec_len es) l (subst (λ (x : Ready). nat_eq (vec_len x.entries) 0 ≡ true) c.deref.ensures (sym c.is_empty.ensures ∙ c.if-is_empty.true)) in
+    let d : c.deref_mut.result.now ≡ c.args.list.value = c.deref_mut.ensures.value ∙ (ap (λ (b : Box Unlisted Global). b.value) c.first_of-list.ensures ∙ ap (λ (b : Box Unlisted Global). b.value) c.in_ok-read.ensures.list) in
+    subst (RenewFails {A = PlainCode} c.args.app.now c.args.cells.now (Unlisting c.args.app.now c.args.cells.now z c.args.list.value.listing.key (λ n. refl) s c.args.left p k cs) c.args.vm.now) (sym c.lost_list.ensures)
+    (unlisted_stays_fails c.args.app.now c.args.cells.now z c.args.list.value.listing.key (λ n. refl) s c.args.left p k cs c.args.vm.now c.read_unlisted.new.vm c.in-Err.fault c.in_ok-read.ensures.step
+    (λ n u. sym (ap seen_left none) ∙ c.in_ok-read.ensures.entries n u)
+    (subst (λ (x : Unlisted). RenewFails {A = PlainCodes} c.args.app.now c.args.cells.now (λ n run. renew_codes_as by_number run c.args.left (otherwise ∷ p) 0 (seen_codes n x.body)) c.read_unlisted.new.vm c.in-Err.fault) d c.in-Err.ensures.fails))
 
 pub lists::renew_unlisted-returns-else-is_empty-clause-ok : goal.lists::renew_unlisted-returns-else-is_empty-clause-ok
 lists::renew_unlisted-returns-else-is_empty-clause-ok t c =
-    let z : Tables → Listing = λ n. seen_listing n c.args.listing in
-    let s = seen_spot c.args.spot in
+    let z : Tables → Listing = λ n. seen_listing n c.args.list.value.listing in
+    let s = seen_spot c.args.list.value.spot in
     let p = trail_view c.args.trail.now in
-    let k = stamp_of c.args.comment in
-    let cs : Tables → PlainCodes = λ n. seen_codes n c.args.body in
-    let es = c.in_ok-entries.entries in
+    let k = stamp_of c.args.list.value.comment in
+    let cs : Tables → PlainCodes = λ n. seen_codes n c.args.list.value.body in
+    let es = c.in_ok-read.read.1.value.entries in
     let l : vec_len es ≡ length es.items = search rules in
-    let some = some_counted es.items (vec_len es) l (sym c.is_empty.ensures ∙ c.if-is_empty.false) in
-    IfOk-weaker c.list.result
-    (λ r. Renews c.args.app.now c.args.cells.now (ListsFresh z s c.args.left p (seen_left es.items) (gone c.args.app.now c.args.cells.now z c.args.listing.key (λ n. refl) s c.args.left p k cs)) c.value_now.new.vm (λ n. seen_code n r) c.list.new.vm)
-    (λ r. Renews c.args.app.now c.args.cells.now (Unlisting c.args.app.now c.args.cells.now z c.args.listing.key (λ n. refl) s c.args.left p k cs) c.args.vm.now (λ n. seen_code n r) c.list.new.vm)
-    (λ r h. unlisted_lists c.args.app.now c.args.cells.now z c.args.listing.key (λ n. refl) s c.args.left p k cs (seen_left es.items) c.args.vm.now c.value_now.new.vm c.list.new.vm (λ n. seen_code n r) (λ e. some (none_left es.items e)) c.in_ok-value.ensures.step
-    (gives_of c.args.listing.key s c.value_now.new.vm c.in_ok-value.value (seen_left es.items) c.in_ok-value.ensures.value c.in_ok-entries.ensures) h)
-    c.list.ensures.ok
+    let some = some_counted es.items (vec_len es) l (subst (λ (x : Ready). nat_eq (vec_len x.entries) 0 ≡ false) c.deref.ensures (sym c.is_empty.ensures ∙ c.if-is_empty.false)) in
+    IfOk-weaker c.begin_list.result
+    (λ r. Renews c.args.app.now c.args.cells.now (ListsFresh z s c.args.left p (seen_left es.items) (gone c.args.app.now c.args.cells.now z c.args.list.value.listing.key (λ n. refl) s c.args.left p k cs)) c.read_unlisted.new.vm (λ n. seen_code n r.value) c.begin_list.new.vm)
+    (λ r. Renews c.args.app.now c.args.cells.now (Unlisting c.args.app.now c.args.cells.now z c.args.list.value.listing.key (λ n. refl) s c.args.left p k cs) c.args.vm.now (λ n. seen_code n r.value) c.begin_list.new.vm)
+    (λ r h. unlisted_lists c.args.app.now c.args.cells.now z c.args.list.value.listing.key (λ n. refl) s c.args.left p k cs (seen_left es.items) c.args.vm.now c.read_unlisted.new.vm c.begin_list.new.vm (λ n. seen_code n r.value) (λ e. some (none_left es.items e)) c.in_ok-read.ensures.step
+    c.in_ok-read.ensures.entries h)
+    (subst (λ (b : Box Unlisted Global). IfOk c.begin_list.result (λ r. Renews c.args.app.now c.args.cells.now (ListsFresh (λ n. seen_listing n b.value.listing) (seen_spot b.value.spot) c.args.left (trail_view c.args.trail.now) (seen_left es.items) (λ n q. times_in q (lives_of (seen_codes n b.value.body)) + times_comment q (stamp_of b.value.comment))) c.read_unlisted.new.vm (λ n. seen_code n r.value) c.begin_list.new.vm)) c.in_ok-read.ensures.list c.begin_list.ensures.ok)
 
 pub lists::renew_unlisted-returns-else-is_empty-clause-fails : goal.lists::renew_unlisted-returns-else-is_empty-clause-fails
 lists::renew_unlisted-returns-else-is_empty-clause-fails t c =
-    let z : Tables → Listing = λ n. seen_listing n c.args.listing in
-    let s = seen_spot c.args.spot in
+    let z : Tables → Listing = λ n. seen_listing n c.args.list.value.listing in
+    let s = seen_spot c.args.list.value.spot in
     let p = trail_view c.args.trail.now in
-    let k = stamp_of c.args.comment in
-    let cs : Tables → PlainCodes = λ n. seen_codes n c.args.body in
-    let es = c.in_ok-entries.entries in
+    let k = stamp_of c.args.list.value.comment in
+    let cs : Tables → PlainCodes = λ n. seen_codes n c.args.list.value.body in
+    let es = c.in_ok-read.read.1.value.entries in
     let l : vec_len es ≡ length es.items = search rules in
-    let some = some_counted es.items (vec_len es) l (sym c.is_empty.ensures ∙ c.if-is_empty.false) in
-    IfErr-weaker c.list.result
-    (RenewFails {A = PlainCode} c.args.app.now c.args.cells.now (ListsFresh z s c.args.left p (seen_left es.items) (gone c.args.app.now c.args.cells.now z c.args.listing.key (λ n. refl) s c.args.left p k cs)) c.value_now.new.vm)
-    (RenewFails {A = PlainCode} c.args.app.now c.args.cells.now (Unlisting c.args.app.now c.args.cells.now z c.args.listing.key (λ n. refl) s c.args.left p k cs) c.args.vm.now)
-    (λ f h. unlisted_lists_fails c.args.app.now c.args.cells.now z c.args.listing.key (λ n. refl) s c.args.left p k cs (seen_left es.items) c.args.vm.now c.value_now.new.vm f (λ e. some (none_left es.items e)) c.in_ok-value.ensures.step
-    (gives_of c.args.listing.key s c.value_now.new.vm c.in_ok-value.value (seen_left es.items) c.in_ok-value.ensures.value c.in_ok-entries.ensures) h)
-    c.list.ensures.fails
+    let some = some_counted es.items (vec_len es) l (subst (λ (x : Ready). nat_eq (vec_len x.entries) 0 ≡ false) c.deref.ensures (sym c.is_empty.ensures ∙ c.if-is_empty.false)) in
+    IfErr-weaker c.begin_list.result
+    (RenewFails {A = PlainCode} c.args.app.now c.args.cells.now (ListsFresh z s c.args.left p (seen_left es.items) (gone c.args.app.now c.args.cells.now z c.args.list.value.listing.key (λ n. refl) s c.args.left p k cs)) c.read_unlisted.new.vm)
+    (RenewFails {A = PlainCode} c.args.app.now c.args.cells.now (Unlisting c.args.app.now c.args.cells.now z c.args.list.value.listing.key (λ n. refl) s c.args.left p k cs) c.args.vm.now)
+    (λ f h. unlisted_lists_fails c.args.app.now c.args.cells.now z c.args.list.value.listing.key (λ n. refl) s c.args.left p k cs (seen_left es.items) c.args.vm.now c.read_unlisted.new.vm f (λ e. some (none_left es.items e)) c.in_ok-read.ensures.step
+    c.in_ok-read.ensures.entries h)
+    (subst (λ (b : Box Unlisted Global). IfErr c.begin_list.result (RenewFails {A = PlainCode} c.args.app.now c.args.cells.now (ListsFresh (λ n. seen_listing n b.value.listing) (seen_spot b.value.spot) c.args.left (trail_view c.args.trail.now) (seen_left es.items) (λ n q. times_in q (lives_of (seen_codes n b.value.body)) + times_comment q (stamp_of b.value.comment))) c.read_unlisted.new.vm)) c.in_ok-read.ensures.list c.begin_list.ensures.fails)
 
 -- an item
 
-pub syncing::kept_item-returns-in_ok-settle_item-in-Ok-clause-ok : goal.syncing::kept_item-returns-in_ok-settle_item-in-Ok-clause-ok
-syncing::kept_item-returns-in_ok-settle_item-in-Ok-clause-ok t c =
-    let e = c.args.entry in
-    kept_renews c.args.app.now c.args.cells.now c.args.left (item (plain (view e.key)) e.occurrence ∷ trail_view c.args.trail.now) e c.args.old.spot c.args.old.comment c.args.old.body (λ n. seen_item_code n c.args.old) c.args.vm.now c.give.new.vm c.give-2.new.vm c.counted.result
-    (λ n. item_is n c.args.old) c.in_ok-give.ensures.step c.in_ok-give-2.ensures.step c.counted.ensures
-    c.renew_below.new.body (λ n. seen_item_code n c.rendered.result) c.settle_item.new.vm c.rendered.ensures
-    (renews_on c.args.app.now c.args.cells.now (λ n run. renew_codes_as by_number run c.args.left (item (plain (view e.key)) e.occurrence ∷ trail_view c.args.trail.now) 0 (seen_codes n c.args.old.body)) (λ n. seen_codes n c.renew_below.new.body) c.give-2.new.vm c.renew_below.new.vm c.settle_item.new.vm c.in-Ok.ensures.ok c.in_ok-settle_item-in-Ok.ensures.step)
+pub syncing::kept_item-returns-in_ok-settled-in-Ok-clause-ok : goal.syncing::kept_item-returns-in_ok-settled-in-Ok-clause-ok
+syncing::kept_item-returns-in_ok-settled-in-Ok-clause-ok t c =
+    let e = c.args.entry.value in
+    let o = c.args.old.value in
+    let q : Path = item (plain (view e.key)) e.occurrence ∷ trail_view c.args.trail.now in
+    let x : ItemCode = c.deref_mut.result.now in
+    let is : x ≡ o = c.deref_mut.ensures.value ∙ ap (λ (b : Box ItemCode Global). b.value) c.in_ok-kept.ensures.item in
+    let given : Does (given_item x.spot e) c.args.vm.now c.begin_item.new.vm = subst (λ (y : ItemCode). Does (given_item y.spot e) c.args.vm.now c.begin_item.new.vm) (sym is) c.in_ok-kept.ensures.step in
+    let y : ItemCode = record { spot = x.spot; comment = x.comment; body = c.renew_codes.new.codes } in
+    let r : ItemCode = c.in_ok-settled-in-Ok.field-0.value in
+    let new : (n : Tables) → seen_item_code n r ≡ (seen_item_spot x.spot, (stamp_of x.comment, seen_codes n c.renew_codes.new.codes)) = λ n. ap (λ (b : Box ItemCode Global). seen_item_code n b.value) c.in_ok-settled-in-Ok.ensures.item ∙ item_is n y in
+    subst (λ (w : ItemCode). Renews c.args.app.now c.args.cells.now (KeptItem c.args.left q (seen_entry e) (λ n. seen_item_code n w)) c.args.vm.now (λ n. seen_item_code n r) c.settled.new.vm) is
+    (kept_renews c.args.app.now c.args.cells.now c.args.left q e x.spot x.comment x.body (λ n. seen_item_code n x) c.args.vm.now c.begin_item.new.vm
+    (λ n. item_is n x) given c.renew_codes.new.codes (λ n. seen_item_code n r) c.settled.new.vm new
+    (renews_on c.args.app.now c.args.cells.now (λ n run. renew_codes_as by_number run c.args.left q 0 (seen_codes n x.body)) (λ n. seen_codes n c.renew_codes.new.codes) c.begin_item.new.vm c.renew_codes.new.vm c.settled.new.vm
+    (subst (λ w. Renews c.args.app.now c.args.cells.now (λ n run. renew_codes_as by_number run c.args.left w 0 (seen_codes n x.body)) c.begin_item.new.vm (λ n. seen_codes n c.renew_codes.new.codes) c.renew_codes.new.vm) c.in_ok-kept.ensures.view c.in-Ok.ensures.ok)
+    c.in_ok-settled-in-Ok.ensures.step))
 
 pub syncing::kept_item-returns-in-Err-clause-fails : goal.syncing::kept_item-returns-in-Err-clause-fails
 syncing::kept_item-returns-in-Err-clause-fails t c =
-    let e = c.args.entry in
-    kept_fails c.args.app.now c.args.cells.now c.args.left (item (plain (view e.key)) e.occurrence ∷ trail_view c.args.trail.now) e c.args.old.spot c.args.old.comment c.args.old.body (λ n. seen_item_code n c.args.old) c.args.vm.now c.give.new.vm c.give-2.new.vm c.counted.result
-    (λ n. item_is n c.args.old) c.in_ok-give.ensures.step c.in_ok-give-2.ensures.step c.counted.ensures
-    c.in-Err.fault c.in-Err.ensures.fails
+    let e = c.args.entry.value in
+    let o = c.args.old.value in
+    let q : Path = item (plain (view e.key)) e.occurrence ∷ trail_view c.args.trail.now in
+    let x : ItemCode = c.deref_mut.result.now in
+    let is : x ≡ o = c.deref_mut.ensures.value ∙ ap (λ (b : Box ItemCode Global). b.value) c.in_ok-kept.ensures.item in
+    let given : Does (given_item x.spot e) c.args.vm.now c.begin_item.new.vm = subst (λ (y : ItemCode). Does (given_item y.spot e) c.args.vm.now c.begin_item.new.vm) (sym is) c.in_ok-kept.ensures.step in
+    subst (RenewFails {A = Item} c.args.app.now c.args.cells.now (KeptItem c.args.left q (seen_entry e) (λ n. seen_item_code n o)) c.args.vm.now) (sym c.lost_item.ensures)
+    (subst (λ (w : ItemCode). RenewFails {A = Item} c.args.app.now c.args.cells.now (KeptItem c.args.left q (seen_entry e) (λ n. seen_item_code n w)) c.args.vm.now c.in-Err.fault) is
+    (kept_fails c.args.app.now c.args.cells.now c.args.left q e x.spot x.comment x.body (λ n. seen_item_code n x) c.args.vm.now c.begin_item.new.vm
+    (λ n. item_is n x) given c.in-Err.fault
+    (subst (λ w. RenewFails {A = p.Codes} c.args.app.now c.args.cells.now (λ n run. renew_codes_as by_number run c.args.left w 0 (seen_codes n x.body)) c.begin_item.new.vm c.in-Err.fault) c.in_ok-kept.ensures.view c.in-Err.ensures.fails)))
+
+pub syncing::kept_item-returns-in_ok-settled-in-Ok-clause-moved : goal.syncing::kept_item-returns-in_ok-settled-in-Ok-clause-moved
+syncing::kept_item-returns-in_ok-settled-in-Ok-clause-moved t c =
+    let e = c.args.entry.value in
+    let o = c.args.old.value in
+    let q : Path = item (plain (view e.key)) e.occurrence ∷ trail_view c.args.trail.now in
+    let x : ItemCode = c.deref_mut.result.now in
+    let is : x ≡ o = c.deref_mut.ensures.value ∙ ap (λ (b : Box ItemCode Global). b.value) c.in_ok-kept.ensures.item in
+    let given : Does (given_item x.spot e) c.args.vm.now c.begin_item.new.vm = subst (λ (y : ItemCode). Does (given_item y.spot e) c.args.vm.now c.begin_item.new.vm) (sym is) c.in_ok-kept.ensures.step in
+    let y : ItemCode = record { spot = x.spot; comment = x.comment; body = c.renew_codes.new.codes } in
+    let r : ItemCode = c.in_ok-settled-in-Ok.field-0.value in
+    let new : (n : Tables) → seen_item_code n r ≡ (seen_item_spot x.spot, (stamp_of x.comment, seen_codes n c.renew_codes.new.codes)) = λ n. ap (λ (b : Box ItemCode Global). seen_item_code n b.value) c.in_ok-settled-in-Ok.ensures.item ∙ item_is n y in
+    kept_moved c.args.moved.now c.renew_codes.new.moved c.settled.new.moved c.args.moves (λ n. seen_item_code n o) (λ n. seen_item_code n r) (λ n. seen_codes n x.body) (λ n. seen_codes n c.renew_codes.new.codes)
+    (λ n. ap (λ (z : Item). z.1.1) (ap (seen_item_code n) (sym is) ∙ item_is n x)) (λ n. ap (λ (z : Item). z.1.1) (new n)) c.in-Ok.ensures.moved c.in_ok-settled-in-Ok.ensures.moved
+
+pub syncing::kept_item-returns-in_ok-settled-in-Ok-clause-key : goal.syncing::kept_item-returns-in_ok-settled-in-Ok-clause-key
+syncing::kept_item-returns-in_ok-settled-in-Ok-clause-key t c = λ n.
+    let e = c.args.entry.value in
+    let o = c.args.old.value in
+    let q : Path = item (plain (view e.key)) e.occurrence ∷ trail_view c.args.trail.now in
+    let x : ItemCode = c.deref_mut.result.now in
+    let is : x ≡ o = c.deref_mut.ensures.value ∙ ap (λ (b : Box ItemCode Global). b.value) c.in_ok-kept.ensures.item in
+    let given : Does (given_item x.spot e) c.args.vm.now c.begin_item.new.vm = subst (λ (y : ItemCode). Does (given_item y.spot e) c.args.vm.now c.begin_item.new.vm) (sym is) c.in_ok-kept.ensures.step in
+    let y : ItemCode = record { spot = x.spot; comment = x.comment; body = c.renew_codes.new.codes } in
+    let r : ItemCode = c.in_ok-settled-in-Ok.field-0.value in
+    let new : (n : Tables) → seen_item_code n r ≡ (seen_item_spot x.spot, (stamp_of x.comment, seen_codes n c.renew_codes.new.codes)) = λ n. ap (λ (b : Box ItemCode Global). seen_item_code n b.value) c.in_ok-settled-in-Ok.ensures.item ∙ item_is n y in
+    ap spot_key (new n) ∙ sym (ap spot_key (ap (seen_item_code n) (sym is) ∙ item_is n x))
 
 pub syncing::entry_item-returns-in-Some-clause-ok : goal.syncing::entry_item-returns-in-Some-clause-ok
 syncing::entry_item-returns-in-Some-clause-ok t c =
-    let e = c.args.entry in
-    subst (λ o. IfOk c.kept_item.result (λ r. Renews c.args.app.now c.args.cells.now (OneItem (λ n. seen_listing n c.args.listing.now) c.args.left (item (plain (view e.key)) e.occurrence ∷ trail_view c.args.trail.now) (seen_entry e) o) c.args.vm.now (λ n. seen_item_code n r) c.kept_item.new.vm))
+    let e = c.args.next.entry.value in
+    subst (λ o. IfOk c.kept_item.result (λ r. Renews c.args.app.now c.args.cells.now (OneItem (λ n. seen_listing n c.args.listing.now) c.args.left (item (plain (view e.key)) e.occurrence ∷ trail_view c.args.trail.now) (seen_entry e) (unboxed o)) c.args.vm.now (λ n. seen_item_code n r.value) c.kept_item.new.vm))
     (sym c.in-Some.is) c.kept_item.ensures.ok
 
 pub syncing::entry_item-returns-in-Some-clause-fails : goal.syncing::entry_item-returns-in-Some-clause-fails
 syncing::entry_item-returns-in-Some-clause-fails t c =
-    let e = c.args.entry in
-    subst (λ o. IfErr c.kept_item.result (RenewFails {A = Item} c.args.app.now c.args.cells.now (OneItem (λ n. seen_listing n c.args.listing.now) c.args.left (item (plain (view e.key)) e.occurrence ∷ trail_view c.args.trail.now) (seen_entry e) o) c.args.vm.now))
+    let e = c.args.next.entry.value in
+    subst (λ o. IfErr c.kept_item.result (RenewFails {A = Item} c.args.app.now c.args.cells.now (OneItem (λ n. seen_listing n c.args.listing.now) c.args.left (item (plain (view e.key)) e.occurrence ∷ trail_view c.args.trail.now) (seen_entry e) (unboxed o)) c.args.vm.now))
     (sym c.in-Some.is) c.kept_item.ensures.fails
 
-pub syncing::entry_item-returns-in_ok-path-in-None-clause-ok : goal.syncing::entry_item-returns-in_ok-path-in-None-clause-ok
-syncing::entry_item-returns-in_ok-path-in-None-clause-ok t c =
-    let e = c.args.entry in
+pub syncing::entry_item-returns-in-None-clause-ok : goal.syncing::entry_item-returns-in-None-clause-ok
+syncing::entry_item-returns-in-None-clause-ok t c =
+    let e = c.args.next.entry.value in
     let z : Tables → Listing = λ n. seen_listing n c.args.listing.now in
-    let at = c.in_ok-path-in-None.ensures ∙ ap (λ w. item (plain (view e.key)) e.occurrence ∷ w) c.requires.base in
-    subst (λ o. IfOk c.fresh_item.result (λ r. Renews c.args.app.now c.args.cells.now (OneItem z c.args.left (item (plain (view e.key)) e.occurrence ∷ trail_view c.args.trail.now) (seen_entry e) o) c.args.vm.now (λ n. seen_item_code n r) c.fresh_item.new.vm))
-    (sym c.in-None.is) (subst (λ q. IfOk c.fresh_item.result (λ r. Renews c.args.app.now c.args.cells.now (FreshItem z c.args.left q (seen_entry e)) c.args.vm.now (λ n. seen_item_code n r) c.fresh_item.new.vm)) at c.fresh_item.ensures.ok)
+    subst (λ o. IfOk c.new_item.result (λ r. Renews c.args.app.now c.args.cells.now (OneItem z c.args.left (item (plain (view e.key)) e.occurrence ∷ trail_view c.args.trail.now) (seen_entry e) (unboxed o)) c.args.vm.now (λ n. seen_item_code n r.value) c.new_item.new.vm))
+    (sym c.in-None.is) (subst (λ w. IfOk c.new_item.result (λ r. Renews c.args.app.now c.args.cells.now (FreshItem z c.args.left (item (plain (view e.key)) e.occurrence ∷ w) (seen_entry e)) c.args.vm.now (λ n. seen_item_code n r.value) c.new_item.new.vm)) c.requires.base c.new_item.ensures.ok)
 
-pub syncing::entry_item-returns-in_ok-path-in-None-clause-fails : goal.syncing::entry_item-returns-in_ok-path-in-None-clause-fails
-syncing::entry_item-returns-in_ok-path-in-None-clause-fails t c =
-    let e = c.args.entry in
+pub syncing::entry_item-returns-in-None-clause-fails : goal.syncing::entry_item-returns-in-None-clause-fails
+syncing::entry_item-returns-in-None-clause-fails t c =
+    let e = c.args.next.entry.value in
     let z : Tables → Listing = λ n. seen_listing n c.args.listing.now in
-    let at = c.in_ok-path-in-None.ensures ∙ ap (λ w. item (plain (view e.key)) e.occurrence ∷ w) c.requires.base in
-    subst (λ o. IfErr c.fresh_item.result (RenewFails {A = Item} c.args.app.now c.args.cells.now (OneItem z c.args.left (item (plain (view e.key)) e.occurrence ∷ trail_view c.args.trail.now) (seen_entry e) o) c.args.vm.now))
-    (sym c.in-None.is) (subst (λ q. IfErr c.fresh_item.result (RenewFails {A = Item} c.args.app.now c.args.cells.now (FreshItem z c.args.left q (seen_entry e)) c.args.vm.now)) at c.fresh_item.ensures.fails)
-
-pub syncing::kept_item-returns-in_ok-settle_item-in-Ok-clause-moved : goal.syncing::kept_item-returns-in_ok-settle_item-in-Ok-clause-moved
-syncing::kept_item-returns-in_ok-settle_item-in-Ok-clause-moved t c =
-    kept_moved c.args.moved.now c.renew_below.new.moved c.settle_item.new.moved c.args.moves (λ n. seen_item_code n c.args.old) (λ n. seen_item_code n c.rendered.result) (λ n. seen_codes n c.args.old.body) (λ n. seen_codes n c.renew_below.new.body)
-    (λ n. ap (λ (x : Item). x.1.1) (item_is n c.args.old)) (λ n. ap (λ (x : Item). x.1.1) (c.rendered.ensures n)) c.in-Ok.ensures.moved c.in_ok-settle_item-in-Ok.ensures.moved
-
-pub syncing::kept_item-returns-in_ok-settle_item-in-Ok-clause-key : goal.syncing::kept_item-returns-in_ok-settle_item-in-Ok-clause-key
-syncing::kept_item-returns-in_ok-settle_item-in-Ok-clause-key t c = λ n. ap spot_key (c.rendered.ensures n) ∙ sym (ap spot_key (item_is n c.args.old))
+    subst (λ o. IfErr c.new_item.result (RenewFails {A = Item} c.args.app.now c.args.cells.now (OneItem z c.args.left (item (plain (view e.key)) e.occurrence ∷ trail_view c.args.trail.now) (seen_entry e) (unboxed o)) c.args.vm.now))
+    (sym c.in-None.is) (subst (λ w. IfErr c.new_item.result (RenewFails {A = Item} c.args.app.now c.args.cells.now (FreshItem z c.args.left (item (plain (view e.key)) e.occurrence ∷ w) (seen_entry e)) c.args.vm.now)) c.requires.base c.new_item.ensures.fails)
 
 pub syncing::entry_item-returns-in-Some-clause-moved : goal.syncing::entry_item-returns-in-Some-clause-moved
 syncing::entry_item-returns-in-Some-clause-moved t c =
-    subst (λ o. IfOk c.kept_item.result (λ r. ItemMoved c.args.moved.now c.kept_item.new.moved c.args.moves o r)) (sym c.in-Some.is) c.kept_item.ensures.moved
+    subst (λ o. IfOk c.kept_item.result (λ r. ItemMoved c.args.moved.now c.kept_item.new.moved c.args.next.moves (unboxed o) r.value)) (sym c.in-Some.is) c.kept_item.ensures.moved
 
 pub syncing::entry_item-returns-in-Some-clause-key : goal.syncing::entry_item-returns-in-Some-clause-key
 syncing::entry_item-returns-in-Some-clause-key t c =
-    subst (λ o. IfOk c.kept_item.result (λ r. (n : Tables) → HasKey n o (entry_key (seen_entry c.args.entry)) r)) (sym c.in-Some.is) c.kept_item.ensures.key
+    subst (λ o. IfOk c.kept_item.result (λ r. (n : Tables) → HasKey n (unboxed o) (entry_key (seen_entry c.args.next.entry.value)) r.value)) (sym c.in-Some.is) c.kept_item.ensures.key
 
-pub syncing::entry_item-returns-in_ok-path-in-None-clause-moved : goal.syncing::entry_item-returns-in_ok-path-in-None-clause-moved
-syncing::entry_item-returns-in_ok-path-in-None-clause-moved t c =
-    subst (λ o. IfOk c.fresh_item.result (λ r. ItemMoved c.args.moved.now c.args.moved.now c.args.moves o r)) (sym c.in-None.is)
-    (IfOk-weaker c.fresh_item.result (λ r. (n : Tables) → spot_key (seen_item_code n r) ≡ entry_key (seen_entry c.args.entry)) (λ r. ItemMoved c.args.moved.now c.args.moved.now c.args.moves None r) (λ r h. refl) c.fresh_item.ensures.key)
+pub syncing::entry_item-returns-in-None-clause-moved : goal.syncing::entry_item-returns-in-None-clause-moved
+syncing::entry_item-returns-in-None-clause-moved t c =
+    subst (λ o. IfOk c.new_item.result (λ r. ItemMoved c.args.moved.now c.args.moved.now c.args.next.moves (unboxed o) r.value)) (sym c.in-None.is)
+    (IfOk-weaker c.new_item.result (λ r. (n : Tables) → spot_key (seen_item_code n r.value) ≡ entry_key (seen_entry c.args.next.entry.value)) (λ r. ItemMoved c.args.moved.now c.args.moved.now c.args.next.moves None r.value) (λ r h. refl) c.new_item.ensures.key)
 
-pub syncing::entry_item-returns-in_ok-path-in-None-clause-key : goal.syncing::entry_item-returns-in_ok-path-in-None-clause-key
-syncing::entry_item-returns-in_ok-path-in-None-clause-key t c =
-    subst (λ o. IfOk c.fresh_item.result (λ r. (n : Tables) → HasKey n o (entry_key (seen_entry c.args.entry)) r)) (sym c.in-None.is) c.fresh_item.ensures.key
+pub syncing::entry_item-returns-in-None-clause-key : goal.syncing::entry_item-returns-in-None-clause-key
+syncing::entry_item-returns-in-None-clause-key t c =
+    subst (λ o. IfOk c.new_item.result (λ r. (n : Tables) → HasKey n (unboxed o) (entry_key (seen_entry c.args.next.entry.value)) r.value)) (sym c.in-None.is) c.new_item.ensures.key
 
 -- the items
 
-pub syncing::sync_items-loop-entry-init : goal.syncing::sync_items-loop-entry-init
-syncing::sync_items-loop-entry-init t c = record {
+pub syncing::sync_items-loop-done-init : goal.syncing::sync_items-loop-done-init
+syncing::sync_items-loop-done-init t c = record {
   trail = refl;
   calm = c.requires.calm;
+  listing = refl;
+  spot = refl;
+  base = c.requires.base;
   ready = c.requires.ready;
-  onward = sync_begin c.args.app.now c.args.cells.now c.args.left c.args.listing.now (trail_view c.args.trail.now) c.args.work.waiting.items (there c.args.work.olds.items) c.new-done.result.items c.args.vm.now c.new-done.ensures.items;
-  moved = syncing_begin c.args.moved.now c.args.work c.new-done.result.items c.new-done.ensures.items;
+  onward = sync_begin c.args.app.now c.args.cells.now c.args.left c.args.begun.now.listing (trail_view c.args.trail.now) c.args.begun.now.work.waiting.items (there c.args.begun.now.work.olds.items) c.new-done.result.items c.args.vm.now c.new-done.ensures.items;
+  moved = syncing_begin c.args.moved.now c.args.begun.now.work c.new-done.result.items c.new-done.ensures.items;
 }
 
-pub syncing::sync_items-loop-entry-preserved : goal.syncing::sync_items-loop-entry-preserved
-syncing::sync_items-loop-entry-preserved t c =
-    let z = c.args.listing.now in
+pub syncing::sync_items-loop-done-preserved : goal.syncing::sync_items-loop-done-preserved
+syncing::sync_items-loop-done-preserved t c =
+    let z = c.args.begun.now.listing in
     let base = trail_view c.args.trail.now in
-    let e = c.in-Some.entry in
+    let x = c.in-Some.next in
+    let e = x.entry.value in
+    let o = unboxed x.old in
+    let w = c.loop-done.begun.work in
+    let v = c.next.new.self in
     let q : Path = item (plain (view e.key)) e.occurrence ∷ base in
-    let is : c.loop-entry.work.waiting.items ≡ c.take.new.self.waiting.items ++ e ∷ [] = still_waits c.loop-entry.work.waiting.items c.pop.new.self.items c.take.new.self.waiting.items e c.in-Some.ensures.items (ap (λ v. v.items) c.take.ensures.waiting) in
-    let next = work_next c.loop-entry.work c.take.new.self c.take.new.self.waiting.items e c.in_ok-old.old c.loop-entry.invariant.ready is refl c.take.ensures.keys c.in_ok-old.ensures.taken in
+    let took : Taking w v x = subst (Follows w v) c.in-Some.is c.in_ok-next.ensures in
+    let after = work_next w v v.waiting.items e o c.loop-done.invariant.ready took.waits refl took.keys took.taken in
     record {
-      trail = c.in-Ok.ensures.trail ∙ c.loop-entry.invariant.trail;
+      trail = c.in-Ok.ensures.trail ∙ c.loop-done.invariant.trail;
       calm = c.entry_item.ensures.calm;
-      ready = next.1;
-      onward = sync_next c.args.app.now c.args.cells.now c.args.left z base (All c.args.app.now c.args.cells.now c.args.left z base c.args.work.waiting.items (there c.args.work.olds.items))
-          c.loop-entry.done.items c.add.new.items.items c.loop-entry.work.waiting.items c.take.new.self.waiting.items e c.in-Ok.item q c.loop-entry.work.olds.items c.take.new.self.olds.items c.in_ok-old.old c.args.vm.now c.loop-entry.vm c.entry_item.new.vm
-          is refl next.0 c.in_ok-add-in-Ok.ensures c.loop-entry.invariant.onward
-          (subst (λ w. Renews c.args.app.now c.args.cells.now (OneItem (λ n. seen_listing n z) c.args.left (item (plain (view e.key)) e.occurrence ∷ trail_view w) (seen_entry e) c.in_ok-old.old) c.loop-entry.vm (λ n. seen_item_code n c.in-Ok.item) c.entry_item.new.vm)
-          c.loop-entry.invariant.trail c.in-Ok.ensures.ok);
-      moved = syncing_next c.args.moved.now c.loop-entry.moved c.entry_item.new.moved c.args.work c.loop-entry.work c.take.new.self c.loop-entry.done.items c.add.new.items.items e c.in_ok-old.old c.moves-moves.result c.in-Ok.item
-          c.requires.ready c.loop-entry.invariant.ready is c.take.ensures.keys c.in_ok-old.ensures.taken c.moves-moves.ensures c.in-Ok.ensures.moved c.in-Ok.ensures.key c.in_ok-add-in-Ok.ensures c.loop-entry.invariant.moved;
+      listing = c.loop-done.invariant.listing;
+      spot = c.loop-done.invariant.spot;
+      base = c.loop-done.invariant.base ∙ ap trail_view (sym c.in-Ok.ensures.trail);
+      ready = after.1;
+      onward = sync_next c.args.app.now c.args.cells.now c.args.left z base (All c.args.app.now c.args.cells.now c.args.left z base c.args.begun.now.work.waiting.items (there c.args.begun.now.work.olds.items))
+          c.loop-done.done.items c.add_item.new.items.items w.waiting.items v.waiting.items e c.in-Ok.item.value q w.olds.items v.olds.items o c.args.vm.now c.loop-done.vm c.entry_item.new.vm
+          took.waits refl after.0 c.in_ok-add_item-in-Ok.ensures c.loop-done.invariant.onward
+          (subst (λ y. Renews c.args.app.now c.args.cells.now (OneItem (λ n. seen_listing n z) c.args.left (item (plain (view e.key)) e.occurrence ∷ trail_view y) (seen_entry e) o) c.loop-done.vm (λ n. seen_item_code n c.in-Ok.item.value) c.entry_item.new.vm)
+          c.loop-done.invariant.trail
+          (subst (λ (l : ListingCode). Renews c.args.app.now c.args.cells.now (OneItem (λ n. seen_listing n l) c.args.left (item (plain (view e.key)) e.occurrence ∷ trail_view c.loop-done.trail) (seen_entry e) o) c.loop-done.vm (λ n. seen_item_code n c.in-Ok.item.value) c.entry_item.new.vm) c.loop-done.invariant.listing c.in-Ok.ensures.ok));
+      moved = syncing_next c.args.moved.now c.loop-done.moved c.entry_item.new.moved c.args.begun.now.work w v c.loop-done.done.items c.add_item.new.items.items e o x.moves c.in-Ok.item.value
+          c.requires.ready c.loop-done.invariant.ready took.waits took.keys took.taken took.moves c.in-Ok.ensures.moved c.in-Ok.ensures.key c.in_ok-add_item-in-Ok.ensures c.loop-done.invariant.moved;
     }
 
 pub syncing::sync_items-returns-in-Err-clause-fails : goal.syncing::sync_items-returns-in-Err-clause-fails
 syncing::sync_items-returns-in-Err-clause-fails t c =
-    let z = c.args.listing.now in
+    let z = c.args.begun.now.listing in
     let base = trail_view c.args.trail.now in
-    let e = c.in-Some.entry in
+    let x = c.in-Some.next in
+    let e = x.entry.value in
+    let o = unboxed x.old in
+    let w = c.loop-done.begun.work in
+    let v = c.next.new.self in
     let q : Path = item (plain (view e.key)) e.occurrence ∷ base in
-    let next = work_next c.loop-entry.work c.take.new.self c.pop.new.self.items e c.in_ok-old.old c.loop-entry.invariant.ready c.in-Some.ensures.items (ap (λ v. v.items) c.take.ensures.waiting) c.take.ensures.keys c.in_ok-old.ensures.taken in
-    sync_fails c.args.app.now c.args.cells.now c.args.left z base (All c.args.app.now c.args.cells.now c.args.left z base c.args.work.waiting.items (there c.args.work.olds.items))
-    c.loop-entry.done.items c.loop-entry.work.waiting.items c.pop.new.self.items e q c.loop-entry.work.olds.items c.take.new.self.olds.items c.in_ok-old.old c.args.vm.now c.loop-entry.vm c.in-Err.fault
-    c.in-Some.ensures.items refl next.0 c.loop-entry.invariant.onward
-    (subst (λ w. RenewFails {A = Item} c.args.app.now c.args.cells.now (OneItem (λ n. seen_listing n z) c.args.left (item (plain (view e.key)) e.occurrence ∷ trail_view w) (seen_entry e) c.in_ok-old.old) c.loop-entry.vm c.in-Err.fault)
-    c.loop-entry.invariant.trail c.in-Err.ensures.fails)
+    let took : Taking w v x = subst (Follows w v) c.in-Some.is c.in_ok-next.ensures in
+    let after = work_next w v v.waiting.items e o c.loop-done.invariant.ready took.waits refl took.keys took.taken in
+    sync_fails c.args.app.now c.args.cells.now c.args.left z base (All c.args.app.now c.args.cells.now c.args.left z base c.args.begun.now.work.waiting.items (there c.args.begun.now.work.olds.items))
+    c.loop-done.done.items w.waiting.items v.waiting.items e q w.olds.items v.olds.items o c.args.vm.now c.loop-done.vm c.in-Err.fault
+    took.waits refl after.0 c.loop-done.invariant.onward
+    (subst (λ y. RenewFails {A = Item} c.args.app.now c.args.cells.now (OneItem (λ n. seen_listing n z) c.args.left (item (plain (view e.key)) e.occurrence ∷ trail_view y) (seen_entry e) o) c.loop-done.vm c.in-Err.fault)
+    c.loop-done.invariant.trail
+    (subst (λ (l : ListingCode). RenewFails {A = Item} c.args.app.now c.args.cells.now (OneItem (λ n. seen_listing n l) c.args.left (item (plain (view e.key)) e.occurrence ∷ trail_view c.loop-done.trail) (seen_entry e) o) c.loop-done.vm c.in-Err.fault) c.loop-done.invariant.listing c.in-Err.ensures.fails))
 
 pub syncing::sync_items-returns-clause-ok : goal.syncing::sync_items-returns-clause-ok
 syncing::sync_items-returns-clause-ok t c =
-    let z = c.args.listing.now in
+    let z = c.args.begun.now.listing in
     let base = trail_view c.args.trail.now in
-    let waiting = c.loop-entry.work.waiting.items in
-    let none : waiting ≡ [] = none_waits waiting c.pop.new.self.items _ c.in_default.ensures.items c.in_default.ensures.rest c.in_default.ensures.cases.0 in
-    sync_end c.args.app.now c.args.cells.now c.args.left z base (All c.args.app.now c.args.cells.now c.args.left z base c.args.work.waiting.items (there c.args.work.olds.items))
-    c.loop-entry.done.items c.in_ok-olds.olds.items waiting c.loop-entry.work.olds.items c.args.vm.now c.loop-entry.vm c.end_items.new.vm none (c.in_ok-olds.ensures ∙ there_is c.loop-entry.work.olds.items) c.loop-entry.invariant.onward
-    (subst (λ xs. Does (λ n. dropped_as by_number (λ q. times_items q (items_of (all_items (map (seen_item_code n) xs))))) c.loop-entry.vm c.end_items.new.vm) c.as_slice.ensures.value c.in_ok-end_items.ensures.step)
+    let w = c.loop-done.begun.work in
+    let v = c.next.new.self in
+    let ended : (w.waiting.items ≡ []) × (v.olds ≡ w.olds) = subst (Follows w v) c.in_default.is c.in_ok-next.ensures in
+    sync_end c.args.app.now c.args.cells.now c.args.left z base (All c.args.app.now c.args.cells.now c.args.left z base c.args.begun.now.work.waiting.items (there c.args.begun.now.work.olds.items))
+    c.loop-done.done.items (there v.olds.items) w.waiting.items w.olds.items c.args.vm.now c.loop-done.vm c.end_left.new.vm ended.0 (ap (λ os. there os.items) ended.1) c.loop-done.invariant.onward
+    c.in_ok-end_left.ensures.step
 
 pub syncing::sync_items-returns-clause-moved : goal.syncing::sync_items-returns-clause-moved
 syncing::sync_items-returns-clause-moved t c =
-    let waiting = c.loop-entry.work.waiting.items in
-    let none : waiting ≡ [] = none_waits waiting c.pop.new.self.items _ c.in_default.ensures.items c.in_default.ensures.rest c.in_default.ensures.cases.0 in
-    (syncing_end c.args.moved.now c.loop-entry.moved c.args.work c.loop-entry.work c.loop-entry.done.items c.loop-entry.invariant.ready none c.loop-entry.invariant.moved).0
+    let w = c.loop-done.begun.work in
+    let ended : (w.waiting.items ≡ []) × (c.next.new.self.olds ≡ w.olds) = subst (Follows w c.next.new.self) c.in_default.is c.in_ok-next.ensures in
+    (syncing_end c.args.moved.now c.loop-done.moved c.args.begun.now.work w c.loop-done.done.items c.loop-done.invariant.ready ended.0 c.loop-done.invariant.moved).0
 
 pub syncing::sync_items-returns-clause-keys : goal.syncing::sync_items-returns-clause-keys
 syncing::sync_items-returns-clause-keys t c =
-    let waiting = c.loop-entry.work.waiting.items in
-    let none : waiting ≡ [] = none_waits waiting c.pop.new.self.items _ c.in_default.ensures.items c.in_default.ensures.rest c.in_default.ensures.cases.0 in
-    (syncing_end c.args.moved.now c.loop-entry.moved c.args.work c.loop-entry.work c.loop-entry.done.items c.loop-entry.invariant.ready none c.loop-entry.invariant.moved).1
+    let w = c.loop-done.begun.work in
+    let ended : (w.waiting.items ≡ []) × (c.next.new.self.olds ≡ w.olds) = subst (Follows w c.next.new.self) c.in_default.is c.in_ok-next.ensures in
+    (syncing_end c.args.moved.now c.loop-done.moved c.args.begun.now.work w c.loop-done.done.items c.loop-done.invariant.ready ended.0 c.loop-done.invariant.moved).1
 
-pub syncing::sync_list-returns-in-Ok-clause-moved : goal.syncing::sync_list-returns-in-Ok-clause-moved
-syncing::sync_list-returns-in-Ok-clause-moved t c =
-    list_moved c.args.moved.now c.sync_items.new.moved (λ n. seen_listing n c.args.listing) (seen_spot c.args.spot) c.in_ok-work.work c.args.items.items c.in-Ok.items.items c.args.keys.now c.args.entries.items (λ n. seen_code n c.listed.result)
-    c.in_ok-work.ensures.olds (ap (λ v. v.items) c.in_ok-work.ensures.waiting) c.in_ok-work.ensures.keys c.in_ok-work.ensures.moves c.requires.keys c.in-Ok.ensures.moved c.in-Ok.ensures.keys c.listed.ensures
+-- all of them
 
-pub syncing::sync_list-returns-in-Ok-clause-ok : goal.syncing::sync_list-returns-in-Ok-clause-ok
-syncing::sync_list-returns-in-Ok-clause-ok t c =
-    list_syncs c.args.app.now c.args.cells.now c.args.left c.args.listing (seen_spot c.args.spot) (trail_view c.args.trail.now) (trail_view c.push.new.self) c.args.entries.items c.in_ok-work.work.waiting.items c.args.items.items (there c.in_ok-work.work.olds.items)
-    c.in_ok-push.ensures.view (ap (λ v. v.items) c.in_ok-work.ensures.waiting) c.in_ok-work.ensures.olds
-    (λ n. all_items (map (seen_item_code n) c.in-Ok.items.items)) (λ n. seen_code n c.listed.result) c.args.vm.now c.sync_items.new.vm c.listed.ensures c.in-Ok.ensures.ok
+pub syncing::sync_list-returns-in_ok-end_sync-in-Ok-clause-ok : goal.syncing::sync_list-returns-in_ok-end_sync-in-Ok-clause-ok
+syncing::sync_list-returns-in_ok-end_sync-in-Ok-clause-ok t c =
+    let l = c.args.list.value in
+    let d : Begun = c.deref_mut.result.now in
+    let b : Begun = c.in_ok-begun.begun.value in
+    let is : b ≡ d = sym c.deref_mut.ensures.value in
+    let below : trail_view c.begin_sync.new.trail ≡ items ∷ trail_view c.args.trail.now = c.in_ok-begun.ensures.view in
+    let listing : d.listing ≡ l.listing = ap (λ (x : Begun). x.listing) (sym is) ∙ c.in_ok-begun.ensures.listing in
+    let spot : d.spot ≡ l.spot = ap (λ (x : Begun). x.spot) (sym is) ∙ c.in_ok-begun.ensures.spot in
+    let waits : d.work.waiting.items ≡ c.args.ready.value.entries.items = ap (λ (x : Begun). x.work.waiting.items) (sym is) ∙ ap (λ v. v.items) c.in_ok-begun.ensures.waiting in
+    let olds : there d.work.olds.items ≡ l.items.items = ap (λ (x : Begun). there x.work.olds.items) (sym is) ∙ c.in_ok-begun.ensures.olds in
+    let news = c.in-Ok.items.items in
+    let made : (n : Tables) → seen_code n c.in_ok-end_sync-in-Ok.field-0.value ≡ listed_code (seen_listing n l.listing) (seen_spot l.spot) (all_items (map (seen_item_code n) news)) =
+    λ n. c.in_ok-end_sync-in-Ok.ensures n ∙ ap₂ (λ (x : ListingCode) (y : Spot). listed_code (seen_listing n x) (seen_spot y) (all_items (map (seen_item_code n) news))) (c.in-Ok.ensures.listing ∙ listing) (c.in-Ok.ensures.spot ∙ spot) in
+    list_syncs c.args.app.now c.args.cells.now c.args.left l.listing (seen_spot l.spot) (trail_view c.args.trail.now) (trail_view c.begin_sync.new.trail) c.args.ready.value.entries.items d.work.waiting.items l.items.items (there d.work.olds.items)
+    below waits olds (λ n. all_items (map (seen_item_code n) news)) (λ n. seen_code n c.in_ok-end_sync-in-Ok.field-0.value) c.args.vm.now c.sync_items.new.vm made
+    (subst (λ (z : ListingCode). Renews c.args.app.now c.args.cells.now (SyncItems (λ n. seen_listing n z) c.args.left (trail_view c.begin_sync.new.trail) (seen_left d.work.waiting.items) (λ n. map (seen_item_code n) (there d.work.olds.items))) c.args.vm.now (λ n. all_items (map (seen_item_code n) news)) c.sync_items.new.vm) listing c.in-Ok.ensures.ok)
 
 pub syncing::sync_list-returns-in-Err-clause-fails : goal.syncing::sync_list-returns-in-Err-clause-fails
 syncing::sync_list-returns-in-Err-clause-fails t c =
-    list_sync_fails c.args.app.now c.args.cells.now c.args.left c.args.listing (seen_spot c.args.spot) (trail_view c.args.trail.now) (trail_view c.push.new.self) c.args.entries.items c.in_ok-work.work.waiting.items c.args.items.items (there c.in_ok-work.work.olds.items)
-    c.in_ok-push.ensures.view (ap (λ v. v.items) c.in_ok-work.ensures.waiting) c.in_ok-work.ensures.olds c.args.vm.now c.in-Err.fault c.in-Err.ensures.fails
+    let l = c.args.list.value in
+    let d : Begun = c.deref_mut.result.now in
+    let b : Begun = c.in_ok-begun.begun.value in
+    let is : b ≡ d = sym c.deref_mut.ensures.value in
+    let below : trail_view c.begin_sync.new.trail ≡ items ∷ trail_view c.args.trail.now = c.in_ok-begun.ensures.view in
+    let listing : d.listing ≡ l.listing = ap (λ (x : Begun). x.listing) (sym is) ∙ c.in_ok-begun.ensures.listing in
+    let spot : d.spot ≡ l.spot = ap (λ (x : Begun). x.spot) (sym is) ∙ c.in_ok-begun.ensures.spot in
+    let waits : d.work.waiting.items ≡ c.args.ready.value.entries.items = ap (λ (x : Begun). x.work.waiting.items) (sym is) ∙ ap (λ v. v.items) c.in_ok-begun.ensures.waiting in
+    let olds : there d.work.olds.items ≡ l.items.items = ap (λ (x : Begun). there x.work.olds.items) (sym is) ∙ c.in_ok-begun.ensures.olds in
+    subst (RenewFails {A = PlainCode} c.args.app.now c.args.cells.now (Syncs (λ n. seen_listing n l.listing) (seen_spot l.spot) c.args.left (trail_view c.args.trail.now) (seen_left c.args.ready.value.entries.items) (λ n. map (seen_item_code n) l.items.items)) c.args.vm.now) (sym c.lost_sync.ensures)
+    (list_sync_fails c.args.app.now c.args.cells.now c.args.left l.listing (seen_spot l.spot) (trail_view c.args.trail.now) (trail_view c.begin_sync.new.trail) c.args.ready.value.entries.items d.work.waiting.items l.items.items (there d.work.olds.items)
+    below waits olds c.args.vm.now c.in-Err.fault
+    (subst (λ (z : ListingCode). RenewFails {A = ItemCodes} c.args.app.now c.args.cells.now (SyncItems (λ n. seen_listing n z) c.args.left (trail_view c.begin_sync.new.trail) (seen_left d.work.waiting.items) (λ n. map (seen_item_code n) (there d.work.olds.items))) c.args.vm.now c.in-Err.fault) listing c.in-Err.ensures.fails))
+
+pub syncing::sync_list-returns-in_ok-end_sync-in-Ok-clause-moved : goal.syncing::sync_list-returns-in_ok-end_sync-in-Ok-clause-moved
+syncing::sync_list-returns-in_ok-end_sync-in-Ok-clause-moved t c =
+    let l = c.args.list.value in
+    let d : Begun = c.deref_mut.result.now in
+    let b : Begun = c.in_ok-begun.begun.value in
+    let is : b ≡ d = sym c.deref_mut.ensures.value in
+    let below : trail_view c.begin_sync.new.trail ≡ items ∷ trail_view c.args.trail.now = c.in_ok-begun.ensures.view in
+    let listing : d.listing ≡ l.listing = ap (λ (x : Begun). x.listing) (sym is) ∙ c.in_ok-begun.ensures.listing in
+    let spot : d.spot ≡ l.spot = ap (λ (x : Begun). x.spot) (sym is) ∙ c.in_ok-begun.ensures.spot in
+    let waits : d.work.waiting.items ≡ c.args.ready.value.entries.items = ap (λ (x : Begun). x.work.waiting.items) (sym is) ∙ ap (λ v. v.items) c.in_ok-begun.ensures.waiting in
+    let olds : there d.work.olds.items ≡ l.items.items = ap (λ (x : Begun). there x.work.olds.items) (sym is) ∙ c.in_ok-begun.ensures.olds in
+    let news = c.in-Ok.items.items in
+    let made : (n : Tables) → seen_code n c.in_ok-end_sync-in-Ok.field-0.value ≡ listed_code (seen_listing n l.listing) (seen_spot l.spot) (all_items (map (seen_item_code n) news)) =
+    λ n. c.in_ok-end_sync-in-Ok.ensures n ∙ ap₂ (λ (x : ListingCode) (y : Spot). listed_code (seen_listing n x) (seen_spot y) (all_items (map (seen_item_code n) news))) (c.in-Ok.ensures.listing ∙ listing) (c.in-Ok.ensures.spot ∙ spot) in
+    let ks = c.args.ready.value.keys in
+    list_moved c.args.moved.now c.sync_items.new.moved (λ n. seen_listing n l.listing) (seen_spot l.spot) d.work l.items.items news ks c.args.ready.value.entries.items (λ n. seen_code n c.in_ok-end_sync-in-Ok.field-0.value)
+    olds waits (subst (λ (x : Begun). x.work.keys ≡ map code_key l.items.items) is c.in_ok-begun.ensures.keys) (subst (λ (x : Begun). count_moves (reverse (seen_steps x.work.steps.items)) ≡ moves_between x.work.keys ks) is c.in_ok-begun.ensures.moves)
+    c.requires.keys c.in-Ok.ensures.moved c.in-Ok.ensures.keys made

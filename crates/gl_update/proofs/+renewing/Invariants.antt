@@ -2,6 +2,7 @@ use Rattle.std.proofs.Common.{◌≡◌, ℕ, ◌+◌, ◌-◌, ◌*◌, ◌^◌
 use Rattle.gl_vm.specs.View.{Calm}
 use Rattle.gl_update.specs.ListItems.{there}
 use Rattle.gl_update.specs.OldItems.{IsReady}
+use Rattle.gl_meaning.specs.View.{path_view}
 use Rattle.gl_update.specs.View.{trail_view}
 use Rattle.gl_update.proofs.Onward.{Onward}
 use Rattle.gl_update.proofs.SyncItems.{All, Left}
@@ -22,6 +23,15 @@ decreases-codes::renew_component l = 16 * (l.left * (2 ^ 64 + 1)) + 7
 
 abbrev pub decreases-codes::renew_element : goal.decreases-codes::renew_element
 decreases-codes::renew_element l = room l.left (length l.trail.now.path.steps) 1
+
+abbrev pub decreases-codes::renew_let : goal.decreases-codes::renew_let
+decreases-codes::renew_let l = room l.left (length l.trail.now.path.steps) 2
+
+abbrev pub decreases-codes::renew_else : goal.decreases-codes::renew_else
+decreases-codes::renew_else l = room l.left (length l.trail.now.path.steps) 2
+
+abbrev pub decreases-codes::renew_yield : goal.decreases-codes::renew_yield
+decreases-codes::renew_yield l = room l.left (length l.trail.now.path.steps) 2
 
 abbrev pub decreases-codes::renew_below : goal.decreases-codes::renew_below
 decreases-codes::renew_below l = room l.left (length l.trail.now.path.steps) 1
@@ -63,15 +73,18 @@ invariant-codes::renew_codes-loop-place l = record {
   moved : Walked l.fn.moved l.moved l.fn.codes.list.items l.code-items l.place;
 }
 
-abbrev pub invariant-syncing::sync_items-loop-entry : goal.invariant-syncing::sync_items-loop-entry
-invariant-syncing::sync_items-loop-entry l = record {
+abbrev pub invariant-syncing::sync_items-loop-done : goal.invariant-syncing::sync_items-loop-done
+invariant-syncing::sync_items-loop-done l = record {
   trail : l.trail ≡ l.fn.trail;
   calm : Calm l.vm;
-  ready : IsReady l.work;
-  onward : Onward l.app l.cells (All l.app l.cells l.left l.listing (trail_view l.fn.trail) l.fn.work.waiting.items (there l.fn.work.olds.items)) l.fn.vm
-      (Left l.app l.cells l.left l.listing (trail_view l.fn.trail) l.done.items l.work.waiting.items (there l.work.olds.items)) l.vm;
-  moved : Syncing l.fn.moved l.moved l.fn.work l.work l.done.items;
+  listing : l.begun.listing ≡ l.fn.begun.listing;
+  spot : l.begun.spot ≡ l.fn.begun.spot;
+  base : path_view l.begun.base ≡ trail_view l.trail;
+  ready : IsReady l.begun.work;
+  onward : Onward l.app l.cells (All l.app l.cells l.left l.fn.begun.listing (trail_view l.fn.trail) l.fn.begun.work.waiting.items (there l.fn.begun.work.olds.items)) l.fn.vm
+      (Left l.app l.cells l.left l.fn.begun.listing (trail_view l.fn.trail) l.done.items l.begun.work.waiting.items (there l.begun.work.olds.items)) l.vm;
+  moved : Syncing l.fn.moved l.moved l.fn.begun.work l.begun.work l.done.items;
 }
 
-abbrev pub decreases-syncing::sync_items-loop-entry : goal.decreases-syncing::sync_items-loop-entry
-decreases-syncing::sync_items-loop-entry l = vec_len l.work.waiting
+abbrev pub decreases-syncing::sync_items-loop-done : goal.decreases-syncing::sync_items-loop-done
+decreases-syncing::sync_items-loop-done l = vec_len l.begun.work.waiting

@@ -1,12 +1,14 @@
-use Rattle.std.proofs.Common.{refl}
+use Rattle.std.proofs.Common.{vec_len}
 use Rattle.gl_vm.specs.View.{Calm}
-use Rattle.gl_update.proofs.Spots.{Left}
-use Rattle.gl_session.specs.Laying.{touch_of, touch_all}
+use Rattle.gl_session.proofs.Laid.{LaidSoFar}
 use Rattle.gl_session.proofs.laying.lay.Given as goal
 
 -- what is left to do makes all of it
 abbrev pub invariant-loop-given : goal.invariant-loop-given
 invariant-loop-given l = record {
-  left : Left touch_all touch_of (λ st. refl) (λ y ys st. refl) l.givens l.fn.vm l.given-index l.vm;
+  left : LaidSoFar l.fn.givens.items l.fn.vm l.waiting.items l.vm;
   calm : Calm l.fn.vm → Calm l.vm;
 }
+
+abbrev pub decreases-loop-given : goal.decreases-loop-given
+decreases-loop-given l = vec_len l.waiting

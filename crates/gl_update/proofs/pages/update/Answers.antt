@@ -1,47 +1,5 @@
-use Rattle.std.proofs.Common.{rules, [], None, ◌≡◌, ◌-◌, suc, ◌∙◌, OnOk, IfErr, ap, sym, subst, arith}
-use Rattle.gl_meaning.specs.declared.manifest.Manifest.{Manifest}
-use Rattle.gl_plain.specs.Naming.{by_number}
-use Rattle.gl_machine.specs.Code.{Code as PlainCode, Codes as PlainCodes}
-use Rattle.gl_machine.specs.RenewCode.{renew_codes_as}
-use Rattle.gl_append.specs.CodeView.{seen_code, seen_codes, component_seen}
-use Rattle.gl_append.specs.declared.code.Code.{the_lemmas}
-use Rattle.gl_append.specs.declared.code.Codes.{Codes}
-use Rattle.gl_vm.specs.View.{Tables}
-use Rattle.gl_append.specs.View.{refs_made, seen_owner}
-use Rattle.gl_update.specs.Counted.{CodesMoved}
-use Rattle.gl_update.specs.View.{trail_view}
-use Rattle.gl_update.specs.Renewing.{Renews, RenewFails}
-use Rattle.gl_update.proofs.Arms.{root_is, page_renews, page_fails}
-use Rattle.gl_update.proofs.MovedCodes.{page_moved}
+use Rattle.std.proofs.Common.{refl}
 use Rattle.gl_update.proofs.pages.update.Goals as goal
 
-pub returns-in-Ok-clause-ok : goal.returns-in-Ok-clause-ok
-returns-in-Ok-clause-ok c =
-    let a = c.args.app.now in
-    let m = c.manifest.result.now.limit - 1 in
-    let one : c.manifest.result.now.limit ≡ suc m = (let ne = c.if-limit-eq0.false in omega (arith, ne)) in
-    let old = c.args.page.now.vm in
-    let new = c.renew_codes.new.vm in
-    page_renews a c.args.cells.now a.manifest.limit m (ap (λ (x : Manifest). x.limit) (sym c.manifest.ensures) ∙ one) c.in-Root.owner.value c.args.page.now.code _ c.in-Root.body c.renew_codes.new.codes (trail_view c.new-trail.result) old new c.new-trail.ensures
-    (λ n. ap (seen_code n) c.in-Root.is ∙ root_is n c.in-Root.owner c.in-Root.body) (λ n. search (rules, the_lemmas))
-    (subst (λ (b : Codes). Renews a c.args.cells.now (λ n run. renew_codes_as by_number run m (trail_view c.new-trail.result) 0 (seen_codes n b)) old (λ n. seen_codes n c.renew_codes.new.codes) new) c.in-Root.body-is c.in-Ok.ensures.ok)
-
-pub returns-in-Ok-clause-moved : goal.returns-in-Ok-clause-moved
-returns-in-Ok-clause-moved c =
-    let o = c.in-Root.owner in
-    let root : Tables → PlainCodes → PlainCode = λ n cs. component_seen (seen_owner n o.value) [] (refs_made o.value.cells) [] None cs in
-    let m = c.none-moved.result in
-    let m2 = c.renew_codes.new.moved in
-    page_moved m m2 c.args.page.now.code _ (λ n. root n (seen_codes n c.in-Root.body)) (λ n. root n (seen_codes n c.renew_codes.new.codes)) c.none-moved.ensures
-    (λ n. ap (seen_code n) c.in-Root.is ∙ root_is n o c.in-Root.body) (λ n. search (rules, the_lemmas))
-    (subst (λ (b : Codes). CodesMoved m m2 (λ n. seen_codes n b) (λ n. seen_codes n c.renew_codes.new.codes)) c.in-Root.body-is c.in-Ok.ensures.moved)
-
-pub returns-in-Root-clause-fails : goal.returns-in-Root-clause-fails
-returns-in-Root-clause-fails c =
-    let a = c.args.app.now in
-    let m = c.manifest.result.now.limit - 1 in
-    let one : c.manifest.result.now.limit ≡ suc m = (let ne = c.if-limit-eq0.false in omega (arith, ne)) in
-    let old = c.args.page.now.vm in
-    page_fails a c.args.cells.now a.manifest.limit m (ap (λ (x : Manifest). x.limit) (sym c.manifest.ensures) ∙ one) c.in-Root.owner.value c.args.page.now.code c.in-Root.body (trail_view c.new-trail.result) old c.in-Err.fault c.new-trail.ensures
-    (λ n. ap (seen_code n) c.in-Root.is ∙ root_is n c.in-Root.owner c.in-Root.body)
-    (subst (λ (b : Codes). RenewFails {A = PlainCodes} a c.args.cells.now (λ n run. renew_codes_as by_number run m (trail_view c.new-trail.result) 0 (seen_codes n b)) old c.in-Err.fault) c.in-Root.body-is c.in-Err.ensures.fails)
+pub returns-then-is_settled-clause-nodes : goal.returns-then-is_settled-clause-nodes
+returns-then-is_settled-clause-nodes c = c.if-is_settled.ensures.nodes refl

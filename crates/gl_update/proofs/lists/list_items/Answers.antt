@@ -12,7 +12,7 @@ use Rattle.gl_update.specs.View.{trail_view}
 use Rattle.gl_update.proofs.MovedCodes.{is_listed}
 use Rattle.gl_update.proofs.ListUpdates.{lists_fresh, lists_fresh_fails}
 use Rattle.gl_update.proofs.Renewing.{renews_as}
-use Rattle.gl_update.proofs.lists.list.Goals as goal
+use Rattle.gl_update.proofs.lists.list_items.Goals as goal
 
 pub returns-in-Ok-clause-ok : goal.returns-in-Ok-clause-ok
 returns-in-Ok-clause-ok c =
