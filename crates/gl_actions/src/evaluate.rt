@@ -33,7 +33,7 @@ fn action(frame: &Frame, name: &Text) -> Result<Value, AllocError>
     Ok(Value::Act(Act {
         owner: frame.number,
         name: name.copy()?,
-        fixed: List::new(frame.alloc),
+        fixed: List::new(frame.alloc)?,
     }))
 }
 

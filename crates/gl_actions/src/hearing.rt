@@ -12,7 +12,7 @@ ghost use Rattle.gl_actions.specs.Heard.{spots_in, spots_among, spots_of_items, 
 use gl_append::{Code, Codes, ItemCode, ModSpot};
 use gl_mods::{Acts, Installed};
 use gl_nodes::NodeId;
-use gl_value::{List, Value};
+use gl_value::Value;
 use gl_vm::Vm;
 use std::alloc::{AllocError, Global};
 
@@ -173,7 +173,7 @@ fn hear_code(heard: &Heard, code: &Code, acts: &mut Acts) -> Result<(), AllocErr
 pub fn heard_on(heard: &Heard, code: &Code) -> Result<Acts, AllocError>
     ensures { IfOk result (λ acts. (n : _) → acts ≡ called_of heard.now.vm.now.mods (chars heard.now.event.now) (spots_in heard.now.number (live_of (seen_code n code.now)))) }
 {
-    let mut acts = List::new(heard.alloc);
+    let mut acts = Acts::new(heard.alloc);
     hear_code(heard, code, &mut acts)?;
     Ok(acts)
 }

@@ -41,7 +41,7 @@ pub use branches::{chosen, side, takes};
 pub use cells::Cells;
 pub use code::{AttrSpot, Choice, Code, Codes, ItemCode, ItemSpot, Listing, ModSpot, Spot};
 pub use comments::comment_for;
-pub use entries::{counted, items_of};
+pub use entries::{counted, items_of, keyed_items_of};
 pub use fault::VmFault;
 pub use items::{item_params, item_sight};
 pub use kept::position;

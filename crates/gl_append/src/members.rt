@@ -51,7 +51,7 @@ impl Machine {
         }
         let owner = vm.instances.stamp(id);
         let name = name.copy()?;
-        let fixed = List::new(self.alloc);
+        let fixed = List::new(self.alloc)?;
         self.push_constant(vm, Value::Act(Act { owner, name, fixed }))
     }
 }

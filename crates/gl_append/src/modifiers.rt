@@ -15,7 +15,7 @@ use crate::machine::Waiting;
 use crate::values::value_of;
 use gl_nodes::NodeId;
 use gl_refs::{Ids, NamedIds, RefId};
-use gl_value::{List, NamedValues, Text, Texts};
+use gl_value::{List, ListBuilder, NamedValues, Text, Texts};
 use gl_vm::Vm;
 use std::alloc::{AllocError, Global};
 
@@ -44,15 +44,22 @@ fn names_in(alloc: Global, named: &[(Text, RefId)]) -> Result<Texts, AllocError>
     Ok(names)
 }
 
-/// What references give, in order.
-pub fn values_of(alloc: Global, vm: &Vm, ids: &[RefId]) -> Result<List, AllocError>
+// What references give, in order.
+fn values_got(alloc: Global, vm: &Vm, ids: &[RefId]) -> Result<ListBuilder, AllocError>
     ensures { IfOk result (λ v. (n : _) (touched : _) → all_labelled v ≡ map (λ r. (pair_of (state_of n vm.now touched).look r).value) (stamps ids.now)) }
 {
-    let mut values = List::new(alloc);
+    let mut values = ListBuilder::new(alloc);
     for id in ids {
         values.push(value_of(vm, *id)?)?;
     }
     Ok(values)
+}
+
+/// What references give, in order.
+pub fn values_of(alloc: Global, vm: &Vm, ids: &[RefId]) -> Result<List, AllocError>
+    ensures { IfOk result (λ v. (n : _) (touched : _) → all_labelled v ≡ map (λ r. (pair_of (state_of n vm.now touched).look r).value) (stamps ids.now)) }
+{
+    Ok(values_got(alloc, vm, ids)?.build()?)
 }
 
 /// What references give, with their names.

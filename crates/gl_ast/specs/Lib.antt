@@ -13,6 +13,7 @@ pub mod Spans
 pub mod StmtCode
 pub mod StmtFalls
 pub mod Template
+pub mod TokenCode
 pub mod TokenReading
 pub mod TokenText
 pub mod Tokens

@@ -2,7 +2,7 @@
 ghost use Rattle.std.specs.Prelude.{◌≡◌, ◌↔◌, [], ◌∷◌, ◌++◌, IsTrue, OnOk, OnErr, length, option_map, slice_get};
 ghost use Rattle.gl_ast.specs.View.{argument_view, seen_args};
 
-use crate::{Args, Argument};
+use crate::{Args, Argument, push_tight};
 use std::alloc::{AllocError, Global};
 
 impl Args {
@@ -59,7 +59,6 @@ impl Args {
         ensures ok { OnOk result (self.new ≡ self.old ++ argument_view item ∷ []) }
         ensures err { OnErr result (self.new ≡ self.old) }
     {
-        self.list.push(item)?;
-        Ok(())
+        push_tight(&mut self.list, item)
     }
 }

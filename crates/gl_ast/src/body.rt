@@ -2,7 +2,7 @@
 ghost use Rattle.std.specs.Prelude.{◌≡◌, ◌↔◌, [], ◌∷◌, ◌++◌, IsTrue, OnOk, OnErr, length, option_map, slice_get};
 ghost use Rattle.gl_ast.specs.View.{stmt_view, seen_stmts};
 
-use crate::{Body, Stmt};
+use crate::{Body, Stmt, push_tight};
 use std::alloc::{AllocError, Global};
 
 impl Body {
@@ -59,7 +59,6 @@ impl Body {
         ensures ok { OnOk result (self.new ≡ self.old ++ stmt_view item ∷ []) }
         ensures err { OnErr result (self.new ≡ self.old) }
     {
-        self.list.push(item)?;
-        Ok(())
+        push_tight(&mut self.list, item)
     }
 }

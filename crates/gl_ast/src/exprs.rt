@@ -2,7 +2,7 @@
 ghost use Rattle.std.specs.Prelude.{◌≡◌, ◌↔◌, [], ◌∷◌, ◌++◌, IsTrue, OnOk, OnErr, length, option_map, slice_get};
 ghost use Rattle.gl_ast.specs.View.{expr_view, seen_exprs};
 
-use crate::{Expr, Exprs};
+use crate::{Expr, Exprs, push_tight};
 use std::alloc::{AllocError, Global};
 
 impl Exprs {
@@ -59,7 +59,6 @@ impl Exprs {
         ensures ok { OnOk result (self.new ≡ self.old ++ expr_view item ∷ []) }
         ensures err { OnErr result (self.new ≡ self.old) }
     {
-        self.list.push(item)?;
-        Ok(())
+        push_tight(&mut self.list, item)
     }
 }

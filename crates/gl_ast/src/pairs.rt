@@ -2,7 +2,7 @@
 ghost use Rattle.std.specs.Prelude.{◌≡◌, ◌↔◌, [], ◌∷◌, ◌++◌, IsTrue, OnOk, OnErr, length, option_map, slice_get};
 ghost use Rattle.gl_ast.specs.View.{named_view, seen_pairs};
 
-use crate::{NamedExpr, Pairs};
+use crate::{NamedExpr, Pairs, push_tight};
 use std::alloc::{AllocError, Global};
 
 impl Pairs {
@@ -59,7 +59,6 @@ impl Pairs {
         ensures ok { OnOk result (self.new ≡ self.old ++ named_view item ∷ []) }
         ensures err { OnErr result (self.new ≡ self.old) }
     {
-        self.list.push(item)?;
-        Ok(())
+        push_tight(&mut self.list, item)
     }
 }

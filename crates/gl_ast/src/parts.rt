@@ -2,7 +2,7 @@
 ghost use Rattle.std.specs.Prelude.{◌≡◌, ◌↔◌, [], ◌∷◌, ◌++◌, IsTrue, OnOk, OnErr, length, option_map, slice_get};
 ghost use Rattle.gl_ast.specs.View.{part_view, seen_parts};
 
-use crate::{Part, Parts};
+use crate::{Part, Parts, push_tight};
 use std::alloc::{AllocError, Global};
 
 impl Parts {
@@ -59,7 +59,6 @@ impl Parts {
         ensures ok { OnOk result (self.new ≡ self.old ++ part_view item ∷ []) }
         ensures err { OnErr result (self.new ≡ self.old) }
     {
-        self.list.push(item)?;
-        Ok(())
+        push_tight(&mut self.list, item)
     }
 }

@@ -2,7 +2,7 @@
 ghost use Rattle.std.specs.Prelude.{◌≡◌, ◌↔◌, [], ◌∷◌, ◌++◌, IsTrue, OnOk, OnErr, length, option_map, slice_get};
 ghost use Rattle.gl_ast.specs.View.{slot_view, seen_slots};
 
-use crate::{Slot, Slots};
+use crate::{Slot, Slots, push_tight};
 use std::alloc::{AllocError, Global};
 
 impl Slots {
@@ -59,7 +59,6 @@ impl Slots {
         ensures ok { OnOk result (self.new ≡ self.old ++ slot_view item ∷ []) }
         ensures err { OnErr result (self.new ≡ self.old) }
     {
-        self.list.push(item)?;
-        Ok(())
+        push_tight(&mut self.list, item)
     }
 }

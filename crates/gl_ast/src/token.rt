@@ -1,7 +1,7 @@
 // Tokens of a template.
 ghost use Rattle.std.specs.Prelude.{◌≡◌, [], ◌∷◌, ◌++◌, OnOk, OnErr, length, slice_get, option_map};
 
-use crate::Str;
+use crate::Slice;
 use std::alloc::{AllocError, Global};
 use std::marker::Model;
 
@@ -60,37 +60,37 @@ pub enum TokenKind {
 }
 
 /// A token: what it is, the places of its first byte and of the one after its last, counted from 0, and its text,
-/// which is the slice of the template between them.
+/// which is the slice of the template between them, or what of it is not removed.
 #[derive(Debug, Drop)]
-pub struct Token {
+pub struct Token<'a> {
     pub kind: TokenKind,
     pub start: u64,
     pub end: u64,
-    pub text: Str,
+    pub text: Slice<'a>,
 }
 
 /// A list of tokens.
 #[derive(Debug, Drop)]
-pub struct Tokens {
-    list: Vec<Token>,
+pub struct Tokens<'a> {
+    list: Vec<Token<'a>>,
 }
 
-impl Model for Tokens {
+impl<'a> Model for Tokens<'a> {
     ghost use Rattle.std.specs.Prelude.{List};
     ghost use Rattle.gl_ast.specs.declared.token.Token.{Token};
-    ghost use Rattle.gl_ast.specs.contracts.token.Token as e;
-    ghost use Rattle.std.specs.Coded.{codes};
+    ghost use Rattle.std.specs.Coded.{coded_list};
+    ghost use Rattle.gl_ast.specs.TokenCode.{token_code};
 
     ghost Value = { List Token };
 
-    ghost coded = { Prim.hlevel (codes, e.the_row.coded) };
+    ghost coded = { coded_list token_code };
 
     ghost view = { λ t. t.list.items };
 }
 
-impl Tokens {
+impl<'a> Tokens<'a> {
     /// The empty list. It takes no memory.
-    pub fn new(alloc: Global) -> Tokens
+    pub fn new(alloc: Global) -> Tokens<'a>
         ensures { result ≡ [] }
     {
         Tokens {
@@ -99,20 +99,20 @@ impl Tokens {
     }
 
     /// The list of the tokens of a vector. It takes no memory.
-    pub fn from_vec(list: Vec<Token>) -> Tokens
-        ensures { result ≡ list.items }
+    pub fn from_vec(list: Vec<Token<'a>>) -> Tokens<'a>
+        ensures { result ≡ list.entry.items }
     {
         Tokens { list }
     }
 
     /// Gives the vector back. It takes no memory.
-    pub fn into_vec(self) -> Vec<Token>
-        ensures { result.items ≡ self }
+    pub fn into_vec(self) -> Vec<Token<'a>>
+        ensures { result.items ≡ self.entry }
     {
         self.list
     }
 
-    pub fn as_slice(&self) -> &[Token]
+    pub fn as_slice(&self) -> &[Token<'a>]
         ensures { result.now ≡ self.now }
     {
         self.list.as_slice()
@@ -125,8 +125,8 @@ impl Tokens {
     }
 
     /// Adds a token at the end.
-    pub fn push(&mut self, token: Token) -> Result<(), AllocError>
-        ensures ok { OnOk result (self.new ≡ self.old ++ token ∷ []) }
+    pub fn push(&mut self, token: Token<'a>) -> Result<(), AllocError>
+        ensures ok { OnOk result (self.new ≡ self.old ++ token.entry ∷ []) }
         ensures err { OnErr result (self.new ≡ self.old) }
     {
         self.list.push(token)?;

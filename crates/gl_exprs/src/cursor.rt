@@ -9,24 +9,24 @@ ghost use Rattle.gl_exprs.specs.Fault.{Fails};
 ghost use Rattle.gl_exprs.specs.Take.{same_kind, stands, take_kind, stands_word, take_word};
 
 use crate::Misread;
-use gl_ast::{Str, Token, TokenKind};
+use gl_ast::{Slice, Token, TokenKind};
 use std::marker::Model;
 
 /// The tokens that are left to read. Contracts see their list.
 #[derive(Drop)]
 pub struct Cursor<'a> {
-    rest: &'a [Token],
+    rest: &'a [Token<'a>],
 }
 
 impl<'a> Model for Cursor<'a> {
     ghost use Rattle.std.specs.Prelude.{List};
     ghost use Rattle.gl_ast.specs.declared.token.Token.{Token};
-    ghost use Rattle.gl_ast.specs.contracts.token.Token as e;
-    ghost use Rattle.std.specs.Coded.{codes};
+    ghost use Rattle.std.specs.Coded.{coded_list};
+    ghost use Rattle.gl_ast.specs.TokenCode.{token_code};
 
     ghost Value = { List Token };
 
-    ghost coded = { Prim.hlevel (codes, e.the_row.coded) };
+    ghost coded = { coded_list token_code };
 
     ghost view = { λ c. c.rest.now };
 }
@@ -49,7 +49,7 @@ fn is_word(token: &Token, word: &str) -> bool
 
 impl<'a> Cursor<'a> {
     /// A cursor before these tokens.
-    pub fn new(list: &'a [Token]) -> Cursor<'a>
+    pub fn new(list: &'a [Token<'a>]) -> Cursor<'a>
         ensures { result ≡ list.now }
     {
         Cursor { rest: list }
@@ -92,7 +92,7 @@ impl<'a> Cursor<'a> {
 
     /// Takes the next token, which is of this kind, and gives its text.
     #[tactic(auto, unfolding(crate::specs::Take::take_kind))]
-    pub fn take(&mut self, kind: TokenKind) -> Result<&'a Str, Misread>
+    pub fn take(&mut self, kind: TokenKind) -> Result<&'a Slice<'a>, Misread>
         ensures { Gives Fails (λ t. (t.now, self.new)) result (take_kind kind self.old) }
     {
         match self.rest {
@@ -132,7 +132,7 @@ impl<'a> Cursor<'a> {
     }
 
     /// The next token, if there is one.
-    pub fn first(&self) -> Option<&'a Token>
+    pub fn first(&self) -> Option<&'a Token<'a>>
         ensures { option_copied result ≡ slice_get self.now 0 }
     {
         self.rest.first()

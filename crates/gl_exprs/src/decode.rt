@@ -9,7 +9,7 @@ ghost use Rattle.gl_exprs.specs.Referring.{digit_in, code_in, IsReference};
 
 use crate::scan::Scan;
 use crate::words::is_end;
-use gl_ast::Str;
+use gl_ast::{Slice, Str};
 use std::alloc::{AllocError, Global};
 
 // The greatest code point.
@@ -148,7 +148,7 @@ fn reference(scan: &mut Scan) -> char
 
 /// The text with its character references decoded, once.
 #[tactic(auto, unfolding(gl_ast::specs::TokenText::decoded))]
-pub fn decoded(alloc: Global, raw: &Str) -> Result<Str, AllocError>
+pub fn decoded(alloc: Global, raw: &Slice) -> Result<Str, AllocError>
     ensures { IfOk result (λ t. t ≡ text.decoded raw.now) }
 {
     let mut out = Str::new(alloc);

@@ -15,7 +15,7 @@ ghost use Rattle.gl_exprs.specs.ReadExpr as read;
 use crate::Misread;
 use crate::cursor::Cursor;
 use crate::scan::Scan;
-use gl_ast::{Str, Token, TokenKind};
+use gl_ast::{Slice, Str, TokenKind};
 use std::alloc::Global;
 
 const RESERVED: [&str; 7] = [
@@ -36,7 +36,7 @@ fn has_bytes(words: &[&str], name: &str) -> bool
 }
 
 // Whether the name is one of the words, which are ASCII.
-fn is_one_of(words: &[&str], name: &Str) -> bool
+fn is_one_of(words: &[&str], name: &Slice) -> bool
     requires { IsTrue (ascii_words words.now) }
     ensures { result ≡ has_text name.now (map (λ word. word.now) words.now) }
 {
@@ -44,14 +44,14 @@ fn is_one_of(words: &[&str], name: &Str) -> bool
 }
 
 // Whether no block has the name.
-fn is_barred(name: &Str) -> bool
+fn is_barred(name: &Slice) -> bool
     ensures { result ≡ has_text name.now barred }
 {
     is_one_of(&["inverse"], name) || is_reserved(name)
 }
 
 // Whether the name is reserved.
-pub(crate) fn is_reserved(name: &Str) -> bool
+pub(crate) fn is_reserved(name: &Slice) -> bool
     ensures { result ≡ has_text name.now reserved }
 {
     is_one_of(&RESERVED, name)
@@ -59,7 +59,7 @@ pub(crate) fn is_reserved(name: &Str) -> bool
 
 /// Whether the name is this word of ASCII.
 #[tactic(auto, using(gl_base::proofs::Chars::chars_of_ascii))]
-pub fn is_text(name: &Str, word: &str) -> bool
+pub fn is_text(name: &Slice, word: &str) -> bool
     requires { IsTrue (is_ascii_text word.now) }
     ensures { result ≡ bytes_eq word.now name.now }
 {
@@ -93,7 +93,7 @@ fn all_in_name(scan: &mut Scan) -> bool
 }
 
 // Whether the text is a name.
-fn is_name(name: &Str) -> bool
+fn is_name(name: &Slice) -> bool
     ensures { result ≡ text.is_name name.now }
 {
     let mut scan = Scan::new(name);
@@ -104,14 +104,14 @@ fn is_name(name: &Str) -> bool
 }
 
 /// Whether the text is the name of a block: a name that is neither reserved nor `inverse`.
-pub fn is_block_name(name: &Str) -> bool
+pub fn is_block_name(name: &Slice) -> bool
     ensures { result ≡ text.is_block_name name.now }
 {
     is_name(name) && !is_barred(name)
 }
 
 // Whether a dot stands in the text.
-fn has_dot(raw: &Str) -> bool
+fn has_dot(raw: &Slice) -> bool
     ensures { result ≡ text.has_char 46 raw.now }
 {
     let mut scan = Scan::new(raw);
@@ -124,7 +124,7 @@ fn has_dot(raw: &Str) -> bool
 }
 
 /// Whether an `@` begins the name.
-pub fn is_argument(name: &Str) -> bool
+pub fn is_argument(name: &Slice) -> bool
     ensures { result ≡ text.leads (λ c. c == 64) name.now }
 {
     let mut scan = Scan::new(name);
@@ -135,7 +135,7 @@ pub fn is_argument(name: &Str) -> bool
 }
 
 /// Whether a path is one name that is not reserved.
-pub fn is_lone(raw: &Str) -> bool
+pub fn is_lone(raw: &Slice) -> bool
     ensures { result ≡ read.is_lone raw.now }
 {
     !has_dot(raw) && !is_argument(raw) && !is_reserved(raw)
@@ -161,5 +161,5 @@ pub fn name(alloc: Global, tokens: &mut Cursor) -> Result<Str, Misread>
     if !is_lone(raw) {
         return Err(Misread::NotSpelled);
     }
-    Ok(raw.copy()?)
+    Ok(raw.copy(alloc)?)
 }

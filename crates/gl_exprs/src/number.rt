@@ -4,7 +4,7 @@ ghost use Rattle.gl_ast.specs.TokenText as text;
 ghost use Rattle.gl_exprs.specs.Pieces.{natural_of};
 
 use crate::scan::Scan;
-use gl_ast::Str;
+use gl_ast::Slice;
 
 // The greatest whole number of a template.
 const GREATEST: u64 = 9007199254740991;
@@ -25,7 +25,7 @@ fn natural_of(scan: &mut Scan) -> Option<u64>
 }
 
 /// The integer of a number, where it is not too large.
-pub fn whole_of(raw: &Str) -> Option<i64>
+pub fn whole_of(raw: &Slice) -> Option<i64>
     ensures { result ≡ text.whole_of raw.now }
 {
     let mut scan = Scan::new(raw);

@@ -12,12 +12,12 @@ use crate::name::{is_argument, is_reserved, is_text};
 use crate::number::whole_of;
 use crate::path::{Path, names_of};
 use crate::words::{string_of, without_first};
-use gl_ast::{Expr, Lit, Names, Str, Token, TokenKind};
+use gl_ast::{Expr, Lit, Names, Slice, Token, TokenKind};
 use std::alloc::{AllocError, Global};
 
 // The constant that a word stands for.
 #[tactic(auto, unfolding(crate::specs::ReadExpr::constant_of))]
-fn constant_of(name: &Str) -> Option<Lit>
+fn constant_of(name: &Slice) -> Option<Lit>
     ensures { option_map lit_view result ≡ read.constant_of name.now }
 {
     if is_text(name, "true") {
@@ -42,6 +42,7 @@ fn this_path(rest: Names) -> Result<Expr, Misread>
         return Err(Misread::NotSpelled);
     }
     let member = list.remove(0);
+    list.shrink_to_fit();
     Ok(Expr::This {
         member,
         rest: Names::from_vec(list),
@@ -49,7 +50,7 @@ fn this_path(rest: Names) -> Result<Expr, Misread>
 }
 
 // The constant of a word that no names follow.
-fn constant_path(name: &Str, rest: &Names) -> Result<Expr, Misread>
+fn constant_path(name: &Slice, rest: &Names) -> Result<Expr, Misread>
     ensures { Gives Fails expr_view result (read.constant_path name.now rest.now) }
 {
     if rest.len() != 0 {
@@ -67,17 +68,18 @@ fn path_expr(alloc: Global, path: Path) -> Result<Expr, Misread>
     ensures { Gives Fails expr_view result (read.path_expr (path.head ∷ path.rest)) }
 {
     let Path { head, rest } = path;
-    if is_argument(&head) {
+    let name = Slice::of(&head);
+    if is_argument(&name) {
         return Ok(Expr::Arg {
-            name: without_first(alloc, &head)?,
+            name: without_first(alloc, &name)?,
             rest,
         });
     }
-    if is_text(&head, "this") {
+    if is_text(&name, "this") {
         return this_path(rest);
     }
-    if is_reserved(&head) {
-        return constant_path(&head, &rest);
+    if is_reserved(&name) {
+        return constant_path(&name, &rest);
     }
     Ok(Expr::Bare { name: head, rest })
 }

@@ -5,7 +5,7 @@ ghost use Rattle.gl_value.specs.Value.{split};
 ghost use Rattle.gl_exprs.specs.Pieces.{after_dot};
 
 use crate::scan::Scan;
-use gl_ast::{Names, Str};
+use gl_ast::{Names, Slice, Str};
 use std::alloc::{AllocError, Global};
 
 /// The names of a path: the first, and those after a dot.
@@ -32,8 +32,17 @@ fn segment<'a>(alloc: Global, scan: &mut Scan<'a>) -> Result<Str, AllocError>
     Ok(out)
 }
 
+// The names, with no room to spare.
+fn without_room(names: Names) -> Names
+    ensures { result ≡ names }
+{
+    let mut list = names.into_vec();
+    list.shrink_to_fit();
+    Names::from_vec(list)
+}
+
 /// The names of a path.
-pub fn names_of(alloc: Global, raw: &Str) -> Result<Path, AllocError>
+pub fn names_of(alloc: Global, raw: &Slice) -> Result<Path, AllocError>
     ensures { IfOk result (λ p. p.head ∷ p.rest ≡ text.names_of raw.now) }
 {
     let mut scan = Scan::new(raw);
@@ -42,5 +51,8 @@ pub fn names_of(alloc: Global, raw: &Str) -> Result<Path, AllocError>
     while let Some(_) = scan.next() {
         rest.push(segment(alloc, &mut scan)?)?;
     }
-    Ok(Path { head, rest })
+    Ok(Path {
+        head,
+        rest: without_room(rest),
+    })
 }

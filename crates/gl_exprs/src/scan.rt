@@ -5,7 +5,7 @@ ghost use Rattle.std.specs.Str.{chars};
 ghost use Rattle.gl_ast.specs.Scans.{after_all};
 ghost use Rattle.gl_exprs.specs.Referring.{in_reference, run};
 
-use gl_ast::Str;
+use gl_ast::Slice;
 use std::marker::Model;
 
 /// The characters of a text that are left to read. Contracts see their list.
@@ -44,7 +44,7 @@ fn run_len(bytes: &[u8]) -> usize
 #[tactic(auto, using(gl_base::proofs::Chars::char_laws))]
 impl<'a> Scan<'a> {
     /// Before all characters of a text.
-    pub fn new(text: &'a Str) -> Scan<'a>
+    pub fn new(text: &Slice<'a>) -> Scan<'a>
         ensures { result ≡ text.now }
     {
         Scan {

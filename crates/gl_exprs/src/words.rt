@@ -7,7 +7,7 @@ ghost use Rattle.gl_ast.specs.TokenText as text;
 ghost use Rattle.gl_exprs.specs.Pieces.{is_none_left, is_kept, front, some_word};
 
 use crate::scan::Scan;
-use gl_ast::{Names, Str};
+use gl_ast::{Names, Slice, Str};
 use std::alloc::{AllocError, Global};
 
 // White space: blank, tab, line feed, form feed and carriage return.
@@ -34,7 +34,7 @@ fn skip_two(scan: &mut Scan)
 }
 
 /// The text without its first character.
-pub fn without_first(alloc: Global, raw: &Str) -> Result<Str, AllocError>
+pub fn without_first(alloc: Global, raw: &Slice) -> Result<Str, AllocError>
     ensures { IfOk result (λ t. t ≡ drop 1 raw.now) }
 {
     let mut scan = Scan::new(raw);
@@ -73,7 +73,7 @@ fn push_unescaped(out: &mut Str, scan: &mut Scan, quote: char) -> Result<(), All
 }
 
 /// The text that a string stands for: what is between its quotes, where a `\` directly before such a quote is left out.
-pub fn string_of(alloc: Global, raw: &Str) -> Result<Str, AllocError>
+pub fn string_of(alloc: Global, raw: &Slice) -> Result<Str, AllocError>
     ensures { IfOk result (λ t. t ≡ text.string_of raw.now) }
 {
     let mut out = Str::new(alloc);
@@ -97,7 +97,7 @@ fn push_first(out: &mut Str, scan: &mut Scan, count: usize) -> Result<(), AllocE
 }
 
 /// The text of a comment, which stands between `<!--` and `-->`.
-pub fn comment_of(alloc: Global, raw: &Str) -> Result<Str, AllocError>
+pub fn comment_of(alloc: Global, raw: &Slice) -> Result<Str, AllocError>
     ensures { IfOk result (λ t. t ≡ text.comment_of raw.now) }
 {
     let mut out = Str::new(alloc);
@@ -117,7 +117,7 @@ fn ends_tag_name(c: char) -> bool
 }
 
 /// Whether the text of an end tag has the name that these characters are.
-pub fn is_end_of(tag: &Str, name: &Scan) -> bool
+pub fn is_end_of(tag: &Slice, name: &Scan) -> bool
     ensures { result ≡ bytes_eq (text.end_name_of tag.now) name.now }
 {
     let mut rest = Scan::new(tag);
@@ -179,7 +179,7 @@ fn words_to_bar(alloc: Global, scan: &mut Scan) -> Result<Names, AllocError>
 }
 
 /// The names of parameters, which stand between two bars with white space between them.
-pub fn parameters_of(alloc: Global, raw: &Str) -> Result<Names, AllocError>
+pub fn parameters_of(alloc: Global, raw: &Slice) -> Result<Names, AllocError>
     ensures { IfOk result (λ ns. ns ≡ text.parameters_of raw.now) }
 {
     let mut scan = Scan::new(raw);

@@ -1,7 +1,9 @@
 -- The text is the lines of what goes.
 use Rattle.std.proofs.Common.{◌≡◌, ℕ, List, [], ◌∷◌, ◌++◌, Bool, true, false, cond, Option, Some, None, refl, sym, ap, ap₂, ◌∙◌, subst, inl, inr}
-use Rattle.std.specs.Prelude.{map, filter, flat_map, not, option_map, codes, decimal, unwrap_or}
+use Rattle.std.specs.Prelude.{map, filter, flat_map, not, is_some, option_map, codes, decimal, unwrap_or}
+use Rattle.std.specs.List.{list_all}
 use Rattle.std.specs.Str.{bytes_eq}
+use Rattle.std.proofs.lemmas.Bool.{and_parts}
 use Rattle.std.proofs.lemmas.List.{append_assoc}
 use Rattle.gl_base.specs.Texts.{Text}
 use Rattle.gl_ast.specs.Template.{Body}
@@ -14,21 +16,24 @@ use Rattle.gl_meaning.specs.Print.{line}
 use Rattle.gl_meaning.specs.Scope.{Source}
 use Rattle.gl_meaning.specs.View.{path_view, manifest_view}
 use Rattle.gl_lines.specs.Lines.{told, told_with, modifier_line}
+use Rattle.gl_arena.specs.Id.{Id as Ident}
+use Rattle.gl_arena.specs.Arena.{Arena, named, by_stamp}
+use Rattle.gl_arena.proofs.Stamps.{at_stamp-there}
 use Rattle.gl_mods.specs.Mods as m
 use Rattle.gl_opc.specs.declared.app.App.{App}
 use Rattle.gl_plain.specs.Ids.{Id, instance_id}
-use Rattle.gl_plain.specs.State.{modifier_row}
+use Rattle.gl_plain.specs.State.{instance_row, modifier_row}
 use Rattle.gl_machine.specs.Code.{live_of}
 use Rattle.gl_machine.specs.Gone.{Gone, has_id, gone, modifier_gone, gone_line}
-use Rattle.gl_vm.specs.View.{Tables, seen_modifier, state_of}
+use Rattle.gl_vm.specs.View.{Tables, seen_instance, seen_modifier, state_of}
 use Rattle.gl_vm.specs.declared.vm.Vm.{Vm}
 use Rattle.gl_append.specs.CodeView.{seen_code}
 use Rattle.gl_append.specs.Stepping.{env_of}
 use Rattle.gl_append.specs.Tables.{tables_of}
 use Rattle.gl_append.specs.declared.page.Page.{Page}
-use Rattle.gl_gone.specs.View.{seen_ending, all_seen, line_of, IsKept, AllKept, Lists}
+use Rattle.gl_gone.specs.View.{seen_ending, all_seen, line_of, IsKept, AllKept, Lists, is_live}
 use Rattle.gl_gone.specs.Lines.{entry_named, entry_at, class_line, ending_line}
-use Rattle.gl_gone.specs.Logs.{id_of, stands_in, destroyed_text, gone_id, TellsWhatStays, Logs}
+use Rattle.gl_gone.specs.Logs.{id_of, stands_in, destroyed_text, gone_id, TellsWhatStays, stays_on, keeps, Logs}
 use Rattle.gl_gone.specs.declared.endings.Ending.{Ending}
 use Rattle.gl_gone.specs.declared.endings.Ending.TheVariants as ending
 use Rattle.gl_gone.proofs.Going.{goes, goes_of, stays_told, tells_gone}
@@ -36,8 +41,8 @@ use Rattle.gl_gone.proofs.Going.{goes, goes_of, stays_told, tells_gone}
 -- Ids
 
 seen_id : (n : Tables) (vm : Vm) (x : Ending) → IsKept vm x → gone_id (seen_ending n x) ≡ id_of x
-seen_id n vm (ending.Modifier k node name) h = refl
-seen_id n vm (ending.Instance k o) h = ap instance_id h
+seen_id n vm (ending.Modifier i k node name) h = refl
+seen_id n vm (ending.Instance i k o) h = ap instance_id h.1
 
 seen_ids : (n : Tables) (vm : Vm) (xs : List Ending) → AllKept vm xs → map gone_id (all_seen n xs) ≡ map id_of xs
 seen_ids n vm [] h = refl
@@ -94,8 +99,8 @@ module _ (a : App) (templates : List Body) (vm : Vm) (touched : Source → Bool)
   Line g = gone_line (env_of a templates).app (state_of N vm touched).look (λ k. k) g
 
   line_told : (x : Ending) → IsKept vm x → ending_line M x ≡ Line (seen_ending N x)
-  line_told (ending.Modifier k node name) h = modifier_told N _ (node, name) h
-  line_told (ending.Instance k o) h = instance_told M templates (path_view o.value.path)
+  line_told (ending.Modifier i k node name) h = modifier_told N _ (node, name) h.1
+  line_told (ending.Instance i k o) h = instance_told M templates (path_view o.value.path)
 
   one_told : (b c : Bool) (x : Ending) (xs : List Ending) (gs : List Gone) → b ≡ c → IsKept vm x → flat_map (ending_line M) xs ≡ flat_map Line gs
       → flat_map (ending_line M) (cond (not b) (x ∷ xs) xs) ≡ flat_map Line (cond (not c) (seen_ending N x ∷ gs) gs)
@@ -122,5 +127,40 @@ module _ (a : App) (templates : List Body) (vm : Vm) (touched : Source → Bool)
       ∙ (sym (stays_told l' g) ∙ sym (tells_gone lives l l' tells g (subst (Among g) (h.list N) m))))
       ∙ ap (flat_map Line) (ap (filter (goes lives)) (h.list N) ∙ sym (goes_of lives l))
 
-pub text_logs : (a : App) (before after : List Ending) → Logs a before after (destroyed_text (manifest_view a.manifest) before after)
-text_logs a before after old new h k templates touched lives tells = page_told a templates old.vm touched old new before after lives refl h k tells
+-- What lives by its id is kept.
+
+is_mapped : {A B : Type 0} (f : A → B) (o : Option A) → is_some (option_map f o) ≡ is_some o
+is_mapped f None = refl
+is_mapped f (Some x) = refl
+
+stamp_there : {T : Type 0} (a : Arena T) (i : Ident) (k : ℕ) → i.1 ≡ k → is_some (named a i) ≡ true → is_some (by_stamp a k) ≡ true
+stamp_there a i k e h = subst (λ s. is_some (by_stamp a s) ≡ true) e (at_stamp-there i.1 a.slots i.0 h)
+
+kept_there : (n : Tables) (touched : Source → Bool) (old new : Vm) (x : Ending) → IsKept old x → is_live new x ≡ true → is_some ((state_of n new touched).look (gone_id (seen_ending n x))) ≡ true
+kept_there n touched old new (ending.Modifier i k node name) h live =
+    let o = by_stamp new.mods.table k in
+    is_mapped modifier_row (option_map (seen_modifier n) o) ∙ (is_mapped (seen_modifier n) o ∙ stamp_there new.mods.table i k h.0 live)
+kept_there n touched old new (ending.Instance i k o) h live =
+    let j = o.value.id.1 in let x = by_stamp new.instances j in
+    is_mapped instance_row (option_map (seen_instance n j) x) ∙ (is_mapped (seen_instance n j) x ∙ stamp_there new.instances i j (h.0 ∙ sym h.1) live)
+
+none_goes : (n : Tables) (lives : Id → Bool) (old new : Vm) → ((x : Ending) → IsKept old x → is_live new x ≡ true → lives (gone_id (seen_ending n x)) ≡ true)
+    → (xs : List Ending) → AllKept old xs → list_all (is_live new) xs ≡ true → filter (goes lives) (all_seen n xs) ≡ []
+none_goes n lives old new there [] k h = refl
+none_goes n lives old new there (x ∷ xs) k h =
+    let both = and_parts (is_live new x) (list_all (is_live new) xs) h in
+    let rest = filter (goes lives) (all_seen n xs) in
+    ap (λ b. cond (not b) (seen_ending n x ∷ rest) rest) (there x k.0 both.0) ∙ none_goes n lives old new there xs k.1 both.1
+
+-- Where all of it lives nothing is told,
+pub none_logs : (a : App) (before : List Ending) (page : Page) → list_all (is_live page.vm) before ≡ true → Logs a before page []
+none_logs a before page live old h templates touched later same =
+    let n = tables_of (env_of a templates).manifest in
+    let kept = keeps a templates later page in
+    sym (same ∙ ap (flat_map (gone_line (env_of a templates).app (state_of n old.vm touched).look (λ k. k))) (goes_of kept (live_of (seen_code n old.code))
+    ∙ (ap (filter (goes kept)) (sym (h.list n)) ∙ none_goes n kept old.vm page.vm (kept_there n later old.vm page.vm) before h.kept live)))
+
+-- and else the lines of what doesn't stand there.
+pub text_logs : (a : App) (before after : List Ending) (page : Page) → Lists page after → Logs a before page (destroyed_text (manifest_view a.manifest) before after)
+text_logs a before after page k old h templates touched later same =
+    page_told a templates old.vm touched old page before after (stays_on a templates page) refl h k (λ x m o. refl)

@@ -1,5 +1,5 @@
 -- What is told of an update: the lines of what stood there before it, and stands there no more.
-use Rattle.std.specs.Prelude.{◌≡◌, ◌⊎◌, List, [], map, filter, flat_map, not, Bool, if◌then◌else◌, nat_eq}
+use Rattle.std.specs.Prelude.{◌≡◌, ◌⊎◌, List, [], map, filter, flat_map, not, is_some, Bool, if◌then◌else◌, nat_eq}
 use Rattle.std.specs.HashSet.{contains}
 use Rattle.gl_base.specs.Texts.{Text}
 use Rattle.gl_ast.specs.Template.{Body}
@@ -24,8 +24,8 @@ use Rattle.gl_gone.specs.declared.endings.Ending.TheVariants as ending
 use Rattle.gl_gone.specs.declared.numbers.Numbers.{Numbers}
 
 abbrev pub id_of : Ending → Id
-id_of (ending.Modifier k node name) = modifier_id k
-id_of (ending.Instance k o) = instance_id k
+id_of (ending.Modifier i k node name) = modifier_id k
+id_of (ending.Instance i k o) = instance_id k
 
 -- it stands in the list, by its number
 abbrev pub stands_in : List Ending → Ending → Bool
@@ -33,8 +33,8 @@ stands_in xs x = has_id (id_of x) (map id_of xs)
 
 -- it has one of the numbers of its kind
 abbrev pub is_numbered : Numbers → Ending → Bool
-is_numbered s (ending.Modifier k node name) = contains nat_eq s.modifiers k
-is_numbered s (ending.Instance k o) = contains nat_eq s.instances k
+is_numbered s (ending.Modifier i k node name) = contains nat_eq s.modifiers k
+is_numbered s (ending.Instance i k o) = contains nat_eq s.instances k
 
 -- nothing for what has one of the numbers, and for all else its line
 abbrev pub gone_text : Numbers → Manifest → Ending → Text
@@ -62,11 +62,24 @@ role_of (gone_instance i) = an_instance
 abbrev pub TellsWhatStays : (Id → Bool) → Live → Live → Type 0
 TellsWhatStays lives l l' = (x : Row) → Among x (page_rows l) → (x.role ≡ a_modifier) ⊎ (x.role ≡ an_instance) → lives x.id ≡ stays_in l' x.id
 
--- Of two pages of which these are the lists, the text is the lines of what of the one page does not live on, where what lives on is what
--- stands in the other. The lines are read off what the one page keeps, and the number of a node is its own.
-abbrev pub Logs : App → List Ending → List Ending → Text → Type 0
-Logs a before after t =
-    (old new : Page) → Lists old before → Lists new after → (templates : List Body) (touched : Source → Bool) (lives : Id → Bool)
-    → let env = env_of a templates in let n = tables_of env.manifest in let l = live_of (seen_code n old.code) in
-    TellsWhatStays lives l (live_of (seen_code n new.code))
-    → t ≡ flat_map (gone_line env.app (state_of n old.vm touched).look (λ k. k)) (gone lives l)
+-- the lines of what of a page does not live on, read off what it keeps; the number of a node is its own
+abbrev pub lines_without : App → List Body → (Source → Bool) → Page → (Id → Bool) → Text
+lines_without a templates touched page lives =
+    let env = env_of a templates in let n = tables_of env.manifest in
+    flat_map (gone_line env.app (state_of n page.vm touched).look (λ k. k)) (gone lives (live_of (seen_code n page.code)))
+
+-- what stands in a page
+abbrev pub stays_on : App → List Body → Page → Id → Bool
+stays_on a templates page q = stays_in (live_of (seen_code (tables_of (env_of a templates).manifest) page.code)) q
+
+-- what a page keeps
+abbrev pub keeps : App → List Body → (Source → Bool) → Page → Id → Bool
+keeps a templates touched page q = is_some ((state_of (tables_of (env_of a templates).manifest) page.vm touched).look q)
+
+-- Of a page of which this is the list, the text is the lines of what does not live on in another one, wherever it doesn't matter for them
+-- whether what lives on is what stands in that or what that keeps.
+abbrev pub Logs : App → List Ending → Page → Text → Type 0
+Logs a before new t =
+    (old : Page) → Lists old before → (templates : List Body) (touched later : Source → Bool)
+    → lines_without a templates touched old (stays_on a templates new) ≡ lines_without a templates touched old (keeps a templates later new)
+    → t ≡ lines_without a templates touched old (stays_on a templates new)

@@ -1,6 +1,6 @@
 -- What stands in a page that an update may destroy.
-use Rattle.std.specs.Prelude.{◌≡◌, ℕ, List, [], ◌∷◌, map, Some, option_map}
-use Rattle.gl_arena.specs.Arena.{by_stamp}
+use Rattle.std.specs.Prelude.{◌≡◌, ℕ, List, [], ◌∷◌, map, Bool, Some, is_some, option_map}
+use Rattle.gl_arena.specs.Arena.{named, by_stamp}
 use Rattle.gl_mods.specs.Mods as m
 use Rattle.gl_machine.specs.Code.{live_of}
 use Rattle.gl_machine.specs.Gone.{Gone, gone_modifier, gone_instance, none_lives, gone}
@@ -14,8 +14,8 @@ use Rattle.gl_gone.specs.declared.endings.Ending.TheVariants as ending
 
 -- what it is to a log: a modifier by its number, or an instance with its path
 abbrev pub seen_ending : Tables → Ending → Gone
-seen_ending n (ending.Modifier k node name) = gone_modifier k
-seen_ending n (ending.Instance k o) = gone_instance (seen_owner n o.value)
+seen_ending n (ending.Modifier i k node name) = gone_modifier k
+seen_ending n (ending.Instance i k o) = gone_instance (seen_owner n o.value)
 
 abbrev pub all_seen : Tables → List Ending → List Gone
 all_seen n xs = map (seen_ending n) xs
@@ -24,10 +24,11 @@ all_seen n xs = map (seen_ending n) xs
 abbrev pub line_of : m.Installed → ℕ × ℕ
 line_of x = (x.node.1, x.name)
 
--- The node and the name of a modifier are those that are kept for its number, and the number of an instance is its own.
+-- The number is that of the id. The node and the name of a modifier are those that are kept for its number, and the number of an instance is
+-- its own.
 abbrev pub IsKept : Vm → Ending → Type 0
-IsKept vm (ending.Modifier k node name) = option_map line_of (by_stamp vm.mods.table k) ≡ Some (node, name)
-IsKept vm (ending.Instance k o) = o.value.id.1 ≡ k
+IsKept vm (ending.Modifier i k node name) = (i.1 ≡ k) × (option_map line_of (by_stamp vm.mods.table k) ≡ Some (node, name))
+IsKept vm (ending.Instance i k o) = (i.1 ≡ k) × (o.value.id.1 ≡ k)
 
 abbrev pub AllKept : Vm → List Ending → Type 0
 AllKept vm [] = Unit {0}
@@ -37,3 +38,8 @@ AllKept vm (x ∷ xs) = IsKept vm x × AllKept vm xs
 pub record Lists (page : Page) (xs : List Ending) : Type 0 where
   pub list : (n : Tables) → all_seen n xs ≡ gone none_lives (live_of (seen_code n page.code))
   pub kept : AllKept page.vm xs
+
+-- it lives in a machine, by its id
+abbrev pub is_live : Vm → Ending → Bool
+is_live vm (ending.Modifier i k node name) = is_some (named vm.mods.table i)
+is_live vm (ending.Instance i k o) = is_some (named vm.instances i)

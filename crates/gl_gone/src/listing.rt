@@ -113,7 +113,7 @@ fn push_ending(list: &mut Vec<Ending>, vm: &Vm, ending: Ending) -> Result<(), Al
     Ok(())
 }
 
-/// A modifier, with the number of its node and that of its name, as they are kept for it.
+/// A modifier, with its number, that of its node and that of its name, as they are kept for it.
 fn modifier_ending(vm: &Vm, id: ModId) -> Result<Ending, AllocError>
     ensures seen { IfOk result (λ e. (n : _) → seen_ending n e ≡ gone_modifier id.1) }
     ensures kept { IfOk result (λ e. IsKept vm.now e) }
@@ -127,6 +127,7 @@ fn modifier_ending(vm: &Vm, id: ModId) -> Result<Ending, AllocError>
         return Err(AllocError);
     }
     Ok(Ending::Modifier {
+        id,
         number: vm.mods.stamp(id),
         node: vm.tree.stamp(installed.node),
         name: installed.name,
@@ -143,6 +144,7 @@ fn instance_ending(vm: &Vm, owner: &Rc<Owner>) -> Result<Ending, AllocError>
         return Err(AllocError);
     }
     Ok(Ending::Instance {
+        id,
         number: vm.instances.stamp(id),
         owner: Rc::clone(owner)?,
     })

@@ -4,7 +4,7 @@ ghost use Rattle.gl_value.specs.Helpers.{more_fixed};
 ghost use Rattle.gl_value.specs.Value.{properties, split};
 ghost use Rattle.gl_value.specs.View.{view, seen_items};
 
-use gl_value::{List, Text, Value};
+use gl_value::{Act, ListBuilder, Text, Value};
 use std::alloc::AllocError;
 
 /// The property of a value along the path of names that a text gives, split at `.`.
@@ -15,7 +15,7 @@ pub fn get(value: &Value, path: &Text) -> Result<Value, AllocError>
 }
 
 // Adds copies of the values at the end. Where memory is wanting, some of them may stand there.
-fn push_all(list: &mut List, values: &[Value]) -> Result<(), AllocError>
+fn push_all(list: &mut ListBuilder, values: &[Value]) -> Result<(), AllocError>
     ensures { OnOk result (list.new ≡ list.old ++ seen_items values.now) }
 {
     for value in values {
@@ -24,17 +24,26 @@ fn push_all(list: &mut List, values: &[Value]) -> Result<(), AllocError>
     Ok(())
 }
 
+// The action with the values after its fixed arguments.
+fn fixed_more(action: &Act, given: &[Value]) -> Result<Act, AllocError>
+    ensures { IfOk result (λ a. (a.owner ≡ action.now.owner) × (a.name ≡ action.now.name) × (a.fixed ≡ action.now.fixed ++ seen_items given.now)) }
+{
+    let mut fixed = ListBuilder::from_vec(action.fixed.copy()?.into_vec()?);
+    push_all(&mut fixed, given)?;
+    Ok(Act {
+        owner: action.owner,
+        name: action.name.copy()?,
+        fixed: fixed.build()?,
+    })
+}
+
 /// The action with the values after its fixed arguments; undefined where it is no action.
 #[tactic(auto, using(crate::proofs::Items::list_laws))]
 pub fn more_fixed(value: &Value, given: &[Value]) -> Result<Value, AllocError>
     ensures { IfOk result (λ v. view v ≡ more_fixed (view value.now) (seen_items given.now)) }
 {
     match value {
-        Value::Act(action) => {
-            let mut more = action.copy()?;
-            push_all(&mut more.fixed, given)?;
-            Ok(Value::Act(more))
-        }
+        Value::Act(action) => Ok(Value::Act(fixed_more(action, given)?)),
         _ => Ok(Value::Undefined),
     }
 }

@@ -12,7 +12,7 @@ use crate::argument::Arguments;
 use crate::helper::Listing;
 use crate::number::number_of;
 use crate::wording::text_in;
-use gl_value::{List, Text, Value};
+use gl_value::{List, ListBuilder, Text, Value};
 use std::alloc::{AllocError, Global};
 
 /// The items of a list, none of any other value. It takes no memory.
@@ -37,37 +37,44 @@ pub fn includes(items: &[Value], value: &Value) -> bool
     false
 }
 
-// The list of the values.
-fn array(alloc: Global, values: &[Value]) -> Result<List, AllocError>
+// Copies of the values.
+fn copies(alloc: Global, values: &[Value]) -> Result<ListBuilder, AllocError>
     ensures { IfOk result (λ l. l ≡ seen_items values.now) }
 {
-    let mut list = List::from_vec(Vec::with_capacity(alloc, values.len())?);
+    let mut list = ListBuilder::from_vec(Vec::with_capacity(alloc, values.len())?);
     for value in values {
         list.push(value.copy()?)?;
     }
     Ok(list)
 }
 
+// The list of the values.
+fn array(alloc: Global, values: &[Value]) -> Result<List, AllocError>
+    ensures { IfOk result (λ l. l ≡ seen_items values.now) }
+{
+    copies(alloc, values)?.build()
+}
+
 // The items, then a value.
 fn append(alloc: Global, items: &[Value], value: &Value) -> Result<List, AllocError>
     ensures { IfOk result (λ l. l ≡ seen_items items.now ++ view value.now ∷ []) }
 {
-    let mut list = array(alloc, items)?;
+    let mut list = copies(alloc, items)?;
     list.push(value.copy()?)?;
-    Ok(list)
+    list.build()
 }
 
 // The items from back to front.
 fn reverse(alloc: Global, items: &[Value]) -> Result<List, AllocError>
     ensures { IfOk result (λ l. l ≡ reverse (seen_items items.now)) }
 {
-    let mut values = array(alloc, items)?.into_vec();
+    let mut values = copies(alloc, items)?.into_vec();
     values.reverse();
-    Ok(List::from_vec(values))
+    Ok(List::from_vec(values)?)
 }
 
 // Adds a copy of a value, where it is to be kept.
-fn push_if(list: &mut List, kept: bool, value: &Value) -> Result<(), AllocError>
+fn push_if(list: &mut ListBuilder, kept: bool, value: &Value) -> Result<(), AllocError>
     ensures { OnOk result (list.new ≡ list.old ++ (if kept then view value.now ∷ [] else [])) }
 {
     if kept {
@@ -94,11 +101,11 @@ fn with_property(
 ) -> Result<List, AllocError>
     ensures { IfOk result (λ l. l ≡ filter (λ v. same nat_eq (property name.now v) (view value.now)) (seen_items items.now)) }
 {
-    let mut list = List::new(alloc);
+    let mut list = ListBuilder::new(alloc);
     for item in items {
         push_if(&mut list, has_property(item, name, value), item)?;
     }
-    Ok(list)
+    list.build()
 }
 
 // The items whose property of that name isn't the same as a value.
@@ -111,22 +118,22 @@ fn without_property(
 ) -> Result<List, AllocError>
     ensures { IfOk result (λ l. l ≡ filter (λ v. not (same nat_eq (property name.now v) (view value.now))) (seen_items items.now)) }
 {
-    let mut list = List::new(alloc);
+    let mut list = ListBuilder::new(alloc);
     for item in items {
         push_if(&mut list, !has_property(item, name, value), item)?;
     }
-    Ok(list)
+    list.build()
 }
 
 // The property of that name of each item.
 fn pluck(alloc: Global, items: &[Value], name: &Text) -> Result<List, AllocError>
     ensures { IfOk result (λ l. l ≡ map (property name.now) (seen_items items.now)) }
 {
-    let mut list = List::from_vec(Vec::with_capacity(alloc, items.len())?);
+    let mut list = ListBuilder::from_vec(Vec::with_capacity(alloc, items.len())?);
     for item in items {
         list.push(item.property(name.as_str())?)?;
     }
-    Ok(list)
+    list.build()
 }
 
 // Whether a place is that number.
@@ -141,11 +148,11 @@ fn is_at(place: usize, at: i64) -> bool
 fn without_place(alloc: Global, items: &[Value], at: i64) -> Result<List, AllocError>
     ensures { IfOk result (λ l. l ≡ at_places (λ p. not (int_eq p at)) 0 (seen_items items.now)) }
 {
-    let mut list = List::new(alloc);
+    let mut list = ListBuilder::new(alloc);
     for place in 0..items.len() {
         push_if(&mut list, !is_at(place, at), &items[place])?;
     }
-    Ok(list)
+    list.build()
 }
 
 // Whether a place is before the end that a value says; undefined says no end.
@@ -171,12 +178,12 @@ fn is_from(place: usize, from: i64) -> bool
 fn slice(alloc: Global, items: &[Value], from: i64, end: &Value) -> Result<List, AllocError>
     ensures { IfOk result (λ l. l ≡ at_places (λ p. not (int_lt p from) && is_before p (view end.now)) 0 (seen_items items.now)) }
 {
-    let mut list = List::new(alloc);
+    let mut list = ListBuilder::new(alloc);
     for place in 0..items.len() {
         let kept = is_from(place, from) && is_before(place, end);
         push_if(&mut list, kept, &items[place])?;
     }
-    Ok(list)
+    list.build()
 }
 
 /// What such a helper gives.

@@ -16,7 +16,7 @@ use crate::depth::not_deep;
 use crate::helper::Change;
 use crate::lists::{has_property, items_in};
 use crate::wording::text_in;
-use gl_value::{List, NamedValues, Pair, Record, Text, Value};
+use gl_value::{List, ListBuilder, NamedValues, Pair, Record, RecordBuilder, Text, Value};
 use std::alloc::{AllocError, Global};
 use std::cmp::Ordering;
 use std::collections::BTreeMap;
@@ -55,7 +55,7 @@ fn around<'a>(pairs: &'a [Pair], key: &Text) -> (&'a [Pair], &'a [Pair])
 }
 
 // Adds copies of the pairs at the end. Where memory is wanting, some of them may stand there.
-fn push_pairs(out: &mut Record, pairs: &[Pair]) -> Result<(), AllocError>
+fn push_pairs(out: &mut RecordBuilder, pairs: &[Pair]) -> Result<(), AllocError>
     ensures { OnOk result (out.new ≡ out.old ++ seen_pairs pairs.now) }
 {
     for pair in pairs {
@@ -72,11 +72,11 @@ fn put(alloc: Global, pairs: &[Pair], key: &Text, value: &Value) -> Result<Recor
 {
     let (before, after) = around(pairs, key);
     let count = before.len() + 1 + after.len();
-    let mut record = Record::from_vec(Vec::with_capacity(alloc, count)?);
+    let mut record = RecordBuilder::from_vec(Vec::with_capacity(alloc, count)?);
     push_pairs(&mut record, before)?;
     record.push(key.copy()?, value.copy()?)?;
     push_pairs(&mut record, after)?;
-    Ok(record)
+    Ok(record.build()?)
 }
 
 // The values under their names, in the order of the names; of values with one name the last.
@@ -96,11 +96,11 @@ fn hash(alloc: Global, named: &[(Text, Value)]) -> Result<Record, AllocError>
     ensures value { IfOk result (λ r. r ≡ put_all [] (seen_entries named.now)) }
     ensures keeps { IfOk result (λ r. NamedProper (seen_entries named.now) → KeepMembers (pairs_of r)) }
 {
-    let mut record = Record::new(alloc);
+    let mut record = RecordBuilder::new(alloc);
     for (name, value) in by_name(alloc, named)? {
         record.push(Text::from_string(name), value.copy()?)?;
     }
-    Ok(record)
+    Ok(record.build()?)
 }
 
 // What `updateWhere` does to an item: a record whose property of that name is the same as a value gets
@@ -133,11 +133,11 @@ fn update_where(alloc: Global, items: &[Value], update: &Update) -> Result<List,
     ensures value { IfOk result (λ l. l ≡ map (changed update.now.name.now (view update.now.is.now) update.now.key.now (view update.now.value.now)) (seen_items items.now)) }
     ensures keeps { IfOk result (λ l. KeepAll (values_of (seen_items items.now)) → Keeps (view update.now.value.now) → KeepAll (values_of l)) }
 {
-    let mut list = List::from_vec(Vec::with_capacity(alloc, items.len())?);
+    let mut list = ListBuilder::from_vec(Vec::with_capacity(alloc, items.len())?);
     for item in items {
         list.push(updated(alloc, item, update)?)?;
     }
-    Ok(list)
+    Ok(list.build()?)
 }
 
 /// What such a helper gives.

@@ -15,14 +15,14 @@ use crate::begun::is_begun;
 use crate::class::is_white;
 use crate::fault::LexFault;
 use crate::modes::{skips_white, spaced, token};
-use gl_ast::{Mode, Str, Token, TokenKind, Tokens};
+use gl_ast::{Mode, Slice, Token, TokenKind, Tokens};
 use std::alloc::{AllocError, Global};
 
 /// The tokens of a text up to where none stands.
 #[derive(Drop)]
-pub struct Front {
+pub struct Front<'a> {
     /// They, in order.
-    pub tokens: Tokens,
+    pub tokens: Tokens<'a>,
     /// The first place where no token stands, counted in bytes from 0, if there is one. It is the text's length where
     /// the bytes from there on would be a token with more bytes after them.
     pub stop: Option<u64>,
@@ -32,7 +32,7 @@ pub struct Front {
 /// exactly where the text has no such reading. Its offset counts bytes: it is that of the first place where no token
 /// stands, or the text's length where the bytes from there on are the beginning of a token.
 #[tactic(auto, unfolding(gl_ast::specs::TokenReading::template_tokens))]
-pub fn tokens(alloc: Global, text: &str) -> Result<Tokens, LexFault>
+pub fn tokens<'a>(alloc: Global, text: &'a str) -> Result<Tokens<'a>, LexFault>
     ensures reading { Tells (IsTokens text.now) result }
     ensures spans { IfOk result (Spans text.now 0) }
     ensures value { Gives Fails (λ list. list) result (template_tokens text.now) }
@@ -45,7 +45,7 @@ pub fn tokens(alloc: Global, text: &str) -> Result<Tokens, LexFault>
 
 /// The tokens of an expression that stands alone: those of a mustache, without its end. `NoToken` as for a template.
 #[tactic(auto, unfolding(gl_ast::specs::TokenReading::lone_tokens))]
-pub fn expression_tokens(alloc: Global, text: &str) -> Result<Tokens, LexFault>
+pub fn expression_tokens<'a>(alloc: Global, text: &'a str) -> Result<Tokens<'a>, LexFault>
     ensures reading { Tells (IsLoneTokens text.now) result }
     ensures spans { IfOk result (Spans text.now 0) }
     ensures value { Gives Fails (λ list. list) result (lone_tokens text.now) }
@@ -57,22 +57,22 @@ pub fn expression_tokens(alloc: Global, text: &str) -> Result<Tokens, LexFault>
 }
 
 /// The tokens of a template up to where none stands.
-pub fn template_front(alloc: Global, text: &str) -> Result<Front, AllocError>
+pub fn template_front<'a>(alloc: Global, text: &'a str) -> Result<Front<'a>, AllocError>
     ensures { IfOk result (λ f. (f.tokens, f.stop) ≡ front_from m.Content 0 0 text.now) }
 {
     read(alloc, Mode::Content, text)
 }
 
 /// The tokens of an expression that stands alone, up to where none stands.
-pub fn expression_front(alloc: Global, text: &str) -> Result<Front, AllocError>
+pub fn expression_front<'a>(alloc: Global, text: &'a str) -> Result<Front<'a>, AllocError>
     ensures { IfOk result (λ f. (f.tokens, f.stop) ≡ front_from m.Expression 0 0 text.now) }
 {
     read(alloc, Mode::Expression, text)
 }
 
 // All tokens, where one stands at each place.
-fn whole(front: Front) -> Result<Tokens, LexFault>
-    ensures { GivesFront (front.tokens, front.stop) result }
+fn whole<'a>(front: Front<'a>) -> Result<Tokens<'a>, LexFault>
+    ensures { GivesFront (front.entry.tokens, front.entry.stop) result }
 {
     match front.stop {
         None => Ok(front.tokens),
@@ -81,7 +81,7 @@ fn whole(front: Front) -> Result<Tokens, LexFault>
 }
 
 // The tokens of a text that begins in this mode, up to where none stands.
-fn read(alloc: Global, mode: Mode, text: &str) -> Result<Front, AllocError>
+fn read<'a>(alloc: Global, mode: Mode, text: &'a str) -> Result<Front<'a>, AllocError>
     ensures { IfOk result (λ f. (f.tokens, f.stop) ≡ front_from mode 0 0 text.now) }
 {
     let mut tokens = Tokens::new(alloc);
@@ -105,7 +105,7 @@ fn read(alloc: Global, mode: Mode, text: &str) -> Result<Front, AllocError>
                 Some(found) => {
                     let width = rest.len() - found.rest.len();
                     let (front, left) = rest.split_at(width);
-                    add(alloc, &mut tokens, found.kind, at, front)?;
+                    add(&mut tokens, found.kind, at, front)?;
                     mode = found.next;
                     rest = left;
                     at += width;
@@ -146,22 +146,20 @@ fn after_byte(text: &str) -> &str
 }
 
 // Adds a token with its slice.
-fn add(
-    alloc: Global,
-    tokens: &mut Tokens,
+fn add<'a>(
+    tokens: &mut Tokens<'a>,
     kind: TokenKind,
     start: usize,
-    front: &str,
+    front: &'a str,
 ) -> Result<(), AllocError>
     requires { start + length front.now < 2 ^ 64 }
     ensures ok { OnOk result (tokens.new ≡ tokens.old ++ record { kind = kind; start = start; end = start + length front.now; text = chars front.now } ∷ []) }
 {
-    let text = Str::from_str(alloc, front)?;
     let end = start + front.len();
     tokens.push(Token {
         kind,
         start: start as u64,
         end: end as u64,
-        text,
+        text: Slice::new(front),
     })
 }

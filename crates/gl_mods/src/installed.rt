@@ -1,9 +1,9 @@
 // An installed modifier.
 use gl_arena::{Id, NodeMark};
-use gl_value::{List, NamedValues};
+use gl_value::{List, ListBuilder, NamedValues};
 
 /// The values that listen for an event, in order.
-pub type Acts = List;
+pub type Acts = ListBuilder;
 
 /// A modifier of a node, with the values of its arguments at the last rendering.
 #[derive(Drop)]

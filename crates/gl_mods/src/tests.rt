@@ -1,7 +1,7 @@
 // Modifiers on nodes, step by step.
 use super::*;
 use gl_arena::{Arena, Id, ModId, NodeMark};
-use gl_value::{List, NamedValues, Text, Value};
+use gl_value::{List, ListBuilder, NamedValues, Text, Value};
 use std::alloc::{AllocError, Global};
 use std::process::Abort;
 use std::test::Fail;
@@ -50,11 +50,11 @@ static STEPS: [Step; 27] = [
 ];
 
 fn list_of(alloc: Global, texts: &[&str]) -> Result<List, AllocError> {
-    let mut list = List::new(alloc);
+    let mut list = ListBuilder::new(alloc);
     for text in texts {
         list.push(Value::Text(Text::from_str(alloc, text)?))?;
     }
-    Ok(list)
+    list.build()
 }
 
 fn check_acts(rt: &impl Abort, acts: &Acts, alloc: Global, texts: &[&str]) -> Result<(), Fail> {

@@ -11,6 +11,9 @@ impl NodeTree {
     /// children, it answers as for want of memory.
     pub fn remove_leaf(&mut self, node: NodeId) -> Result<(), AllocError>
         ensures ok { OnOk result (RemovesLeaf self.old self.new node) }
+        ensures made { self.new.made ≡ self.old.made }
+        ensures moves { self.new.moves ≡ self.old.moves }
+        ensures inserts { self.new.inserts ≡ self.old.inserts }
         ensures sound { IsFlat self.new }
         ensures err { OnErr result (self.new ≡ self.old) }
     {

@@ -1,5 +1,5 @@
 // Nodes put in by ids of which the caller knows nothing: what has to hold of them is asked.
-ghost use Rattle.std.specs.Prelude.{◌≡◌, Some, None, OnOk, OnErr, IsTrue};
+ghost use Rattle.std.specs.Prelude.{◌≡◌, ◌+◌, Some, None, OnOk, OnErr, IsTrue};
 ghost use Rattle.gl_nodes.specs.Tree.{IsMade, IsPlace, ParentIsElement};
 ghost use Rattle.gl_nodes.specs.Flat.{IsFlat, PutsFlat, PutsLast, TakesNodes, stamp_of};
 
@@ -12,6 +12,9 @@ impl NodeTree {
     /// not in the tree, or the parent not an element of the tree, it answers as for want of memory.
     pub fn put_last(&mut self, parent: Option<NodeId>, node: NodeId) -> Result<(), AllocError>
         ensures ok { OnOk result (PutsLast self.old self.new (stamp_of parent) node.1) }
+        ensures made { OnOk result (self.new.made ≡ self.old.made) }
+        ensures moves { OnOk result (self.new.moves ≡ self.old.moves) }
+        ensures inserts { OnOk result (self.new.inserts ≡ self.old.inserts + 1) }
         ensures sound { IsFlat self.new }
         ensures err { OnErr result (self.new ≡ self.old) }
     {
@@ -32,6 +35,9 @@ impl NodeTree {
         next: Option<NodeId>,
     ) -> Result<(), AllocError>
         ensures ok { OnOk result (PutsFlat self.old self.new (stamp_of parent) (stamp_of next) node.1) }
+        ensures made { OnOk result (self.new.made ≡ self.old.made) }
+        ensures moves { OnOk result (self.new.moves ≡ self.old.moves) }
+        ensures inserts { OnOk result (self.new.inserts ≡ self.old.inserts + 1) }
         ensures sound { IsFlat self.new }
         ensures err { OnErr result (self.new ≡ self.old) }
     {

@@ -1,6 +1,6 @@
 // What a template is still to have after the tokens that were read.
 use crate::names::NameSet;
-use gl_ast::{Str, TokenKind};
+use gl_ast::{Slice, TokenKind};
 
 /// The words of blocks.
 #[derive(Clone, Copy)]
@@ -17,7 +17,7 @@ pub enum Stop<'a> {
     /// The end of the text.
     Whole,
     /// The end tag of the name of this opening.
-    Tag(&'a Str),
+    Tag(&'a Slice<'a>),
     /// The end of the block of a word, where an else may stand before it or not.
     Block(Word, bool),
 }
@@ -36,7 +36,7 @@ pub enum Quoted {
 /// A tag after its opening, a component or not, in which elements and blocks may nest so deep.
 #[derive(Clone, Copy)]
 pub struct Tag<'a> {
-    pub opening: &'a Str,
+    pub opening: &'a Slice<'a>,
     pub component: bool,
     pub depth: u32,
 }
@@ -77,11 +77,11 @@ pub enum Due<'a> {
     /// The end of a component's tag after its parameters, where these are none or not.
     TagEnd(Tag<'a>, bool),
     /// What stands in a component: gaps, and then statements or blocks that are passed.
-    Filling(u32, &'a Str),
+    Filling(u32, &'a Slice<'a>),
     /// The same after blocks of these names.
-    Slots(u32, &'a Str, NameSet),
+    Slots(u32, &'a Slice<'a>, NameSet),
     /// The rest of the opening of a block that is passed.
-    SlotTag(u32, &'a Str),
+    SlotTag(u32, &'a Slice<'a>),
     /// Statements and what ends them.
     Content(u32, Stop<'a>),
     /// The same after `{{`.

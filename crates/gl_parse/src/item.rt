@@ -33,7 +33,7 @@ pub enum Item {
 fn attribute(alloc: Global, tokens: &mut Cursor) -> Result<Item, Misread>
     ensures { Gives Fails (λ i. (item_view i, tokens.new)) result (read.read_attribute tokens.old) }
 {
-    let name = tokens.take(TokenKind::Attribute)?.copy()?;
+    let name = tokens.take(TokenKind::Attribute)?.copy(alloc)?;
     let value = given(alloc, tokens)?;
     Ok(Item::Part(Part::Attr { name, value }))
 }

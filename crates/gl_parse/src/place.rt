@@ -28,7 +28,7 @@ fn takes_first<'a>(
     alloc: Global,
     list: &mut Vec<Due<'a>>,
     first: Due<'a>,
-    token: &'a Token,
+    token: &'a Token<'a>,
 ) -> Result<bool, AllocError>
     ensures { Meets result (d.due_after (due_view first.entry) token.now) (seen list.old.items) (seen list.new.items) }
 {
@@ -69,7 +69,11 @@ fn takes_first<'a>(
 
 // Whether the token can stand next; then the list is what is due after it.
 #[tactic(auto, using(crate::proofs::Meeting::meets_step))]
-fn takes<'a>(alloc: Global, list: &mut Vec<Due<'a>>, token: &'a Token) -> Result<bool, AllocError>
+fn takes<'a>(
+    alloc: Global,
+    list: &mut Vec<Due<'a>>,
+    token: &'a Token<'a>,
+) -> Result<bool, AllocError>
     ensures { IsStep result (d.step (seen list.old.items) token.now) (seen list.new.items) }
 {
     match next(list) {
@@ -80,7 +84,12 @@ fn takes<'a>(alloc: Global, list: &mut Vec<Due<'a>>, token: &'a Token) -> Result
 
 /// The first byte of the first token that can't stand where it does, where this is due at first; the end where each
 /// token can.
-pub fn place(alloc: Global, first: Due, tokens: &[Token], end: u64) -> Result<u64, AllocError>
+pub fn place<'a>(
+    alloc: Global,
+    first: Due<'a>,
+    tokens: &'a [Token<'a>],
+    end: u64,
+) -> Result<u64, AllocError>
     ensures { IfOk result (λ n. n ≡ d.place_of end (d.refused (due_view first.entry ∷ []) tokens.now)) }
 {
     let mut list = Vec::new(alloc);

@@ -9,7 +9,7 @@ ghost use Rattle.gl_parse.specs.ReadStmt.{slot_name, is_slot_opening, stands_slo
 
 use crate::item::parameters;
 use crate::starts_tag::name_in;
-use gl_ast::{Names, Str, Token, TokenKind};
+use gl_ast::{Names, Slice, Str, Token, TokenKind};
 use gl_exprs::{Cursor, Misread, Scan};
 use std::alloc::Global;
 
@@ -46,7 +46,7 @@ pub fn is_gap(token: &Token) -> bool
 
 /// The name after `<:`, where these stand.
 #[tactic(auto, unfolding(crate::specs::ReadStmt::slot_name, crate::specs::ReadStmt::opened_name))]
-pub fn slot_name(opening: &Str) -> Option<Scan<'_>>
+pub fn slot_name<'a>(opening: &Slice<'a>) -> Option<Scan<'a>>
     ensures { result ≡ slot_name opening.now }
 {
     let mut scan = Scan::new(opening);

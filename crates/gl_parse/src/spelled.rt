@@ -44,7 +44,7 @@ fn nothing_left(tokens: &Cursor) -> bool
 
 // The template that the tokens spell.
 #[tactic(auto, unfolding(crate::specs::ReadStmt::read_template, crate::specs::ReadStmt::whole))]
-fn read_template(alloc: Global, tokens: &[Token]) -> Result<Body, Misread>
+fn read_template<'a>(alloc: Global, tokens: &'a [Token<'a>]) -> Result<Body, Misread>
     ensures { Gives Fails (λ b. body_of b) result (read_template tokens.now) }
 {
     let mut cursor = Cursor::new(tokens);
@@ -57,7 +57,7 @@ fn read_template(alloc: Global, tokens: &[Token]) -> Result<Body, Misread>
 
 // The expression that the tokens spell.
 #[tactic(auto, unfolding(crate::specs::ReadStmt::read_lone, crate::specs::ReadStmt::whole))]
-fn read_expression(alloc: Global, tokens: &[Token]) -> Result<Expr, Misread>
+fn read_expression<'a>(alloc: Global, tokens: &'a [Token<'a>]) -> Result<Expr, Misread>
     ensures { Gives Fails (λ e. expr_view e) result (read_lone tokens.now) }
 {
     let mut cursor = Cursor::new(tokens);
@@ -69,7 +69,7 @@ fn read_expression(alloc: Global, tokens: &[Token]) -> Result<Expr, Misread>
 }
 
 // The fault of tokens that leave the grammar, where this is due at first, and which end at this place.
-fn fault_of(alloc: Global, first: Due, tokens: &[Token], end: u64) -> ParseFault
+fn fault_of<'a>(alloc: Global, first: Due<'a>, tokens: &'a [Token<'a>], end: u64) -> ParseFault
     ensures { Names (place_of end (refused (due_view first.entry ∷ []) tokens.now)) result }
 {
     match place(alloc, first, tokens, end) {
@@ -79,7 +79,7 @@ fn fault_of(alloc: Global, first: Due, tokens: &[Token], end: u64) -> ParseFault
 }
 
 // The template that all tokens of a text of so many bytes spell.
-fn whole_template(alloc: Global, tokens: &[Token], size: u64) -> Result<Body, ParseFault>
+fn whole_template<'a>(alloc: Global, tokens: &'a [Token<'a>], size: u64) -> Result<Body, ParseFault>
     ensures tree { Gives Refuses (λ b. body_of b) result (read_template tokens.now) }
     ensures place { IfErr result (Names (place_of size (refused template_due tokens.now))) }
 {
@@ -94,7 +94,11 @@ fn whole_template(alloc: Global, tokens: &[Token], size: u64) -> Result<Body, Pa
 }
 
 // The expression that all tokens of a text of so many bytes spell.
-fn whole_expression(alloc: Global, tokens: &[Token], size: u64) -> Result<Expr, ParseFault>
+fn whole_expression<'a>(
+    alloc: Global,
+    tokens: &'a [Token<'a>],
+    size: u64,
+) -> Result<Expr, ParseFault>
     ensures tree { Gives Refuses (λ e. expr_view e) result (read_lone tokens.now) }
     ensures place { IfErr result (Names (place_of size (refused expression_due tokens.now))) }
 {
@@ -113,7 +117,7 @@ fn text_tree(alloc: Global, text: &str) -> Result<Body, ParseFault>
 {
     let front = template_front(alloc, text)?;
     let stop = front.stop;
-    let list = settle(alloc, text, front.tokens)?;
+    let list = settle(text, front.tokens);
     match stop {
         None => whole_template(alloc, list.as_slice(), text.len() as u64),
         Some(end) => {

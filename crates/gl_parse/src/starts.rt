@@ -10,7 +10,7 @@ ghost use Rattle.gl_parse.specs.Dues.{seen, Meets};
 
 use crate::due::Due;
 use crate::stack::due;
-use gl_ast::{Token, TokenKind};
+use gl_ast::{Slice, Token, TokenKind};
 use gl_exprs::expr::DEEPEST_CALLS;
 use gl_exprs::name::{is_block_name, is_lone, is_text};
 use gl_exprs::operand::is_operand;
@@ -190,5 +190,6 @@ pub fn target(alloc: Global, token: &Token) -> Result<bool, AllocError>
     if token.kind != TokenKind::StringLit {
         return Ok(false);
     }
-    Ok(is_block_name(&string_of(alloc, &token.text)?))
+    let name = string_of(alloc, &token.text)?;
+    Ok(is_block_name(&Slice::of(&name)))
 }

@@ -69,7 +69,7 @@ fn nested<'a>(
     list: &mut Vec<Due<'a>>,
     depth: u32,
     stop: Stop<'a>,
-    token: &'a Token,
+    token: &'a Token<'a>,
 ) -> Result<bool, AllocError>
     ensures { Meets result (d.starts_nested depth (stop_view stop.entry) token.now) (seen list.old.items) (seen list.new.items) }
 {
@@ -90,7 +90,7 @@ pub fn content<'a>(
     list: &mut Vec<Due<'a>>,
     depth: u32,
     stop: Stop<'a>,
-    token: &'a Token,
+    token: &'a Token<'a>,
 ) -> Result<bool, AllocError>
     ensures { Meets result (d.starts_content depth (stop_view stop.entry) token.now) (seen list.old.items) (seen list.new.items) }
 {

@@ -14,7 +14,7 @@ use crate::slot::{is_gap, is_slot_opening, slot_name};
 use crate::stack::due;
 use crate::starts_content::content;
 use crate::starts_tag::name_in;
-use gl_ast::{Str, Token, TokenKind};
+use gl_ast::{Slice, Token, TokenKind};
 use gl_exprs::words::is_end_of;
 use std::alloc::{AllocError, Global};
 
@@ -24,9 +24,9 @@ fn slot<'a>(
     alloc: Global,
     list: &mut Vec<Due<'a>>,
     depth: u32,
-    component: &'a Str,
+    component: &'a Slice<'a>,
     names: NameSet,
-    opening: &'a Str,
+    opening: &'a Slice<'a>,
 ) -> Result<bool, AllocError>
     ensures { Meets result (d.slot_due depth (drop 1 component.now) names (slot_name opening.now)) (seen list.old.items) (seen list.new.items) }
 {
@@ -53,8 +53,8 @@ pub fn filling<'a>(
     alloc: Global,
     list: &mut Vec<Due<'a>>,
     depth: u32,
-    component: &'a Str,
-    token: &'a Token,
+    component: &'a Slice<'a>,
+    token: &'a Token<'a>,
 ) -> Result<bool, AllocError>
     ensures { Meets result (d.starts_filling depth (drop 1 component.now) token.now) (seen list.old.items) (seen list.new.items) }
 {
@@ -70,7 +70,7 @@ pub fn filling<'a>(
 }
 
 // Whether the token is the end tag of the component.
-fn is_end(component: &Str, token: &Token) -> bool
+fn is_end(component: &Slice, token: &Token) -> bool
     ensures { result ≡ (same_kind token.now.kind k.EndTag && bytes_eq (end_name_of token.now.text) (drop 1 component.now)) }
 {
     token.kind == TokenKind::EndTag && is_end_of(&token.text, &name_in(component))
@@ -82,9 +82,9 @@ pub fn slots<'a>(
     alloc: Global,
     list: &mut Vec<Due<'a>>,
     depth: u32,
-    component: &'a Str,
+    component: &'a Slice<'a>,
     names: NameSet,
-    token: &'a Token,
+    token: &'a Token<'a>,
 ) -> Result<bool, AllocError>
     ensures { Meets result (d.starts_slots depth (drop 1 component.now) names token.now) (seen list.old.items) (seen list.new.items) }
 {
@@ -103,7 +103,7 @@ pub fn slots<'a>(
 pub fn slot_tag<'a>(
     list: &mut Vec<Due<'a>>,
     depth: u32,
-    opening: &'a Str,
+    opening: &'a Slice<'a>,
     token: &Token,
 ) -> Result<bool, AllocError>
     ensures { Meets result (d.starts_slot_tag depth (drop 1 opening.now) token.now) (seen list.old.items) (seen list.new.items) }

@@ -7,7 +7,7 @@ ghost use Rattle.gl_parse.specs.ReadStmt.{is_no_name};
 
 use crate::due::{Due, Quoted, Stop, Tag};
 use crate::stack::due;
-use gl_ast::{Str, Token, TokenKind};
+use gl_ast::{Slice, Token, TokenKind};
 use gl_exprs::Scan;
 use gl_exprs::expr::DEEPEST_CALLS;
 use gl_exprs::name::is_argument;
@@ -75,7 +75,7 @@ pub fn quoted(list: &mut Vec<Due>, quoted: Quoted, token: &Token) -> Result<bool
 }
 
 /// The name of an opening, which stands after `<`.
-pub fn name_in(opening: &Str) -> Scan<'_>
+pub fn name_in<'a>(opening: &Slice<'a>) -> Scan<'a>
     ensures { result ≡ drop 1 opening.now }
 {
     let mut scan = Scan::new(opening);
@@ -95,7 +95,7 @@ fn has_body(tag: Tag) -> bool
 }
 
 // What stands in a tag. In a component without parameters blocks may be passed.
-fn inside<'a>(bare: bool, depth: u32, opening: &'a Str) -> Due<'a>
+fn inside<'a>(bare: bool, depth: u32, opening: &'a Slice<'a>) -> Due<'a>
     ensures { due_view result ≡ d.inside bare depth (drop 1 opening.now) }
 {
     if bare {
@@ -128,7 +128,7 @@ pub fn tag_end<'a>(
 }
 
 // Whether the parameters have no name.
-fn are_none(alloc: Global, parameters: &Str) -> Result<bool, AllocError>
+fn are_none(alloc: Global, parameters: &Slice) -> Result<bool, AllocError>
     ensures { IfOk result (λ b. b ≡ is_no_name (parameters_of parameters.now)) }
 {
     Ok(parameters_of(alloc, parameters)?.len() == 0)
@@ -202,7 +202,7 @@ pub fn given<'a>(
 pub fn opening<'a>(
     list: &mut Vec<Due<'a>>,
     depth: u32,
-    opening: &'a Str,
+    opening: &'a Slice<'a>,
 ) -> Result<bool, AllocError>
     ensures { Meets result (d.after_opening depth opening.now) (seen list.old.items) (seen list.new.items) }
 {

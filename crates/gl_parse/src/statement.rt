@@ -6,7 +6,7 @@ ghost use Rattle.gl_ast.specs.View.{stmt_view};
 ghost use Rattle.gl_exprs.specs.Fault.{Fails};
 ghost use Rattle.gl_parse.specs.ReadStmt.{stands_opened, read_target, read_yield, read_flat};
 
-use gl_ast::{Stmt, Str, TokenKind};
+use gl_ast::{Slice, Stmt, Str, TokenKind};
 use gl_exprs::expr::{DEEPEST_CALLS, exprs, mustache};
 use gl_exprs::name::is_block_name;
 use gl_exprs::words::{comment_of, string_of};
@@ -41,7 +41,7 @@ fn target(alloc: Global, tokens: &mut Cursor) -> Result<Str, Misread>
         tokens.take(TokenKind::Equals)?;
         let raw = tokens.take(TokenKind::StringLit)?;
         let name = string_of(alloc, raw)?;
-        if !is_block_name(&name) {
+        if !is_block_name(&Slice::of(&name)) {
             return Err(Misread::NotSpelled);
         }
         Ok(name)

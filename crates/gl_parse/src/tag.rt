@@ -12,7 +12,7 @@ ghost use Rattle.gl_parse.specs.View.{opening_view};
 
 use crate::item::{TagItems, items, parameters};
 use crate::statement::ascii;
-use gl_ast::{Args, Block, Body, Names, Parts, Slot, Slots, Stmt, Str, TokenKind};
+use gl_ast::{Args, Block, Body, Names, Parts, Slice, Slot, Slots, Stmt, Str, TokenKind};
 use gl_exprs::words::is_end_of;
 use gl_exprs::{Cursor, Misread, Scan};
 use std::alloc::{AllocError, Global};
@@ -158,19 +158,19 @@ fn is_void(tag: &Str) -> bool
 fn is_class(name: &Str) -> bool
     ensures { result ≡ leads is_capital name.now }
 {
-    matches!(Scan::new(name).next(), Some('A'..='Z'))
+    matches!(Scan::new(&Slice::of(name)).next(), Some('A'..='Z'))
 }
 
 // Whether the name begins with a small letter.
 fn is_element(name: &Str) -> bool
     ensures { result ≡ leads is_small name.now }
 {
-    matches!(Scan::new(name).next(), Some('a'..='z'))
+    matches!(Scan::new(&Slice::of(name)).next(), Some('a'..='z'))
 }
 
 // The name after `<`.
 #[tactic(auto, unfolding(crate::specs::ReadStmt::opened_name))]
-fn opened_name(alloc: Global, raw: &Str) -> Result<Str, Misread>
+fn opened_name(alloc: Global, raw: &Slice) -> Result<Str, Misread>
     ensures { Gives Fails (λ n. n) result (opened_name raw.now) }
 {
     let mut scan = Scan::new(raw);
@@ -245,5 +245,5 @@ pub fn take_end_of(tokens: &mut Cursor, name: &Scan) -> Result<(), Misread>
 pub fn take_end_tag(tokens: &mut Cursor, name: &Str) -> Result<(), Misread>
     ensures { Gives Fails (λ _. tokens.new) result (take_end_tag name.now tokens.old) }
 {
-    take_end_of(tokens, &Scan::new(name))
+    take_end_of(tokens, &Scan::new(&Slice::of(name)))
 }

@@ -9,7 +9,7 @@ use Rattle.gl_tags.specs.Tags as t
 use Rattle.gl_refs.specs.Forms.{V, Form, constant_form, source_form, prop_form, call_form, cat_form, all_form, Pair, form_or, form_at, value_by, meaning, Like, Each, reads, pair_by, below, own_sources}
 use Rattle.gl_refs.specs.State.{Last, Row, Rows, forms, Kept, kept_by, kept_row, kept, own_tag, own_by, is_combined, LastFits, RowFits, is_bound, IsSound, Evaluates, Swaps, StaysOr, Settles, Gathers, Puts, IsKept, held_value, held_tag, reads_of, held}
 use Rattle.gl_refs.proofs.Meanings.{meaning_is, below_is, by_like, each_read}
-use Rattle.gl_refs.proofs.Rows.{combined_is, bound_kept, fresh_last, last_fresh, kept_held}
+use Rattle.gl_refs.proofs.Rows.{combined_is, bound_fits, bound_kept, fresh_last, last_fresh, kept_held}
 use Rattle.gl_refs.proofs.Leading.{not_both, own_there}
 use Rattle.gl_refs.proofs.Evaluating.{forms_stay, evaluated, order_stays, others_own}
 
@@ -292,3 +292,15 @@ gathers_old tags rows i value ids old sound g k e = by g.row.form g.row.last g.b
   by (call_form n ids ns) l b f e = in_last l f e
   by (cat_form ids) l b f e = in_last l f e
   by (all_form ids) l b f e = in_last l f e
+
+-- where nothing at all was dirtied since the last evaluation, it may be used
+pub latest_kept : (tags : t.Tags) (rows : Rows) (i : Id) (r : Row) (l : Last) → IsSound tags rows → rows i ≡ Some r → is_bound r.form ≡ true → r.last ≡ Some l → tags.count ≤ l.order → IsKept tags rows i
+latest_kept tags rows i r l sound is b last le = by (combined_is (t.tag_at tags l.tag) fits.0) where
+  fits : LastFits tags (Some l)
+  fits = subst (LastFits tags) last (bound_fits tags r.form r.last b (sound.fits i r is))
+
+  by : (leads : List Id) × (t.tag_at tags l.tag ≡ Some (t.combined leads)) → IsKept tags rows i
+  by (leads, e) =
+      let v = ap (t.value_by t.order tags.tags) e in
+      let o = orders_le tags sound.tags_sound leads 0 (omega arith) in
+      subst IsSome (sym (ap (kept_row tags) is ∙ (ap (kept_by tags r.form) last ∙ (bound_kept tags r.form l b ∙ fresh_last tags l (omega (arith, v, o, le)))))) refl

@@ -43,6 +43,26 @@ pub(crate) fn is_kept(tags: &mut Tags, rows: &Rows, id: RefId) -> bool
     }
 }
 
+// Whether nothing at all was dirtied since what is held of a reference was evaluated, so that it is its value of now. No tag
+// is asked: where this says no, its tag may still say yes.
+pub(crate) fn is_latest(tags: &Tags, rows: &Rows, id: RefId) -> bool
+    requires { IsSound tags.now (rows_of rows.now) }
+    ensures { IsTrue result → IsKept tags.now (rows_of rows.now) id }
+{
+    if rows.live(id) {
+        let row = rows.get(id);
+        match &row.kind {
+            Kind::Bound(_) => match &row.last {
+                Some(last) => last.order == tags.count(),
+                None => false,
+            },
+            _ => true,
+        }
+    } else {
+        false
+    }
+}
+
 // Whether there was an evaluation, and no source of the last one was touched at a greater revision.
 pub(crate) fn is_valid(tags: &mut Tags, rows: &Rows, id: RefId, since: u128) -> bool
     requires { IsSound tags.old (rows_of rows.now) }

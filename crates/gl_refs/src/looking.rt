@@ -2,14 +2,16 @@
 ghost use Rattle.std.specs.Prelude.{◌≡◌, IfOk, IfNone, take};
 ghost use Rattle.gl_value.specs.View.{view};
 ghost use Rattle.gl_refs.specs.Forms.{Each, AreLower, meaning};
-ghost use Rattle.gl_refs.specs.State.{forms};
+ghost use Rattle.gl_refs.specs.State.{forms, IsSound};
 ghost use Rattle.gl_refs.specs.View.{rows_of, reads_in, IsFound, IsTable};
 
 use crate::RefId;
-use crate::row::{Kind, Rows, found_value, part_at};
+use crate::evaluation::is_latest;
+use crate::row::{Kind, Rows, found_value, held, part_at};
 use crate::settling::{Stale, Waiting, put_off};
 use crate::table::Table;
 use crate::values::form_value;
+use gl_tags::Tags;
 use gl_value::Value;
 use std::alloc::{AllocError, Global};
 
@@ -91,8 +93,23 @@ fn work_all_out(alloc: Global, rows: &Rows, table: &mut Table, id: RefId) -> Res
     Err(AllocError)
 }
 
-// The value of a reference.
-pub(crate) fn look(alloc: Global, rows: &Rows, id: RefId) -> Result<Value, AllocError>
+// The value of a reference. What is held of it is copied where it is surely of now.
+pub(crate) fn look(alloc: Global, tags: &Tags, rows: &Rows, id: RefId) -> Result<Value, AllocError>
+    requires { IsSound tags.now (rows_of rows.now) }
+    ensures { IfOk result (λ v. view v ≡ (meaning (forms (rows_of rows.now)) id).value) }
+{
+    if is_latest(tags, rows, id) {
+        match held(rows, id) {
+            Some(value) => value.copy(),
+            None => Err(AllocError),
+        }
+    } else {
+        worked_out(alloc, rows, id)
+    }
+}
+
+// The value of a reference, worked out with all that it reads.
+fn worked_out(alloc: Global, rows: &Rows, id: RefId) -> Result<Value, AllocError>
     requires { AreLower (forms (rows_of rows.now)) }
     ensures { IfOk result (λ v. view v ≡ (meaning (forms (rows_of rows.now)) id).value) }
 {

@@ -238,7 +238,7 @@ impl Refs {
         requires { IsSome (forms_of self.now id) }
         ensures { IfOk result (λ v. view v ≡ (meaning_of self.now id).value) }
     {
-        look(self.alloc, &self.rows, id)
+        look(self.alloc, &self.tags, &self.rows, id)
     }
 
     /// Ends a reference that no live one reads, with its tag, and no other.

@@ -4,6 +4,8 @@ ghost use Rattle.gl_ast.specs.Template.{body_of};
 ghost use Rattle.gl_load.specs.View.{app_view};
 ghost use Rattle.gl_run.specs.Output.{shown_text, wire_line, classes_line, written};
 ghost use Rattle.gl_run.specs.Plays.{Plays};
+ghost use Rattle.gl_wire.specs.View.{wire_view};
+ghost use Rattle.gl_wire.specs.WireOf.{wire_of};
 
 use crate::PlayFault;
 use crate::playing::put_text;
@@ -12,7 +14,7 @@ use gl_load::Application;
 use gl_outside::Sink;
 use gl_show::show_body;
 use gl_value::Text;
-use gl_wire::to_text;
+use gl_wire::{Wire, into_text};
 use gl_wirec::compile;
 use std::alloc::{AllocError, Global};
 
@@ -34,19 +36,26 @@ pub fn write_shown<K: Sink>(alloc: Global, tree: &Body, out: &mut K) -> Result<(
     put_text(out, &text)
 }
 
-// The text of a template's wire and a line feed.
-fn wire_line(alloc: Global, template: &Template) -> Result<Text, AllocError>
-    ensures { IfOk result (λ t. t ≡ wire_line (body_of template.now.body)) }
+// The wire of a template, which is let go.
+fn wire_of(alloc: Global, template: Template) -> Result<Wire, AllocError>
+    ensures { IfOk result (λ w. wire_view w ≡ wire_of (body_of template.body)) }
 {
-    let wire = compile(alloc, template)?;
-    let mut text = to_text(alloc, &wire)?;
+    compile(alloc, &template)
+}
+
+// The text of a template's wire and a line feed. The template is let go before the text is written.
+fn wire_line(alloc: Global, template: Template) -> Result<Text, AllocError>
+    ensures { IfOk result (λ t. t ≡ wire_line (body_of template.body)) }
+{
+    let wire = wire_of(alloc, template)?;
+    let mut text = into_text(alloc, wire)?;
     text.push_ascii("\n")?;
     Ok(text)
 }
 
 /// Writes the text of a template's wire and a line feed, in one put.
-pub fn write_wire<K: Sink>(alloc: Global, template: &Template, out: &mut K) -> Result<(), PlayFault>
-    ensures plays { Plays result (K.took out.old) (K.took out.new) (written (wire_line (body_of template.now.body) ∷ [])) }
+pub fn write_wire<K: Sink>(alloc: Global, template: Template, out: &mut K) -> Result<(), PlayFault>
+    ensures plays { Plays result (K.took out.old) (K.took out.new) (written (wire_line (body_of template.body) ∷ [])) }
     ensures failed { IsErrOf result PlayFault.WriteFault → K.faults out.old < K.faults out.new }
 {
     let text = wire_line(alloc, template)?;

@@ -88,7 +88,7 @@ fn wire_template<S: Shelf, K: Sink>(
     ensures limit { status_of result ≡ Status.NestingLimit → ⊥ }
 {
     let spelled = template_of(alloc, shelf, template)?;
-    write_wire(alloc, &spelled, out)?;
+    write_wire(alloc, spelled, out)?;
     Ok(())
 }
 

@@ -35,11 +35,12 @@ use Rattle.gl_fires.specs.Worlds.{world_of, puts_of}
 use Rattle.gl_fires.proofs.Own.{sets_are_own}
 use Rattle.gl_fires.proofs.Standing.{instance_is}
 use Rattle.gl_standing.specs.Standing.{StandsIn}
+use Rattle.gl_texts.specs.Lines.{destroyed_lines}
 use Rattle.gl_update.specs.Renewing.{Renews, RenewsDeep}
 use Rattle.gl_session.specs.Laying.{GivensFor, touch_of, touch_all}
 use Rattle.gl_session.specs.declared.laying.Given.{Given}
 use Rattle.gl_session.proofs.Laid.{laid_in}
-use Rattle.gl_session.proofs.Words.{Made, ended_lines, next_made, next_fails}
+use Rattle.gl_session.proofs.Words.{Made, ended_lines, next_ends, next_made, next_fails}
 
 -- an instance of the program is kept
 row_of : (a : App) (templates : List Body) (page : Page) (s : session.State) (x : StandsIn a templates page s) (k : ℕ) (i : Inst) (args : Names)
@@ -80,6 +81,14 @@ module _ (a : App) (templates : List Body) (rises : NamesRise (manifest_view a.m
       x.placed x.follows (puts_of (world_of a templates page s x) sets) own held k r
       (ap (renew_root_code_as by_number (env_of a templates).app.limit (run_for_as by_number (env_of a templates) [] k) (seen_code (tables_of (manifest_view a.manifest)) page.code)) (sym laid_is) ∙ is)
 
+  ends : (k : ℕ) (r : PlainCode × State) → Answers k ≡ ok r
+      → ended_lines (env_of a templates).app (state_of (tables_of (manifest_view a.manifest)) page.vm x.touched) (live_of (seen_code (tables_of (manifest_view a.manifest)) page.code)) (live_of r.0)
+      ≡ destroyed_lines (env_of a templates).app (state_of (tables_of (manifest_view a.manifest)) page.vm x.touched) (live_of (seen_code (tables_of (manifest_view a.manifest)) page.code)) r.1
+  ends k r is =
+      next_ends (env_of a templates) is_lowered differ s e x.reached (seen_code (tables_of (manifest_view a.manifest)) page.code) (state_of (tables_of (manifest_view a.manifest)) page.vm x.touched)
+      x.placed x.follows (puts_of (world_of a templates page s x) sets) own held k r
+      (ap (renew_root_code_as by_number (env_of a templates).app.limit (run_for_as by_number (env_of a templates) [] k) (seen_code (tables_of (manifest_view a.manifest)) page.code)) (sym laid_is) ∙ is)
+
   module _ (mid : Vm) (begun : Follows (tables_of (manifest_view a.manifest)) laid mid) where
     -- the update after which the page stands in the next state
     pub renewed : (page' : Page) → Renews a [] (λ n run. renew_root_code_as by_number a.manifest.limit run (seen_code n page.code)) mid (λ n. seen_code n page'.code) page'.vm
@@ -87,12 +96,16 @@ module _ (a : App) (templates : List Body) (rises : NamesRise (manifest_view a.m
         × Made (env_of a templates) s (Some e) (ended_lines (env_of a templates).app (state_of (tables_of (manifest_view a.manifest)) page.vm x.touched) (live_of (seen_code (tables_of (manifest_view a.manifest)) page.code)) (live_of (seen_code (tables_of (manifest_view a.manifest)) page'.code)))
         (moved_between (live_of (seen_code (tables_of (manifest_view a.manifest)) page.code)) (live_of (seen_code (tables_of (manifest_view a.manifest)) page'.code)))
         (seen_code (tables_of (manifest_view a.manifest)) page'.code) r
+        × (ended_lines (env_of a templates).app (state_of (tables_of (manifest_view a.manifest)) page.vm x.touched) (live_of (seen_code (tables_of (manifest_view a.manifest)) page.code)) (live_of (seen_code (tables_of (manifest_view a.manifest)) page'.code))
+        ≡ destroyed_lines (env_of a templates).app (state_of (tables_of (manifest_view a.manifest)) page.vm x.touched) (live_of (seen_code (tables_of (manifest_view a.manifest)) page.code)) r)
     renewed page' h =
-        let r = h templates rises laid.touched begun.agrees in (
+        let r = h templates rises laid.touched begun.agrees in
+        let is : Answers r.steps ≡ ok (seen_code (tables_of (manifest_view a.manifest)) page'.code, r.state) =
+        ap (renew_root_code_as by_number (env_of a templates).app.limit (run_for_as by_number (env_of a templates) [] r.steps) (seen_code (tables_of (manifest_view a.manifest)) page.code)) (sym begun.state) ∙ r.is r.steps (le_refl r.steps) in (
           r.state,
           r.follows,
-          made r.steps (seen_code (tables_of (manifest_view a.manifest)) page'.code, r.state)
-              (ap (renew_root_code_as by_number (env_of a templates).app.limit (run_for_as by_number (env_of a templates) [] r.steps) (seen_code (tables_of (manifest_view a.manifest)) page.code)) (sym begun.state) ∙ r.is r.steps (le_refl r.steps)),
+          made r.steps (seen_code (tables_of (manifest_view a.manifest)) page'.code, r.state) is,
+          ends r.steps (seen_code (tables_of (manifest_view a.manifest)) page'.code, r.state) is,
         )
 
     pub too_deep : RenewsDeep {A = PlainCode} a [] (λ n run. renew_root_code_as by_number a.manifest.limit run (seen_code n page.code)) mid → step (env_of a templates).app s (Some e) ≡ None

@@ -20,9 +20,7 @@ use Rattle.gl_plain.specs.Naming.{by_number}
 use Rattle.gl_naming.specs.Exist.{FieldsDiffer}
 use Rattle.gl_naming.proofs.Rules.{entries_differ}
 use Rattle.gl_machine.specs.Code.{Code as PlainCode, live_of}
-use Rattle.gl_machine.specs.Gone.{has_id}
 use Rattle.gl_machine.specs.Root.{renew_root_code_as}
-use Rattle.gl_machine.specs.Rows.{page_rows, row_ids}
 use Rattle.gl_machine.specs.Shape.{nest}
 use Rattle.gl_vm.specs.View.{Tables, state_of}
 use Rattle.gl_vm.specs.Steps.{Follows, Does}
@@ -45,6 +43,7 @@ use Rattle.gl_gone.specs.Logs.{Logs}
 use Rattle.gl_gone.specs.View.{Lists}
 use Rattle.gl_gone.specs.declared.endings.Ending.{Ending}
 use Rattle.gl_standing.specs.Standing.{StandsIn}
+use Rattle.gl_texts.specs.Lines.{destroyed_lines}
 use Rattle.gl_session.specs.Laying.{GivensFor, touch_of, touch_all}
 use Rattle.gl_session.specs.declared.laying.Given.{Given}
 use Rattle.gl_session.specs.Standing.{Goes, TurnFails, app_with}
@@ -89,16 +88,16 @@ module _ (a : App) (templates : List Body) (rises : NamesRise (manifest_view a.m
   -- the page that is updated stands in the state after it, once its log is written
   pub next_goes : (page' : Page) → Renews a [] (λ n run. renew_root_code_as by_number a.manifest.limit run (seen_code n page.code)) mid (λ n. seen_code n page'.code) page'.vm
       → ((n : Tables) → nest_of page'.vm.tree.forest ≡ nest (live_of (seen_code n page'.code))) → IsFlat page'.vm.tree → IsSound page'.vm.mods
-      → (before after : List Ending) → Lists page before → Lists page' after → (d : Text) → Logs a before after d
+      → (before : List Ending) → Lists page before → (d : Text) → Logs a before page' d
       → (state : State) (turn : ℕ) (missing : List ℕ) (made : Turn) → turn ≡ s.turn → missing ≡ (applied (env_of a templates).app s (Some e)).missing
       → made.text ≡ written a templates page' s (Some e) d state (head_line turn (Some e)) (missing_lines missing)
       → (count : ℕ) → ((n : Tables) → count ≡ moved_between (live_of (seen_code n page.code)) (live_of (seen_code n page'.code)))
       → Did page' page.vm.tree.nodes.made count made.work → Goes a templates s (Some e) (record page' { vm = committed page'.vm }) made
-  next_goes page' h nested flat sound before after old new d logs state turn missing made t q w count moves did' =
+  next_goes page' h nested flat sound before old d logs state turn missing made t q w count moves did' =
       let r = renewed a templates rises lowered (fields_differ a templates rises) page s x e sets givens same owned found mid begun page' h in
       let l' = live_of (seen_code (tables_of (manifest_view a.manifest)) page'.code) in
       let told : d ≡ ended_lines (env_of a templates).app (state_of (tables_of (manifest_view a.manifest)) page.vm x.touched) (live_of (seen_code (tables_of (manifest_view a.manifest)) page.code)) l' =
-      logs page page' old new templates x.touched (λ z. has_id z (row_ids (page_rows l'))) (λ z k o. refl) in
+      logs page old templates x.touched r.0.touched (r.3 ∙ ap (destroyed_lines (env_of a templates).app (state_of (tables_of (manifest_view a.manifest)) page.vm x.touched) (live_of (seen_code (tables_of (manifest_view a.manifest)) page.code))) (sym r.1.state)) in
       let first : page.vm.tree.nodes.made ≡ s.numbers.next = ap (λ (ns : Numbers). ns.next) x.follows.numbers in
       goes a templates page' s (Some e) (ended_lines (env_of a templates).app (state_of (tables_of (manifest_view a.manifest)) page.vm x.touched) (live_of (seen_code (tables_of (manifest_view a.manifest)) page.code)) l')
       r.0 (moved_between (live_of (seen_code (tables_of (manifest_view a.manifest)) page.code)) l') r.2 r.1 (nested (tables_of (manifest_view a.manifest))) flat sound (stepped e x.reached r.2.is) (head_line turn (Some e)) (missing_lines missing) made

@@ -30,6 +30,7 @@ use Rattle.gl_follows.proofs.Words.{first_words, puts_words}
 use Rattle.gl_machine.specs.Gone.{has_id, gone, gone_line}
 use Rattle.gl_machine.specs.Rows.{page_rows, row_ids}
 use Rattle.gl_texts.specs.Laws.{text_of_turn}
+use Rattle.gl_texts.specs.Lines.{destroyed_lines}
 use Rattle.gl_texts.proofs.Texts.{first_text, next_text}
 use Rattle.gl_texts.proofs.Destroyed.{rows_tell}
 
@@ -59,18 +60,33 @@ module _ (env : Env) (lowered : AllLowered env) (differ : FieldsDiffer env.app) 
 
   module _ (s : session.State) (e : Event) (reached : Reached env.app s) (k : Code) (st : State) (placed : PlacedRoot env k) (f : FollowsBy env.app s st (live_of k))
       (xs : List Put) (own : AreOwn env.app f.named.owner (live_of k) xs) (same : (applied env.app s (Some e)).sets ≡ map (held_of f.named.owner) xs) (n : ℕ) where
+    -- what is set by owners is there
+    there : AreThere env.app (live_of k) (applied env.app s (Some e)).sets
+    there = subst (AreThere env.app (live_of k)) (sym same) (puts_by env.app s st (live_of k) f xs own).0
+
+    -- the update of the tree
+    abbrev now : Live × State
+    now = renew_app_as by_number env.app [] (live_of k) (set_all_by env.app (live_of k) (applied env.app s (Some e)).sets (begin st))
+
+    now_is : (x : Code × State) → renew_root_code_as by_number env.app.limit (run_for_as by_number env [] n) k (put_all xs (begin st)) ≡ ok x → (live_of x.0, x.1) ≡ now
+    now_is x is =
+        let laid : set_all_by env.app (live_of k) (applied env.app s (Some e)).sets (begin st) ≡ put_all xs (begin st) =
+        ap (λ hs. set_all_by env.app (live_of k) hs (begin st)) same ∙ (puts_by env.app s st (live_of k) f xs own).1 in
+        let tree : Follows (PlacedRoot env) live_of is_deep (ok x) (renew_app_as by_number env.app [] (live_of k) (put_all xs (begin st))) =
+        subst (λ o. Follows (PlacedRoot env) live_of is_deep o (renew_app_as by_number env.app [] (live_of k) (put_all xs (begin st)))) is (page_is_renewed by_number env [] lowered n k (put_all xs (begin st)) placed) in
+        tree.0 ∙ ap (renew_app_as by_number env.app [] (live_of k)) (sym laid)
+
+    -- it doesn't matter whether what was destroyed is told by what stands in the next tree or by what is kept then
+    pub next_ends : (x : Code × State) → renew_root_code_as by_number env.app.limit (run_for_as by_number env [] n) k (put_all xs (begin st)) ≡ ok x
+        → ended_lines env.app st (live_of k) (live_of x.0) ≡ destroyed_lines env.app st (live_of k) x.1
+    next_ends x is =
+        subst (λ (z : Live × State). ended_lines env.app st (live_of k) z.0 ≡ destroyed_lines env.app st (live_of k) z.1) (sym (now_is x is)) (rows_tell env.app differ s e reached st (live_of k) f there)
+
     pub next_made : (x : Code × State) → renew_root_code_as by_number env.app.limit (run_for_as by_number env [] n) k (put_all xs (begin st)) ≡ ok x
         → Made env s (Some e) (ended_lines env.app st (live_of k) (live_of x.0)) (moved_between (live_of k) (live_of x.0)) x.0 x.1
     next_made x is =
         let w : WordsBy env s (Some e) (ok x) = subst (WordsBy env s (Some e)) is (puts_words env lowered differ s e reached k st placed f xs own same n) in
-        let y = puts_by env.app s st (live_of k) f xs own in
-        let there : AreThere env.app (live_of k) (applied env.app s (Some e)).sets = subst (AreThere env.app (live_of k)) (sym same) y.0 in
-        let laid : set_all_by env.app (live_of k) (applied env.app s (Some e)).sets (begin st) ≡ put_all xs (begin st) = ap (λ hs. set_all_by env.app (live_of k) hs (begin st)) same ∙ y.1 in
-        let tree : Follows (PlacedRoot env) live_of is_deep (ok x) (renew_app_as by_number env.app [] (live_of k) (put_all xs (begin st))) =
-        subst (λ o. Follows (PlacedRoot env) live_of is_deep o (renew_app_as by_number env.app [] (live_of k) (put_all xs (begin st)))) is (page_is_renewed by_number env [] lowered n k (put_all xs (begin st)) placed) in
-        let r : (live_of x.0, x.1) ≡ renew_app_as by_number env.app [] (live_of k) (set_all_by env.app (live_of k) (applied env.app s (Some e)).sets (begin st)) =
-        tree.0 ∙ ap (renew_app_as by_number env.app [] (live_of k)) (sym laid) in
-        let now : Live × State = renew_app_as by_number env.app [] (live_of k) (set_all_by env.app (live_of k) (applied env.app s (Some e)).sets (begin st)) in
+        let r = now_is x is in
         record {
           turn = w.0;
           is = w.1;

@@ -13,7 +13,6 @@ use Rattle.gl_vm.specs.declared.vm.Vm.{Vm}
 use Rattle.gl_append.specs.Tables.{tables_of}
 use Rattle.gl_append.specs.declared.page.Page.{Page}
 use Rattle.gl_gone.specs.Logs.{Logs}
-use Rattle.gl_gone.specs.View.{Lists}
 use Rattle.gl_gone.specs.declared.endings.Ending.{Ending}
 use Rattle.gl_session.specs.Writing.{told_id}
 
@@ -31,10 +30,8 @@ log_text a vm =
 pub record Tells (a : App) (page : Page) (before : List Ending) (turn : ℕ) (e : m.Event) (missing : List ℕ) (new : Page) (text : Text) : Type 0 where
   pub flat : IsFlat page.vm.tree
   pub sound : IsSound page.vm.mods
-  pub after : List Ending
-  pub lists : Lists page after
   pub destroyed : Text
-  pub logs : Logs a before after destroyed
+  pub logs : Logs a before page destroyed
   pub told : text ≡ (head_line turn (Some e) ++ (missing_lines missing ++ lines (node_at page.vm.tree) (λ i. i.1) [] page.vm.tree.forest)) ++ (destroyed ++ log_text a page.vm)
   pub vm : new.vm ≡ committed page.vm
   pub code : new.code ≡ page.code

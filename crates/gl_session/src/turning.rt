@@ -109,8 +109,7 @@ fn next_text(
     page.vm.tree.flat();
     page.vm.mods.sound();
     let mut text = front(alloc, &page.vm.tree, turn, Some(event), missing)?;
-    let after = standing(alloc, page)?;
-    push_destroyed(&mut text, alloc, before, &after, app)?;
+    push_destroyed(&mut text, alloc, before, page, app)?;
     push_committed(&mut text, alloc, app, &mut page.vm)?;
     Ok(text)
 }

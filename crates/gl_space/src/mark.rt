@@ -59,7 +59,7 @@ fn is_path(kind: TokenKind) -> bool
 }
 
 // The token that closes a mustache.
-fn closing(tokens: &[Token]) -> Option<&Token>
+fn closing<'t, 'a>(tokens: &'t [Token<'a>]) -> Option<&'t Token<'a>>
     ensures { option_map (λ t. t.now) result ≡ s.closing tokens.now }
 {
     let mut rest = tokens;

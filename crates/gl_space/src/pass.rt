@@ -1,18 +1,18 @@
 // The pass over the tokens.
-ghost use Rattle.std.specs.Prelude.{◌≡◌, ◌<◌, IfOk, length};
+ghost use Rattle.std.specs.Prelude.{◌≡◌, ◌<◌, length};
 ghost use Rattle.gl_ast.specs.Settling.{settled, begins_anew, within_tag, opens_tag, closes_tag, is_text};
 ghost use Rattle.gl_space.specs.Turn as t;
 
 use crate::mark::{is_mark, next_edge, right_edge};
 use crate::trim::kept;
-use gl_ast::{Edge, Str, Token, TokenKind, Tokens};
-use std::alloc::{AllocError, Global};
+use gl_ast::{Edge, Slice, Token, TokenKind, Tokens};
 
 /// The tokens of a template, each text of the content without the white space that is removed from it: what stands
-/// before `{{~` and after `~}}`, and the line of a block's tag or of a comment that has it for itself. Spans stay.
+/// before `{{~` and after `~}}`, and the line of a block's tag or of a comment that has it for itself. Spans stay. It takes no
+/// memory.
 #[tactic(auto, unfolding(gl_ast::specs::Settling::settled))]
-pub fn settle(alloc: Global, text: &str, tokens: Tokens) -> Result<Tokens, AllocError>
-    ensures { IfOk result (λ list. list ≡ settled text.now tokens) }
+pub fn settle<'a>(text: &'a str, tokens: Tokens<'a>) -> Tokens<'a>
+    ensures { result ≡ settled text.now tokens.entry }
 {
     let bytes = text.as_bytes();
     let mut list = tokens.into_vec();
@@ -20,35 +20,28 @@ pub fn settle(alloc: Global, text: &str, tokens: Tokens) -> Result<Tokens, Alloc
     let mut front = Edge::Keep;
     for at in 0..list.len() {
         let (_, left) = list.as_slice().split_at(at);
-        let text = changed(alloc, bytes, tag, front, left)?;
+        let text = changed(bytes, tag, front, left);
         front = front_after(bytes, tag, front, left);
         tag = tag_after(tag, left);
         put_at(at, text, &mut list);
     }
-    Ok(Tokens::from_vec(list))
+    Tokens::from_vec(list)
 }
 
 // The new text of the first of the tokens, or `None` where it keeps its own.
 #[tactic(auto, unfolding(crate::specs::Turn::changed))]
-fn changed(
-    alloc: Global,
-    bytes: &[u8],
-    tag: bool,
-    front: Edge,
-    tokens: &[Token],
-) -> Result<Option<Str>, AllocError>
-    ensures { IfOk result (λ text. text ≡ t.changed bytes.now tag front tokens.now) }
+fn changed<'a>(bytes: &[u8], tag: bool, front: Edge, tokens: &[Token<'a>]) -> Option<Slice<'a>>
+    ensures { result ≡ t.changed bytes.now tag front tokens.now }
 {
     match tokens {
         [token, after @ ..] => {
             if tag || !is_text(token.kind) {
-                return Ok(None);
+                return None;
             }
             let back = next_edge(bytes, after);
-            let text = Str::from_str(alloc, kept(front, back, token.text.as_str()))?;
-            Ok(Some(text))
+            Some(Slice::new(kept(front, back, token.text.as_str())))
         }
-        [] => Ok(None),
+        [] => None,
     }
 }
 
@@ -83,9 +76,9 @@ fn tag_after(tag: bool, tokens: &[Token]) -> bool
 }
 
 // Gives the token at a place a new text, where there is one.
-fn put_at(place: usize, text: Option<Str>, list: &mut Vec<Token>)
+fn put_at<'a>(place: usize, text: Option<Slice<'a>>, list: &mut Vec<Token<'a>>)
     requires { place < length list.old.items }
-    ensures { list.new.items ≡ t.put_at place text list.old.items }
+    ensures { list.new.items ≡ t.put_at place text.entry list.old.items }
 {
     if let Some(text) = text {
         list[place].text = text;

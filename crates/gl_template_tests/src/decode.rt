@@ -1,5 +1,5 @@
 // Texts with character references, and what they stand for.
-use gl_ast::Str;
+use gl_ast::Slice;
 use gl_exprs::decoded;
 use std::alloc::Global;
 use std::process::Abort;
@@ -46,7 +46,7 @@ static TEXTS: [(&str, &str); 35] = [
 
 fn check_row(rt: &impl Abort, alloc: Global, row: &(&str, &str)) -> Result<(), Fail> {
     let (raw, want) = *row;
-    let text = decoded(alloc, &Str::from_str(alloc, raw)?)?;
+    let text = decoded(alloc, &Slice::new(raw))?;
     assert_eq!(rt; text.as_str(), want, "at {raw:?}");
     Ok(())
 }

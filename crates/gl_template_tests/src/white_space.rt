@@ -129,7 +129,7 @@ fn texts(alloc: Global, tokens: &Tokens) -> Result<String, AllocError> {
 fn check_row(rt: &impl Abort, alloc: Global, row: &(&str, &str)) -> Result<(), Fail> {
     let read = gl_lex::tokens(alloc, row.0)?;
     let count = read.len();
-    let settled = settle(alloc, row.0, read)?;
+    let settled = settle(row.0, read);
     assert_eq!(rt; settled.len(), count, "{}", row.0);
     let have = texts(alloc, &settled)?;
     assert_eq!(rt; have.as_str(), row.1, "{}", row.0);

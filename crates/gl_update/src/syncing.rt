@@ -4,7 +4,6 @@ ghost use Rattle.std.specs.Prelude.{◌≡◌, ◌∷◌, ◌++◌, ◌+◌, ◌
 ghost use Rattle.gl_value.specs.Value.{count_value, plain};
 ghost use Rattle.gl_value.specs.View.{view};
 ghost use Rattle.gl_meaning.specs.Path.{item};
-ghost use Rattle.gl_meaning.specs.Render.{entries, values_listed};
 ghost use Rattle.gl_meaning.specs.View.{path_view};
 ghost use Rattle.gl_each.specs.Key.{entry_key, entry_keys};
 ghost use Rattle.gl_each.specs.Moved.{moves as count_moves};
@@ -35,26 +34,14 @@ use crate::standing::settle_item;
 use crate::taken::{Begun, Listed, Ready, begin_sync, end_sync, lost_sync};
 use crate::trail::Trail;
 use gl_append::{Cells, Code, Entry, ItemCode, Listing, VmFault, counted};
-use gl_each::{Keys, keys};
 use gl_meaning::{Path, PathStep};
 use gl_nodes::NodeId;
 use gl_opc::App;
 use gl_refs::RefId;
-use gl_value::{Text, Value};
+use gl_value::Value;
 use gl_vm::Vm;
 use std::alloc::{AllocError, Global};
 use std::mem;
-
-/// The keys of the items of a value that is a list. Any other value has none.
-#[inline(never)]
-pub(crate) fn keys_of(alloc: Global, value: &Value, key: &Text) -> Result<Keys, AllocError>
-    ensures { IfOk result (λ ks. ks ≡ entry_keys (entries key.now 0 [] (values_listed (labelled (view value.now))))) }
-{
-    match value {
-        Value::List(list) => keys(alloc, list.as_slice(), key.as_str()),
-        _ => Ok(Keys::new(alloc)),
-    }
-}
 
 // Gives an item's reference a value, where it is a live one.
 #[inline(never)]

@@ -27,9 +27,8 @@ use crate::old_items::Work;
 use crate::positions::{reread, shown};
 use crate::seating::Seat;
 use crate::standing::before_items;
-use crate::syncing::keys_of;
 use crate::trail::Trail;
-use gl_append::{Code, Codes, Entry, ItemCode, Listing, Spot, VmFault, items_of};
+use gl_append::{Code, Codes, Entry, ItemCode, Listing, Spot, VmFault, keyed_items_of};
 use gl_each::Keys;
 use gl_meaning::Path;
 use gl_nodes::NodeId;
@@ -188,9 +187,8 @@ pub(crate) fn read_list(
     ensures calm { Calm vm.new }
 {
     let value = value_now(vm, id)?;
-    let keys = keys_of(alloc, &value, key)?;
-    let entries = items_of(alloc, value, key)?;
-    boxed_ready(alloc, keys, entries)
+    let read = keyed_items_of(alloc, value, key)?;
+    boxed_ready(alloc, read.0, read.1)
 }
 
 /// What a list with items has now.

@@ -1,5 +1,5 @@
 -- JSON fits exactly where no number of it is bad and it isn't nested too deep.
-use Rattle.std.proofs.Common.{◌≡◌, ◌≤◌, ◌<◌, ◌-◌, ℕ, suc, max, Bool, true, false, refl, arith, Option, Some, None, ◌⊎◌, inl, inr, is_none, ◌&&◌, Result, Ok, Err, option_map, unwrap_or, ◌↔◌, nat_lt, if◌then◌else◌}
+use Rattle.std.proofs.Common.{◌≡◌, ◌≤◌, ◌<◌, ◌-◌, ℕ, Bool, true, false, refl, arith, Option, Some, None, ◌⊎◌, inl, inr, is_none, ◌&&◌, Ok, Err, option_map, unwrap_or, ◌↔◌, nat_lt, if◌then◌else◌}
 use Rattle.std.specs.Option.{option_or}
 use Rattle.std.proofs.lemmas.Bool.{le-ltb, lt-ltb, ltb-true, ltb-false}
 use Rattle.gl_value.specs.Faults.{fault_of, fault_told}

@@ -29,8 +29,8 @@ most_pairs : (ps : List Pair) → most deep-Pair ps ≤ suc (members_depth (pair
 most_pairs [] = omega arith
 most_pairs (p ∷ ps) = omega (arith, value_falls p.value, most_pairs ps)
 
-pub list_falls : (a : ListInside) → deep-List a ≤ suc (values_depth (values_of (seen_items a.list.items)))
-list_falls a = omega (arith, most_items a.list.items)
+pub list_falls : (a : ListInside) → deep-List a ≤ suc (values_depth (values_of (seen_items a.list.value.items)))
+list_falls a = omega (arith, most_items a.list.value.items)
 
-pub record_falls : (a : RecordInside) → deep-Record a ≤ suc (members_depth (pairs_of (seen_pairs a.list.items)))
-record_falls a = omega (arith, most_pairs a.list.items)
+pub record_falls : (a : RecordInside) → deep-Record a ≤ suc (members_depth (pairs_of (seen_pairs a.list.value.items)))
+record_falls a = omega (arith, most_pairs a.list.value.items)

@@ -13,7 +13,7 @@ impl List {
         if self.len() != other.len() {
             return false;
         }
-        for (item, with) in self.list.iter().zip(&other.list) {
+        for (item, with) in self.list.iter().zip(other.list.iter()) {
             if !item.same(with) {
                 return false;
             }
@@ -30,7 +30,7 @@ impl Record {
         if self.len() != other.len() {
             return false;
         }
-        for (pair, with) in self.list.iter().zip(&other.list) {
+        for (pair, with) in self.list.iter().zip(other.list.iter()) {
             if !pair.key.same(&with.key) || !pair.value.same(&with.value) {
                 return false;
             }

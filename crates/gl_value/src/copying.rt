@@ -1,42 +1,34 @@
 // Copies of values.
 ghost use Rattle.std.specs.Prelude.{◌≡◌, ◌<◌, IfOk};
 
-use crate::{Act, List, Pair, Record, Value};
+use crate::{Act, List, Record, Value};
 use std::alloc::AllocError;
+use std::rc::Rc;
 
 impl List {
-    /// Another list with the same values.
-    #[cycle(copy)]
+    /// Another list with the same values. The two share them: it takes no memory.
     pub fn copy(&self) -> Result<List, AllocError>
         ensures { IfOk result (λ l. l ≡ self.now) }
     {
-        let mut list = Vec::with_capacity(*self.list.allocator(), self.list.len())?;
-        for item in &self.list {
-            list.push(item.copy()?)?;
-        }
-        Ok(List { list })
+        Ok(List {
+            list: Rc::clone(&self.list)?,
+        })
     }
 }
 
 impl Record {
-    /// Another record with the same keys and values.
-    #[cycle(copy)]
+    /// Another record with the same pairs. The two share them: it takes no memory.
     pub fn copy(&self) -> Result<Record, AllocError>
         ensures { IfOk result (λ r. r ≡ self.now) }
     {
-        let mut list = Vec::with_capacity(*self.list.allocator(), self.list.len())?;
-        for pair in &self.list {
-            let key = pair.key.copy()?;
-            let value = pair.value.copy()?;
-            list.push(Pair { key, value })?;
-        }
-        Ok(Record { list })
+        Ok(Record {
+            list: Rc::clone(&self.list)?,
+        })
     }
 }
 
 impl Act {
     /// Another action with the same owner, name and fixed arguments.
-    #[cycle(copy)]
     pub fn copy(&self) -> Result<Act, AllocError>
         ensures { IfOk result (λ a. a ≡ self.now) }
     {
@@ -51,8 +43,7 @@ impl Act {
 }
 
 impl Value {
-    /// Another value with the same content.
-    #[cycle(copy)]
+    /// Another value with the same content. The values of a list and the pairs of a record are shared.
     pub fn copy(&self) -> Result<Value, AllocError>
         ensures { IfOk result (λ v. v ≡ self.now) }
     {

@@ -10,7 +10,7 @@ ghost use Rattle.gl_value.specs.View.{view};
 ghost use Rattle.gl_value.specs.Faults.{fault_of, fault_told};
 ghost use Rattle.gl_value.specs.declared.json.JsonFault.TheVariants.{Memory};
 
-use crate::{DEEPEST, GREATEST, List, Record, Text, Value};
+use crate::{DEEPEST, GREATEST, List, ListBuilder, Record, RecordBuilder, Text, Value};
 use serde_json::{Map, Number};
 use std::alloc::{AllocError, AllocFailed, Global};
 use thiserror::Error;
@@ -193,11 +193,11 @@ fn list_of(alloc: Global, items: &Vec<serde_json::Value>, most: u32) -> Result<L
     ensures keeps { IfOk result (λ l. KeepAll (values_of l)) }
     ensures fit { OnOk result (items_fit most (seen.items_view items.now.items) ≡ true) }
 {
-    let mut list = List::from_vec(Vec::with_capacity(alloc, items.len())?);
+    let mut list = ListBuilder::from_vec(Vec::with_capacity(alloc, items.len())?);
     for item in items {
         list.push(value_of(alloc, item, most)?)?;
     }
-    Ok(list)
+    Ok(list.build()?)
 }
 
 #[cycle(whole)]
@@ -210,12 +210,12 @@ fn record_of(
     ensures keeps { IfOk result (λ r. KeepMembers (pairs_of r)) }
     ensures fit { OnOk result (members_fit most (seen.members_view members.now.entries) ≡ true) }
 {
-    let mut record = Record::from_vec(Vec::with_capacity(alloc, members.len())?);
+    let mut record = RecordBuilder::from_vec(Vec::with_capacity(alloc, members.len())?);
     for (name, member) in members.iter() {
         let key = Text::from_str(alloc, name.as_str())?;
         record.push(key, value_of(alloc, member, most)?)?;
     }
-    Ok(record)
+    Ok(record.build()?)
 }
 
 /// Why JSON stands for no value: the first bad number, or its depth where no number is bad. `None` where

@@ -1,6 +1,7 @@
 //! Values of templates. Texts are those of `gl_text`.
 #![tactic(auto)]
 
+mod building;
 mod comparing;
 mod copying;
 mod json;
@@ -15,6 +16,7 @@ mod scalar;
 mod value;
 mod writing;
 
+pub use building::{ListBuilder, RecordBuilder};
 pub use gl_text::{Text, Texts};
 pub use json::{JsonFault, json_fault};
 pub use named::NamedValues;

@@ -1,32 +1,37 @@
 // The calls of a list of values.
-ghost use Rattle.std.specs.Prelude.{◌≡◌, ◌↔◌, [], ◌∷◌, ◌++◌, IsTrue, OnOk, OnErr, length, option_map, slice_get};
+ghost use Rattle.std.specs.Prelude.{◌≡◌, ◌↔◌, [], IsTrue, IfOk, length, option_map, slice_get};
 ghost use Rattle.gl_value.specs.View.{view, seen_items};
 
 use crate::{List, Value};
 use std::alloc::{AllocError, Global};
+use std::rc::Rc;
 
 impl List {
-    /// The empty list. It takes no memory.
-    pub fn new(alloc: Global) -> List
-        ensures { result ≡ [] }
+    /// The empty list.
+    pub fn new(alloc: Global) -> Result<List, AllocError>
+        ensures { IfOk result (λ l. l ≡ []) }
     {
-        List {
-            list: Vec::new(alloc),
+        List::from_vec(Vec::new(alloc))
+    }
+
+    /// The list of the values of a vector.
+    pub fn from_vec(items: Vec<Value>) -> Result<List, AllocError>
+        ensures { IfOk result (λ l. l ≡ seen_items items.items) }
+    {
+        let alloc = *items.allocator();
+        Ok(List {
+            list: Rc::new(alloc, items)?,
+        })
+    }
+
+    /// Gives the values as a vector: the list's own where no other shares them, and else copies.
+    pub fn into_vec(self) -> Result<Vec<Value>, AllocError>
+        ensures { IfOk result (λ items. seen_items items.items ≡ self) }
+    {
+        match Rc::try_unwrap(self.list) {
+            Ok(items) => Ok(items),
+            Err(shared) => copied(shared.as_ref()),
         }
-    }
-
-    /// The list of the values of a vector. It takes no memory.
-    pub fn from_vec(list: Vec<Value>) -> List
-        ensures { result ≡ seen_items list.items }
-    {
-        List { list }
-    }
-
-    /// Gives the vector back. It takes no memory.
-    pub fn into_vec(self) -> Vec<Value>
-        ensures { seen_items result.items ≡ self }
-    {
-        self.list
     }
 
     pub fn as_slice(&self) -> &[Value]
@@ -53,13 +58,15 @@ impl List {
     {
         self.list.as_slice().get(at)
     }
+}
 
-    /// Adds a value at the end.
-    pub fn push(&mut self, value: Value) -> Result<(), AllocError>
-        ensures ok { OnOk result (self.new ≡ self.old ++ view value ∷ []) }
-        ensures err { OnErr result (self.new ≡ self.old) }
-    {
-        self.list.push(value)?;
-        Ok(())
+// A vector with copies of the values.
+fn copied(items: &Vec<Value>) -> Result<Vec<Value>, AllocError>
+    ensures { IfOk result (λ copies. seen_items copies.items ≡ seen_items items.now.items) }
+{
+    let mut copies = Vec::with_capacity(*items.allocator(), items.len())?;
+    for item in items {
+        copies.push(item.copy()?)?;
     }
+    Ok(copies)
 }

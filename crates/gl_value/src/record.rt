@@ -1,5 +1,5 @@
 // The calls of a record.
-ghost use Rattle.std.specs.Prelude.{◌≡◌, ◌<◌, ◌≤◌, [], ◌∷◌, ◌++◌, OnOk, OnErr, length, option_map, not};
+ghost use Rattle.std.specs.Prelude.{◌≡◌, ◌<◌, [], IfOk, length, option_map, not};
 ghost use Rattle.std.specs.List.{find};
 ghost use Rattle.std.specs.Str.{bytes_eq, chars};
 ghost use Rattle.gl_base.specs.Names.{named};
@@ -7,30 +7,34 @@ ghost use Rattle.gl_value.specs.View.{view, seen_pairs};
 
 use crate::{Pair, Record, Text, Value};
 use std::alloc::{AllocError, Global};
+use std::rc::Rc;
 
 impl Record {
-    /// The empty record. It takes no memory.
-    pub fn new(alloc: Global) -> Record
-        ensures { result ≡ [] }
+    /// The empty record.
+    pub fn new(alloc: Global) -> Result<Record, AllocError>
+        ensures { IfOk result (λ r. r ≡ []) }
     {
-        Record {
-            list: Vec::new(alloc),
+        Record::from_vec(Vec::new(alloc))
+    }
+
+    /// The record of the pairs of a vector, as they stand: their keys are to rise in byte order.
+    pub fn from_vec(pairs: Vec<Pair>) -> Result<Record, AllocError>
+        ensures { IfOk result (λ r. r ≡ seen_pairs pairs.items) }
+    {
+        let alloc = *pairs.allocator();
+        Ok(Record {
+            list: Rc::new(alloc, pairs)?,
+        })
+    }
+
+    /// Gives the pairs as a vector: the record's own where no other shares them, and else copies.
+    pub fn into_vec(self) -> Result<Vec<Pair>, AllocError>
+        ensures { IfOk result (λ pairs. seen_pairs pairs.items ≡ self) }
+    {
+        match Rc::try_unwrap(self.list) {
+            Ok(pairs) => Ok(pairs),
+            Err(shared) => copied(shared.as_ref()),
         }
-    }
-
-    /// The record of the pairs of a vector, as they stand: their keys are to rise in byte order. It takes no
-    /// memory.
-    pub fn from_vec(list: Vec<Pair>) -> Record
-        ensures { result ≡ seen_pairs list.items }
-    {
-        Record { list }
-    }
-
-    /// Gives the vector back. It takes no memory.
-    pub fn into_vec(self) -> Vec<Pair>
-        ensures { seen_pairs result.items ≡ self }
-    {
-        self.list
     }
 
     pub fn as_slice(&self) -> &[Pair]
@@ -45,21 +49,25 @@ impl Record {
         self.list.len()
     }
 
-    /// Adds a pair at the end, as it stands: its key is to be greater, by bytes, than those there.
-    pub fn push(&mut self, key: Text, value: Value) -> Result<(), AllocError>
-        ensures ok { OnOk result (self.new ≡ self.old ++ (key, view value) ∷ []) }
-        ensures err { OnErr result (self.new ≡ self.old) }
-    {
-        self.list.push(Pair { key, value })?;
-        Ok(())
-    }
-
     /// The value at a key.
     pub fn get(&self, key: &str) -> Option<&Value>
         ensures { option_map (λ v. view v.now) result ≡ named (chars key.now) self.now }
     {
         value_at(self.list.as_slice(), key)
     }
+}
+
+// A vector with copies of the pairs.
+fn copied(pairs: &Vec<Pair>) -> Result<Vec<Pair>, AllocError>
+    ensures { IfOk result (λ copies. seen_pairs copies.items ≡ seen_pairs pairs.now.items) }
+{
+    let mut copies = Vec::with_capacity(*pairs.allocator(), pairs.len())?;
+    for pair in pairs {
+        let key = pair.key.copy()?;
+        let value = pair.value.copy()?;
+        copies.push(Pair { key, value })?;
+    }
+    Ok(copies)
 }
 
 // The value of the first pair of that key.

@@ -5,6 +5,7 @@ ghost use Rattle.gl_value.specs.View.{view};
 
 use crate::Text;
 use std::marker::Model;
+use std::rc::Rc;
 
 /// A value: undefined, null, a Boolean, an integer within plus or minus [`GREATEST`], a text, a list, a
 /// record or an action.
@@ -27,11 +28,12 @@ pub const GREATEST: i64 = 9_007_199_254_740_991;
 /// How deep a value may be nested: a list or a record is one deeper than the deepest of its members.
 pub const DEEPEST: u32 = 100;
 
-/// A list of values. Contracts see the values as definitions see them.
+/// A list of values. Contracts see the values as definitions see them. Copies of a list share its values,
+/// which never change.
 #[derive(Drop)]
 #[cycle(value)]
 pub struct List {
-    pub(crate) list: Vec<Value>,
+    pub(crate) list: Rc<Vec<Value>>,
 }
 
 /// A key with its value.
@@ -43,10 +45,11 @@ pub struct Pair {
 }
 
 /// Keys with their values, in the byte order of the keys. Contracts see the values as definitions see them.
+/// Copies of a record share its pairs, which never change.
 #[derive(Drop)]
 #[cycle(value)]
 pub struct Record {
-    pub(crate) list: Vec<Pair>,
+    pub(crate) list: Rc<Vec<Pair>>,
 }
 
 /// An action: the number of the instance that owns it, its name and its fixed arguments.
@@ -70,7 +73,7 @@ impl Model for List {
 
     ghost use Rattle.gl_value.specs.View.{seen_items};
 
-    ghost view = { λ a. seen_items a.list.items };
+    ghost view = { λ a. seen_items a.list.value.items };
 
     ghost size = { λ vs. suc (v.values_depth (v.values_of vs)) };
 
@@ -91,7 +94,7 @@ impl Model for Record {
 
     ghost use Rattle.gl_value.specs.View.{seen_pairs};
 
-    ghost view = { λ a. seen_pairs a.list.items };
+    ghost view = { λ a. seen_pairs a.list.value.items };
 
     ghost size = { λ ps. suc (v.members_depth (v.pairs_of ps)) };
 

@@ -19,7 +19,7 @@ impl List {
         ensures { OnOk result (out.new ≡ out.old ++ texts_of false (values_of self.now)) }
     {
         let mut later = false;
-        for item in &self.list {
+        for item in self.list.iter() {
             push_comma_if(out, later)?;
             item.write(out)?;
             later = true;

@@ -1,7 +1,7 @@
 // Calls of helpers. Values are written in JSON, where the text `?` stands for undefined, and a record with
 // the key `@go` for the action `go` of the instance 7 with the fixed arguments that stand there.
 use gl_helpers::call;
-use gl_value::{Act, List, NamedValues, Record, Text, Value};
+use gl_value::{Act, ListBuilder, NamedValues, RecordBuilder, Text, Value};
 use std::alloc::{AllocError, Global};
 use std::process::Abort;
 use std::test::Fail;
@@ -183,18 +183,18 @@ fn read(alloc: Global, text: &str) -> Result<Value, Fail> {
 fn marked(alloc: Global, value: &Value) -> Result<Value, AllocError> {
     match value {
         Value::List(list) => {
-            let mut items = List::new(alloc);
+            let mut items = ListBuilder::new(alloc);
             for item in list.as_slice() {
                 items.push(member(alloc, item)?)?;
             }
-            Ok(Value::List(items))
+            Ok(Value::List(items.build()?))
         }
         Value::Record(record) if record.get("@go").is_none() => {
-            let mut pairs = Record::new(alloc);
+            let mut pairs = RecordBuilder::new(alloc);
             for pair in record.as_slice() {
                 pairs.push(pair.key.copy()?, member(alloc, &pair.value)?)?;
             }
-            Ok(Value::Record(pairs))
+            Ok(Value::Record(pairs.build()?))
         }
         _ => member(alloc, value),
     }
@@ -307,9 +307,9 @@ static DEEP: [Deep; 15] = [
 fn nested(alloc: Global, depth: u32) -> Result<Value, AllocError> {
     let mut value = Value::Int(0);
     for _ in 0..depth {
-        let mut list = List::new(alloc);
+        let mut list = ListBuilder::new(alloc);
         list.push(value)?;
-        value = Value::List(list);
+        value = Value::List(list.build()?);
     }
     Ok(value)
 }

@@ -1,6 +1,7 @@
 // Values and texts, as callers meet them.
 use gl_value::{
-    Act, Found, JsonFault, List, NamedValues, Record, Text, Value, key_of, laws, quote,
+    Act, Found, JsonFault, List, ListBuilder, NamedValues, Record, RecordBuilder, Text, Value,
+    key_of, laws, quote,
 };
 use std::alloc::Global;
 use std::process::Abort;
@@ -382,12 +383,12 @@ fn depths(rt: HostRuntime) -> Result<(), Fail> {
 // The action `go` of instance 7, with the fixed argument 1.
 fn action(alloc: Global) -> Result<Value, Fail> {
     let name = text(alloc, "go")?;
-    let mut fixed = List::new(alloc);
+    let mut fixed = ListBuilder::new(alloc);
     fixed.push(Value::Int(1))?;
     Ok(Value::Act(Act {
         owner: 7,
         name,
-        fixed,
+        fixed: fixed.build()?,
     }))
 }
 
@@ -421,10 +422,10 @@ fn actions(rt: HostRuntime) -> Result<(), Fail> {
 
 // A record with an action at `a` and an empty list at `b`.
 fn record(alloc: Global) -> Result<Record, Fail> {
-    let mut record = Record::new(alloc);
+    let mut record = RecordBuilder::new(alloc);
     record.push(text(alloc, "a")?, action(alloc)?)?;
-    record.push(text(alloc, "b")?, Value::List(List::new(alloc)))?;
-    Ok(record)
+    record.push(text(alloc, "b")?, Value::List(List::new(alloc)?))?;
+    Ok(record.build()?)
 }
 
 // What is found in the record: the action itself, and no data at `a`; the length of the list at `b`.
@@ -456,11 +457,12 @@ fn records(rt: HostRuntime) -> Result<(), Fail> {
 #[test]
 fn lists(rt: HostRuntime) -> Result<(), Fail> {
     let alloc = rt.alloc();
-    let pairs = record(alloc)?.into_vec();
-    let mut list = List::from_vec(Vec::new(alloc));
-    list.push(Value::Record(Record::from_vec(pairs)))?;
+    let pairs = record(alloc)?.into_vec()?;
+    let mut items = ListBuilder::from_vec(Vec::new(alloc));
+    items.push(Value::Record(Record::from_vec(pairs)?))?;
+    let list = items.build()?;
     assert!(rt; list.len() == 1 && !list.is_empty() && list.get(1).is_none());
-    assert!(rt; list.as_slice().len() == 1 && list.copy()?.into_vec().len() == 1);
+    assert!(rt; list.as_slice().len() == 1 && list.copy()?.into_vec()?.len() == 1);
     Ok(())
 }
 

@@ -3,6 +3,7 @@ ghost use Rattle.std.specs.Prelude.{◌≡◌, ◌↔◌, [], ◌∷◌, ◌++�
 ghost use Rattle.gl_wire.specs.View.{stmt_view, seen_stmts};
 
 use crate::{WireBody, WireStmt};
+use gl_ast::push_tight;
 use std::alloc::{AllocError, Global};
 
 impl WireBody {
@@ -59,7 +60,6 @@ impl WireBody {
         ensures ok { OnOk result (self.new ≡ self.old ++ stmt_view item ∷ []) }
         ensures err { OnErr result (self.new ≡ self.old) }
     {
-        self.list.push(item)?;
-        Ok(())
+        push_tight(&mut self.list, item)
     }
 }

@@ -3,6 +3,7 @@ ghost use Rattle.std.specs.Prelude.{◌≡◌, ◌↔◌, [], ◌∷◌, ◌++�
 ghost use Rattle.gl_wire.specs.View.{expr_view, seen_exprs};
 
 use crate::{WireExpr, WireExprs};
+use gl_ast::push_tight;
 use std::alloc::{AllocError, Global};
 
 impl WireExprs {
@@ -59,7 +60,6 @@ impl WireExprs {
         ensures ok { OnOk result (self.new ≡ self.old ++ expr_view item ∷ []) }
         ensures err { OnErr result (self.new ≡ self.old) }
     {
-        self.list.push(item)?;
-        Ok(())
+        push_tight(&mut self.list, item)
     }
 }

@@ -63,3 +63,18 @@ pub fn to_text(alloc: Global, wire: &Wire) -> Result<Text, AllocError>
     let json = to_json(alloc, wire)?;
     Ok(Text::from_string(json.to_string(alloc)?))
 }
+
+// The JSON of a wire, which is let go.
+fn into_json(alloc: Global, wire: Wire) -> Result<Value, AllocError>
+    ensures { IfOk result (λ v. view v ≡ json_of (wire_view wire)) }
+{
+    to_json(alloc, &wire)
+}
+
+/// The JSON of a wire as text, without white space. The wire is let go before the text is written.
+pub fn into_text(alloc: Global, wire: Wire) -> Result<Text, AllocError>
+    ensures { IfOk result (λ t. t ≡ wire_text (wire_view wire)) }
+{
+    let json = into_json(alloc, wire)?;
+    Ok(Text::from_string(json.to_string(alloc)?))
+}

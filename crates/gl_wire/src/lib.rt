@@ -20,7 +20,7 @@ mod version;
 mod wire;
 
 pub use expr::{Head, WireExpr, WireExprs, WirePair, WirePairs};
-pub use json::{json_in, to_json, to_text};
+pub use json::{into_text, json_in, to_json, to_text};
 pub use part::{WirePart, WireParts};
 pub use stmt::{WireBody, WireSlot, WireSlots, WireStmt};
 pub use symbols::Symbols;

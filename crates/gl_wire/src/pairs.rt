@@ -3,6 +3,7 @@ ghost use Rattle.std.specs.Prelude.{◌≡◌, ◌↔◌, [], ◌∷◌, ◌++�
 ghost use Rattle.gl_wire.specs.View.{pair_view, seen_pairs};
 
 use crate::{WirePair, WirePairs};
+use gl_ast::push_tight;
 use std::alloc::{AllocError, Global};
 
 impl WirePairs {
@@ -59,7 +60,6 @@ impl WirePairs {
         ensures ok { OnOk result (self.new ≡ self.old ++ pair_view item ∷ []) }
         ensures err { OnErr result (self.new ≡ self.old) }
     {
-        self.list.push(item)?;
-        Ok(())
+        push_tight(&mut self.list, item)
     }
 }

@@ -3,6 +3,7 @@ ghost use Rattle.std.specs.Prelude.{◌≡◌, ◌↔◌, [], ◌∷◌, ◌++�
 ghost use Rattle.gl_wire.specs.View.{part_view, seen_parts};
 
 use crate::{WirePart, WireParts};
+use gl_ast::push_tight;
 use std::alloc::{AllocError, Global};
 
 impl WireParts {
@@ -59,7 +60,6 @@ impl WireParts {
         ensures ok { OnOk result (self.new ≡ self.old ++ part_view item ∷ []) }
         ensures err { OnErr result (self.new ≡ self.old) }
     {
-        self.list.push(item)?;
-        Ok(())
+        push_tight(&mut self.list, item)
     }
 }

@@ -6,6 +6,7 @@ ghost use Rattle.gl_wire.specs.Json.{array_of, text_json, texts_json, places_jso
 ghost use Rattle.gl_wire.specs.Rows.{shown};
 
 use crate::Symbols;
+use gl_ast::push_tight;
 use gl_value::{Text, Texts};
 use serde_json::Value;
 use std::alloc::{AllocError, Global};
@@ -39,8 +40,7 @@ impl Row {
     pub fn push(&mut self, value: Value) -> Result<(), AllocError>
         ensures { OnOk result (shown self.new ≡ shown self.old ++ view value ∷ []) }
     {
-        self.list.push(value)?;
-        Ok(())
+        push_tight(&mut self.list, value)
     }
 
     /// Adds a text at the end.

@@ -3,6 +3,7 @@ ghost use Rattle.std.specs.Prelude.{◌≡◌, ◌↔◌, [], ◌∷◌, ◌++�
 ghost use Rattle.gl_wire.specs.View.{slot_view, seen_slots};
 
 use crate::{WireSlot, WireSlots};
+use gl_ast::push_tight;
 use std::alloc::{AllocError, Global};
 
 impl WireSlots {
@@ -59,7 +60,6 @@ impl WireSlots {
         ensures ok { OnOk result (self.new ≡ self.old ++ slot_view item ∷ []) }
         ensures err { OnErr result (self.new ≡ self.old) }
     {
-        self.list.push(item)?;
-        Ok(())
+        push_tight(&mut self.list, item)
     }
 }

@@ -1,6 +1,7 @@
 // Places among the symbols of a wire.
 ghost use Rattle.std.specs.Prelude.{◌≡◌, ◌↔◌, [], ◌∷◌, ◌++◌, IsTrue, OnOk, OnErr, length, option_map, slice_get};
 
+use gl_ast::push_tight;
 use std::alloc::{AllocError, Global};
 use std::marker::Model;
 
@@ -72,7 +73,6 @@ impl Symbols {
         ensures ok { OnOk result (self.new ≡ self.old ++ place ∷ []) }
         ensures err { OnErr result (self.new ≡ self.old) }
     {
-        self.list.push(place)?;
-        Ok(())
+        push_tight(&mut self.list, place)
     }
 }

@@ -29,7 +29,7 @@ returns-in-Ok-clause-ok c = λ templates s lowered x t.
     let made : Turn = record { text = c.in_ok-text-in-Ok.text; work = w.result } in
     goes_as a templates s (Some e) c.next_text.new.page c.renew.new.page made z.vm z.code
     (next_goes a templates (names_rise (manifest_view a.manifest) c.keeps.ensures.rules) lowered page s x e c.in_ok-sets.field-0.sets given applied.0 c.in_ok-sets.ensures.own found c.lay.new.vm did
-    c.renew.new.page c.in-Ok.ensures.ok c.in-Ok.ensures.nodes z.flat z.sound c.in_ok-before.before.list.items z.after c.in_ok-before.ensures z.lists z.destroyed z.logs empty c.args.turn c.as_slice.result.now
+    c.renew.new.page c.in-Ok.ensures.ok c.in-Ok.ensures.nodes z.flat z.sound c.in_ok-before.before.list.items c.in_ok-before.ensures z.destroyed z.logs empty c.args.turn c.as_slice.result.now
     made t (c.as_slice.ensures.value ∙ applied.1) z.told c.in-Ok.moved c.in-Ok.ensures.moved
     (record { evaluated = w.ensures.evaluated; made = w.ensures.made ∙ ap (λ k. c.renew.new.page.vm.tree.nodes.made - k) c.upcoming-first.ensures; moved = w.ensures.moved }))
 

@@ -10,7 +10,7 @@ loop-at-preserved c =
     let bs = c.args.text.now in
     let left : c.split_at.result.1.now ≡ drop at list = rw (c.split_at.ensures.back, c.as_slice.ensures.value) refl in
     let within : at < length list = let h = c.loop-at.invariant.whole in let k = c.loop-at-test.true in omega (arith, h, k) in
-    let text = rw (c.as_bytes-bytes.ensures.value, left) at c.in_ok-text.ensures in
+    let text = rw (c.as_bytes-bytes.ensures.value, left) at c.changed-text.ensures in
     let front = rw (c.as_bytes-bytes.ensures.value, left) at c.front_after-front.ensures in
     let tag = rw left at c.tag_after-tag.ensures in
     let new : c.put_at.new.list.items ≡ put_at at (changed bs c.loop-at.tag c.loop-at.front (drop at list)) list =

@@ -1,7 +1,9 @@
-use Rattle.std.proofs.Common.{◌+◌, drop, map, rules, append-nil}
+use Rattle.std.proofs.Common.{◌+◌, drop, map, rules, append-nil, subst, sym}
 use Rattle.std.specs.Prelude.{string_bytes}
 use Rattle.gl_base.proofs.Lists.{drop_item}
 use Rattle.serde_json.specs.View as seen
+use Rattle.gl_value.specs.Proper.{KeepMembers}
+use Rattle.gl_value.specs.Value.{pairs_of}
 use Rattle.gl_value.specs.View.{view}
 use Rattle.gl_value.proofs.Reading.{item_fit, member_fit, item_next, member_next}
 use Rattle.gl_value.proofs.Keeping.{keeps_members, keys-seen}
@@ -25,4 +27,4 @@ pub record_of-returns-clause-keeps : goal.record_of-returns-clause-keeps
 record_of-returns-clause-keeps t c =
     let l = c.loop-name in
     let whole = rw (c.in-None.ensures.steps.0, append-nil) at l.invariant.2.whole in
-    keeps_members (map (λ m. (m.0, seen.view m.1)) c.args.members.now.entries) l.record (rw (keys-seen seen.view c.args.members.now.entries) c.iter-name-items.ensures.ordered) whole l.invariant.2.keeps
+    subst (λ r. KeepMembers (pairs_of r)) (sym c.in_ok-build.ensures) (keeps_members (map (λ m. (m.0, seen.view m.1)) c.args.members.now.entries) l.record (rw (keys-seen seen.view c.args.members.now.entries) c.iter-name-items.ensures.ordered) whole l.invariant.2.keeps)

@@ -1,3 +1,4 @@
+use Rattle.std.proofs.Common.{ap}
 use Rattle.gl_nodes.proofs.Asked.{puts_last}
 use Rattle.gl_nodes.proofs.Views.{on_ok}
 use Rattle.gl_nodes.proofs.tree.NodeTree.put_last.Goals as goal
@@ -5,3 +6,12 @@ use Rattle.gl_nodes.proofs.tree.NodeTree.put_last.Goals as goal
 pub returns-clause-ok : goal.returns-clause-ok
 returns-clause-ok c =
     on_ok c.insert_before.result (puts_last c.args.self.now c.insert_before.new.self c.args.parent c.args.node c.insert_before.ensures.sound (c.can_put.ensures c.if-not-can_put.false).1) c.insert_before.ensures.flat
+
+pub returns-clause-made : goal.returns-clause-made
+returns-clause-made c = on_ok c.insert_before.result (ap (λ t. t.made)) c.insert_before.ensures.ok
+
+pub returns-clause-moves : goal.returns-clause-moves
+returns-clause-moves c = on_ok c.insert_before.result (ap (λ t. t.moves)) c.insert_before.ensures.ok
+
+pub returns-clause-inserts : goal.returns-clause-inserts
+returns-clause-inserts c = on_ok c.insert_before.result (ap (λ t. t.inserts)) c.insert_before.ensures.ok

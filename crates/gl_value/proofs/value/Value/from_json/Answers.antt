@@ -1,7 +1,7 @@
 use Rattle.std.proofs.Common.{◌≡◌, ℕ, None, Ok, sym, ap, ◌∙◌, arith}
 use Rattle.std.proofs.lemmas.Option.{none-some}
 use Rattle.serde_json.specs.View as seen
-use Rattle.gl_value.specs.Json.{first_bad, from_json}
+use Rattle.gl_value.specs.Json.{first_bad}
 use Rattle.gl_value.specs.Value.{depth}
 use Rattle.gl_value.proofs.Fitting.{fit, told_fit}
 use Rattle.gl_value.proofs.Reading.{depth-value_of}

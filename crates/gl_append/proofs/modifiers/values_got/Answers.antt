@@ -7,7 +7,7 @@ use Rattle.gl_plain.specs.State.{pair_of}
 use Rattle.gl_vm.specs.Labels.{labelled, all_labelled}
 use Rattle.gl_vm.specs.View.{stamps, state_of}
 use Rattle.gl_append.proofs.ListLaws.{item_next, listed_on}
-use Rattle.gl_append.proofs.modifiers.values_of.Goals as goal
+use Rattle.gl_append.proofs.modifiers.values_got.Goals as goal
 
 pub loop-id-preserved : goal.loop-id-preserved
 loop-id-preserved c n u =
