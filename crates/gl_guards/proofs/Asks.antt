@@ -28,7 +28,7 @@ use Rattle.gl_guards.proofs.Leaves.{ended_on, mods_left, given_more, all_left, r
 use Rattle.gl_machine.proofs.Following.{either}
 use Rattle.gl_guards.proofs.Parts.{Elem, handle, elems, front, is_elem, taken_elem, both_handles, handles_taken, times_elem, times_elems, times_elems_of, EachElem, Parted, parted, OneLeft, one_left, ElemLeft, given_left, sync_left, renewing, attrs_counted, mods_counted, code_left, codes_left}
 use Rattle.gl_guards.proofs.Steps.{Step, codes_go, items_go, room_less, room_into, room_beside, step_beside}
-use Rattle.gl_guards.proofs.Same.{SettledAt, SettledElem, ElemOwns, elems_settled, elems_go, given_settled, path_is, ElemSame, sync_same, idle, guarding, guarded_are, idle_are, region_same, code_same, codes_same, items_same}
+use Rattle.gl_guards.proofs.Same.{SettledAt, SettledElem, ElemOwns, elems_settled, elems_go, given_settled, path_is, ElemSame, sync_same, idle, fresh_alone, guarding, entered_are, idle_are, region_same, code_same, codes_same, items_same}
 use Rattle.gl_guards.proofs.Outcomes.{Holds, holds_on, holds_both, holds_then, ended_then, holds_fact, items_in, codes_in}
 
 module _ (naming : Naming) (notes : NotesApart naming) (run : Runs) (st0 : State) (t_end : Source → Bool) (look1 : Id → Option Thing) (t1 : Source → Bool) (stays : Path → Bool) where
@@ -125,7 +125,7 @@ module _ (naming : Naming) (notes : NotesApart naming) (run : Runs) (st0 : State
   region_left : (m : ℕ) (q : Path) (around : Id → ℕ) (cs : Codes) (st : State) → Room st around (λ i. times_in i (lives_of cs)) → OwnsIn naming run cs → SettledIn naming st around q 0 cs → NestsIn (lives_of cs) m
       → Ended (guarded_region m q cs st) (λ r. Leaves naming st r.1 (λ i. times_in i (lives_of cs)))
   region_left m q around cs st room o s d =
-      subst (λ z. Ended z (λ r. Leaves naming st r.1 (λ i. times_in i (lives_of cs)))) (sym (region_same naming notes run m q around cs st s d (codes_same naming notes run m q 0 around cs st room o s d)))
+      subst (λ z. Ended z (λ r. Leaves naming st r.1 (λ i. times_in i (lives_of cs)))) (sym (region_same naming notes run any_stale fresh_alone m q around cs st s d (codes_same naming notes run any_stale fresh_alone true m q 0 around cs st room o s d)))
       (codes_left naming notes run m q 0 cs st o)
 
   -- the bound of a region, from that of what is in it
@@ -512,7 +512,7 @@ module _ (naming : Naming) (notes : NotesApart naming) (run : Runs) (st0 : State
     by true e k =
         let o1 = synced m (fresh_item_as naming run z m) (items ∷ p) (entries z.key 0 [] (value v vs)) (elems is) st in
         let k1 : Holds o1 (λ r. CodeDone p (listed_code z x r.0, r.1)) =
-        subst (λ hs. Holds (sync_codes_as naming (fresh_item_as naming run z m) (items ∷ p) (entries z.key 0 [] (value v vs)) hs st) (λ r. CodeDone p (listed_code z x r.0, r.1))) (guarded_are naming notes run m is)
+        subst (λ hs. Holds (sync_codes_as naming (fresh_item_as naming run z m) (items ∷ p) (entries z.key 0 [] (value v vs)) hs st) (λ r. CodeDone p (listed_code z x r.0, r.1))) (entered_are naming notes run any_stale fresh_alone true m is)
         (holds_on (sync_codes_as naming (fresh_item_as naming run z m) (items ∷ p) (entries z.key 0 [] (value v vs)) (guarded_handles_as naming run m is) st) (λ r. ok (listed_code z x r.0, r.1)) (CodeDone p) k) in
         let done : Holds o1 (ItemsDone (items ∷ p)) = holds_then o1 _ (ItemsDone (items ∷ p)) k1 (λ r w. (w.0, w.1.1)) in
         let sq = holds_fact o1 (stays (items ∷ p) ≡ true) (holds_then o1 _ (λ r. stays (items ∷ p) ≡ true) k1 (λ r w. w.1.0)) in
@@ -555,7 +555,7 @@ module _ (naming : Naming) (notes : NotesApart naming) (run : Runs) (st0 : State
         let mo1 = moment_then st st1 around c (λ q. times q (live_of (element_code n made xs zs cs))) (λ q w. omega (arith, w)) mo step in
         let g = guarded_codes_as naming run m p 0 cs st1 in
         let k = holds_on g (λ r. ok (element_code n made xs zs r.0, renew_mods zs r.1)) (CodeDone p) h in
-        let left = subst (λ z. Ended z (λ r. Leaves naming st1 r.1 c)) (sym (codes_same naming notes run m p 0 around cs st1 room1 o.2 s1 d)) (codes_left naming notes run m p 0 cs st1 o.2) in
+        let left = subst (λ z. Ended z (λ r. Leaves naming st1 r.1 c)) (sym (codes_same naming notes run any_stale fresh_alone true m p 0 around cs st1 room1 o.2 s1 d)) (codes_left naming notes run m p 0 cs st1 o.2) in
         let call : Id → ℕ = λ q. times_mods q zs in
         let done : Holds g (BodyDone p 0) =
         holds_both g (λ r. Leaves naming st1 r.1 c) (λ r. CodeDone p (element_code n made xs zs r.0, renew_mods zs r.1)) (BodyDone p 0) left k
@@ -640,7 +640,7 @@ module _ (naming : Naming) (notes : NotesApart naming) (run : Runs) (st0 : State
               let w : Holds g (λ r. CodeDone p (listed_code z x r.0, r.1)) = holds_on g (λ r. ok (listed_code z x r.0, r.1)) (CodeDone p) k in
               let left : Ended g (λ r. Leaves naming st r.1 c) =
               either (any_stale st ps) (λ e. Ended (if e then go else ok (is, st)) (λ r. Leaves naming st r.1 c))
-              (subst (λ y. Ended y (λ r. Leaves naming st r.1 c)) (sym (items_same naming notes run m (items ∷ p) around is st ri' o.2 s.1 d)) (items_left m (items ∷ p) is st o.2)) (all_left naming st c) in
+              (subst (λ y. Ended y (λ r. Leaves naming st r.1 c)) (sym (items_same naming notes run any_stale fresh_alone true m (items ∷ p) around is st ri' o.2 s.1 d)) (items_left m (items ∷ p) is st o.2)) (all_left naming st c) in
               let u : Under st = holds_fact g (Under st) (holds_both g (λ r. Leaves naming st r.1 c) _ (λ r. Under st) left w (λ r v f. under_before st r.1 c c mo' v f.0)) in
               let sq = holds_fact g (stays (items ∷ p) ≡ true) (holds_then g _ (λ r. stays (items ∷ p) ≡ true) w (λ r v. v.1.0)) in
               let done : Holds g (ItemsDone (items ∷ p)) = holds_then g _ (ItemsDone (items ∷ p)) w (λ r v. (v.0, v.1.1)) in
@@ -690,7 +690,7 @@ module _ (naming : Naming) (notes : NotesApart naming) (run : Runs) (st0 : State
         let g = guarded_code_as naming run m (at i ∷ p) c st in
         let ra = room_less st around ca _ (λ q. omega arith) room in
         let left : Ended g (λ r. Leaves naming st r.1 ca) =
-        subst (λ z. Ended z (λ r. Leaves naming st r.1 ca)) (sym (code_same naming notes run m (at i ∷ p) around c st ra o.0 s.0 d.0)) (code_left naming notes run m (at i ∷ p) c st o.0) in
+        subst (λ z. Ended z (λ r. Leaves naming st r.1 ca)) (sym (code_same naming notes run any_stale fresh_alone true m (at i ∷ p) around c st ra o.0 s.0 d.0)) (code_left naming notes run m (at i ∷ p) c st o.0) in
         let all =
         holds_both g (λ r. Leaves naming st r.1 ca) (λ r. Holds (on_ok (guarded_codes_as naming run m p (suc i) cs r.1) (λ z. ok (code_and r.0 z.0, z.1))) (BodyDone p i))
         (λ r. CodeDone (at i ∷ p) r × (codes_asks_as naming run m p (suc i) cs r.1 ≤ asks_in look1 t1 stays p (suc i) (lives_of cs))) left
@@ -703,7 +703,7 @@ module _ (naming : Naming) (notes : NotesApart naming) (run : Runs) (st0 : State
         let mo2 = moment_then st r.1 around cb (λ q. times_in q (lives_of (code_and c cs))) (λ q w. omega (arith, w)) mo step in
         let rs = regions_of (at i ∷ p) (live_of r.0) in
         let w : Holds g2 (λ z. Under z.1 × StaysAll (rs ++ regions_in p (suc i) (lives_of z.0))) = holds_on g2 (λ z. ok (code_and r.0 z.0, z.1)) (BodyDone p i) k in
-        let left2 = subst (λ z. Ended z (λ y. Leaves naming r.1 y.1 cb)) (sym (codes_same naming notes run m p (suc i) around cs r.1 room2 o.1 s2 d.1)) (codes_left naming notes run m p (suc i) cs r.1 o.1) in
+        let left2 = subst (λ z. Ended z (λ y. Leaves naming r.1 y.1 cb)) (sym (codes_same naming notes run any_stale fresh_alone true m p (suc i) around cs r.1 room2 o.1 s2 d.1)) (codes_left naming notes run m p (suc i) cs r.1 o.1) in
         let f = holds_fact g2 (CodeDone (at i ∷ p) r) (holds_both g2 (λ y. Leaves naming r.1 y.1 cb) _ (λ y. CodeDone (at i ∷ p) r) left2 w (λ y l2 v. (under_before r.1 y.1 cb cb mo2 l2 v.0, stays_left rs (regions_in p (suc i) (lives_of y.0)) v.1))) in (
           f,
           codes_le m p (suc i) around cs r.1 room2 o.1 s2 d.1 mo2 (rise_right (positions_of (live_of c)) (positions_in (lives_of cs)) ri)
@@ -739,7 +739,7 @@ module _ (naming : Naming) (notes : NotesApart naming) (run : Runs) (st0 : State
         let mo2 = moment_then st r.1 around cb (λ i. times_items i (items_of (item_code z k cs is))) (λ i u. omega (arith, u)) mo step in
         let rs = regions_in q 0 (lives_of r.0) in
         let v : Holds g2 (λ y. Under y.1 × ((stays q ≡ true) × StaysAll (rs ++ regions_items p (items_of y.0)))) = holds_on g2 (λ y. ok (item_code z k r.0 y.0, y.1)) (ItemsDone p) w in
-        let left2 = subst (λ y. Ended y (λ e. Leaves naming r.1 e.1 cb)) (sym (items_same naming notes run m p around is r.1 room2 o.1 s2 d.1)) (items_left m p is r.1 o.1) in
+        let left2 = subst (λ y. Ended y (λ e. Leaves naming r.1 e.1 cb)) (sym (items_same naming notes run any_stale fresh_alone true m p around is r.1 room2 o.1 s2 d.1)) (items_left m p is r.1 o.1) in
         let f =
         holds_fact g2 (Under r.1 × (stays q ≡ true) × StaysAll rs)
         (holds_both g2 (λ y. Leaves naming r.1 y.1 cb) _ (λ y. Under r.1 × (stays q ≡ true) × StaysAll rs) left2 v (λ y l2 u. (under_before r.1 y.1 cb cb mo2 l2 u.0, u.1.0, stays_left rs (regions_items p (items_of y.0)) u.1.1))) in (
@@ -757,7 +757,7 @@ module _ (naming : Naming) (notes : NotesApart naming) (run : Runs) (st0 : State
     elem_bounds m (item_code z k cs is) o d ri =
         let rise1 = rise_left (positions_in (lives_of cs)) (positions_items (items_of is)) ri in (
           record {
-            same = λ q st around room s. region_same naming notes run m q around cs st s d.0 (codes_same naming notes run m q 0 around cs st room o.0 s d.0);
+            same = λ q st around room s. region_same naming notes run any_stale fresh_alone m q around cs st s d.0 (codes_same naming notes run any_stale fresh_alone true m q 0 around cs st room o.0 s d.0);
             left = λ q st. codes_left naming notes run m q 0 cs st o.0;
             owns = o.0;
             nests = d.0;

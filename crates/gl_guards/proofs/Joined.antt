@@ -14,12 +14,13 @@ use Rattle.gl_machine.specs.Outcome.{Outcome, ok, on_ok}
 use Rattle.gl_machine.specs.RenewCode.{by_values, sync_codes_as, code_handles_as, fresh_item_as, fresh_other}
 use Rattle.gl_guards.specs.Questions.{codes_asks_as}
 use Rattle.std.specs.Prelude.{if◌then◌else◌}
+use Rattle.gl_guards.specs.Guarded.{any_stale}
 use Rattle.gl_guards.specs.Settled.{Fits, SettledIn}
-use Rattle.gl_guards.specs.Laws.{NamingsApart, FreshStays, FreshStaysIn, FreshStaysItems, FreshStaysRoot, ListGoesAlong, GuardedIsRenew, GuardedIsRenewIn, GuardedIsRenewItems, GuardedIsRenewRoot, FreshAsksOne}
+use Rattle.gl_guards.specs.Laws.{NamingsApart, FreshStays, FreshStaysIn, FreshStaysItems, FreshStaysRoot, ListGoesAlong, GuardedIsRenew, GuardedIsRenewIn, GuardedIsRenewItems, GuardedIsRenewRoot, EnteredIsRenew, EnteredIsRenewRoot, FreshAsksOne}
 use Rattle.gl_guards.proofs.Leaves.{all_left}
 use Rattle.gl_guards.proofs.Fresh.{code_stays, codes_stay, items_stay, reread_idle, list_chosen, or_right}
 use Rattle.gl_guards.proofs.Steps.{room_less, room_into}
-use Rattle.gl_guards.proofs.Same.{walks, region_same, code_same, codes_same, items_same}
+use Rattle.gl_guards.proofs.Same.{fresh_alone, walks, region_same, code_same, codes_same, items_same}
 
 all_pass : (xs : List ℕ) → filter (λ m. true) xs ≡ xs
 all_pass [] = refl
@@ -62,30 +63,37 @@ list_goes_along naming notes run around m p z x is st may e =
     (λ vs f. ap (λ o. on_ok o (λ r. ok (listed_code z x r.0, r.1)))
     (walks naming notes run one m (items ∷ p) around (entries z.key 0 [] vs) is st (room_less st around (λ q. times_items q (items_of is)) _ (λ q. omega arith) may.room) may.owns.2 f)) (may.settled.0.holds e)
 
-pub guarded_is_renew : GuardedIsRenew
-guarded_is_renew naming notes run around m p c st may = code_same naming notes run m p around c st may.room may.owns may.settled may.nests
+pub entered_is_renew : EnteredIsRenew
+entered_is_renew naming notes run enters safe once around m p c st may = code_same naming notes run enters safe once m p around c st may.room may.owns may.settled may.nests
 
-pub guarded_is_renew_in : GuardedIsRenewIn
-guarded_is_renew_in naming notes run around m p i cs st may = codes_same naming notes run m p i around cs st may.room may.owns may.settled may.nests
-
-pub guarded_is_renew_items : GuardedIsRenewItems
-guarded_is_renew_items naming notes run around m p is st may = items_same naming notes run m p around is st may.room may.owns may.settled may.nests
-
-pub guarded_is_renew_root : GuardedIsRenewRoot
-guarded_is_renew_root naming notes run around zero k st may r = refl
-guarded_is_renew_root naming notes run around (suc m) (component_code i made gm args k cs) st may r =
+pub entered_is_renew_root : EnteredIsRenewRoot
+entered_is_renew_root naming notes run first passes enters safe once around zero k st may r = refl
+entered_is_renew_root naming notes run first passes enters safe once around (suc m) (component_code i made gm args k cs) st may r =
     let inside = with_made made around in
     let s = subst (λ q. SettledIn naming st inside q 0 cs) r may.settled.1 in
     let room = room_into st around (λ q. times_in q (lives_of cs)) made may.settled.0 may.room in
-    ap (λ o. on_ok o (λ y. ok (component_code i made gm args k y.0, y.1))) (region_same naming notes run m [] inside cs st s may.nests (codes_same naming notes run m [] 0 inside cs st room may.owns s may.nests))
-guarded_is_renew_root naming notes run around (suc m) (still_code n) st may r = refl
-guarded_is_renew_root naming notes run around (suc m) (put_code n s) st may r = refl
-guarded_is_renew_root naming notes run around (suc m) (element_code n made xs zs cs) st may r = refl
-guarded_is_renew_root naming notes run around (suc m) (branch_code z s u k cs) st may r = refl
-guarded_is_renew_root naming notes run around (suc m) (listed_code z s is) st may r = refl
-guarded_is_renew_root naming notes run around (suc m) (unlisted_code z s k cs) st may r = refl
-guarded_is_renew_root naming notes run around (suc m) (let_code made rs cs) st may r = refl
-guarded_is_renew_root naming notes run around (suc m) (yield_code n made rs cs) st may r = refl
+    ap (λ o. on_ok o (λ y. ok (component_code i made gm args k y.0, y.1)))
+    (region_same naming notes run first passes m [] inside cs st s may.nests (codes_same naming notes run enters safe once m [] 0 inside cs st room may.owns s may.nests))
+entered_is_renew_root naming notes run first passes enters safe once around (suc m) (still_code n) st may r = refl
+entered_is_renew_root naming notes run first passes enters safe once around (suc m) (put_code n s) st may r = refl
+entered_is_renew_root naming notes run first passes enters safe once around (suc m) (element_code n made xs zs cs) st may r = refl
+entered_is_renew_root naming notes run first passes enters safe once around (suc m) (branch_code z s u k cs) st may r = refl
+entered_is_renew_root naming notes run first passes enters safe once around (suc m) (listed_code z s is) st may r = refl
+entered_is_renew_root naming notes run first passes enters safe once around (suc m) (unlisted_code z s k cs) st may r = refl
+entered_is_renew_root naming notes run first passes enters safe once around (suc m) (let_code made rs cs) st may r = refl
+entered_is_renew_root naming notes run first passes enters safe once around (suc m) (yield_code n made rs cs) st may r = refl
+
+pub guarded_is_renew : GuardedIsRenew
+guarded_is_renew naming notes run around m p c st may = entered_is_renew naming notes run any_stale fresh_alone true around m p c st may
+
+pub guarded_is_renew_in : GuardedIsRenewIn
+guarded_is_renew_in naming notes run around m p i cs st may = codes_same naming notes run any_stale fresh_alone true m p i around cs st may.room may.owns may.settled may.nests
+
+pub guarded_is_renew_items : GuardedIsRenewItems
+guarded_is_renew_items naming notes run around m p is st may = items_same naming notes run any_stale fresh_alone true m p around is st may.room may.owns may.settled may.nests
+
+pub guarded_is_renew_root : GuardedIsRenewRoot
+guarded_is_renew_root naming notes run around m k st may r = entered_is_renew_root naming notes run any_stale fresh_alone any_stale fresh_alone true around m k st may r
 
 pub fresh_asks_one : FreshAsksOne
 fresh_asks_one naming run zero k st e = omega arith

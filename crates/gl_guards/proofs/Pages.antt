@@ -43,12 +43,14 @@ use Rattle.gl_follows.proofs.Owners.{puts_by}
 use Rattle.gl_follows.proofs.Plain.{sets_plain}
 use Rattle.gl_follows.proofs.Setting.{sets_by}
 use Rattle.gl_follows.proofs.Turning.{next_paths}
-use Rattle.gl_guards.specs.Guarded.{guarded_root_code_as}
-use Rattle.gl_guards.specs.Settled.{MayPass, AtRoot}
-use Rattle.gl_guards.specs.Laws.{TurnMayPass, TurnIsRenew, PutsAreRenew}
+use Rattle.gl_guards.specs.Guarded.{any_stale, entered_root_code_as}
+use Rattle.gl_guards.specs.Along.{always}
+use Rattle.gl_guards.specs.Settled.{PassesFresh, MayPass, AtRoot}
+use Rattle.gl_guards.specs.Laws.{TurnMayPass, TurnIsRenew, PutsAreEntered, PutsAreRenew, PutsGoAlong}
 use Rattle.gl_guards.proofs.Told.{Seen, seen_named}
 use Rattle.gl_guards.proofs.Standing.{codes_settled, RunsApart, codes_own, runs_apart}
-use Rattle.gl_guards.proofs.Joined.{namings_apart, guarded_is_renew_root}
+use Rattle.gl_guards.proofs.Joined.{namings_apart, entered_is_renew_root, guarded_is_renew_root}
+use Rattle.gl_guards.proofs.Same.{fresh_alone}
 
 -- the root's scope
 root_ready : (app : App) (σ τ : Store) (st : State) (i : Inst) (made : List Id) (args : Names) → Owned st (λ q. occurs q made) → i.path ≡ [] → args ≡ []
@@ -128,11 +130,24 @@ turn_is_renew env lowered differ s e reached k st placed follows there n =
     let m = turn_may_pass env lowered differ s e reached k st placed follows there n in
     guarded_is_renew_root by_number namings_apart.1 (run_for_as by_number env [] n) (λ q. 0) env.app.limit k (set_all_by env.app (live_of k) (applied env.app s (Some e)).sets (begin st)) m.0 m.1
 
-pub puts_are_renew : PutsAreRenew
-puts_are_renew env lowered differ s e reached k st placed follows xs own same n =
+pub puts_are_entered : PutsAreEntered
+puts_are_entered first passes enters safe once env lowered differ s e reached k st placed follows xs own same n =
     let l = live_of k in
+    let run = run_for_as by_number env [] n in
     let y = puts_by env.app s st l follows xs own in
     let there : AreThere env.app l (applied env.app s (Some e)).sets = subst (AreThere env.app l) (sym same) y.0 in
     let put : set_all_by env.app l (applied env.app s (Some e)).sets (begin st) ≡ put_all xs (begin st) = ap (λ hs. set_all_by env.app l hs (begin st)) same ∙ y.1 in
-    subst (λ now. guarded_root_code_as by_number env.app.limit (run_for_as by_number env [] n) k now ≡ renew_root_code_as by_number env.app.limit (run_for_as by_number env [] n) k now) put
-    (turn_is_renew env lowered differ s e reached k st placed follows there n)
+    let m = turn_may_pass env lowered differ s e reached k st placed follows there n in
+    subst (λ now. entered_root_code_as by_number first enters once env.app.limit run k now ≡ renew_root_code_as by_number env.app.limit run k now) put
+    (entered_is_renew_root by_number namings_apart.1 run first passes enters safe once (λ q. 0) env.app.limit k (set_all_by env.app l (applied env.app s (Some e)).sets (begin st)) m.0 m.1)
+
+pub puts_are_renew : PutsAreRenew
+puts_are_renew env lowered differ s e reached k st placed follows xs own same n =
+    puts_are_entered any_stale fresh_alone any_stale fresh_alone true env lowered differ s e reached k st placed follows xs own same n
+
+always_enters : PassesFresh always
+always_enters st rs e = absurd (true≢false e)
+
+pub puts_go_along : PutsGoAlong
+puts_go_along env lowered differ s e reached k st placed follows xs own same n =
+    puts_are_entered always always_enters always always_enters false env lowered differ s e reached k st placed follows xs own same n

@@ -1,5 +1,5 @@
--- An update that passes over what is fresh does what the update does.
-use Rattle.std.proofs.Common.{◌≡◌, ℕ, zero, suc, ◌+◌, ◌<◌, List, [], ◌∷◌, map, Bool, true, false, ◌||◌, cond, Option, Some, None, option_map, refl, sym, ◌∙◌, ap, ap₂, subst, arith}
+-- An update that passes over nothing but what is fresh does what the update does.
+use Rattle.std.proofs.Common.{◌≡◌, ℕ, zero, suc, ◌+◌, ◌<◌, List, [], ◌∷◌, map, Bool, true, false, ◌||◌, cond, true≢false, Option, Some, None, option_map, refl, sym, ◌∙◌, ap, ap₂, subst, arith}
 use Rattle.std.specs.Prelude.{if◌then◌else◌}
 use Rattle.std.proofs.lemmas.Bool.Decides.{Decides-eqb}
 use mathlib.Core.Path.{fun_ext}
@@ -21,12 +21,16 @@ use Rattle.gl_machine.specs.Code.{Listing, Code, still_code, put_code, element_c
 use Rattle.gl_machine.specs.Outcome.{Outcome, ok, deep, lost, on_ok}
 use Rattle.gl_machine.specs.Nesting.{Nests, NestsIn, NestsItems}
 use Rattle.gl_machine.specs.RenewCode.{Runs, kept, branch_with, unlisted_with, ItemDone, item_done, CodeHandle, with_code_front, taken_code, with_left, item_with, renew_item_code_as, sync_one_code_as, sync_codes_as, fresh_codes, by_values, fresh_branch, fresh_other, fresh_item_as, renew_code_as, renew_codes_as, code_handles_as}
-use Rattle.gl_guards.specs.Guarded.{any_stale, guard, idle_handles, if_ok, given_as, with_taken, stale_taken_as, guarded_code_as, guarded_codes_as, guarded_items_as, guarded_handles_as, renew_items_as}
-use Rattle.gl_guards.specs.Settled.{Leaves, Ended, NotesApart, Owns, OwnsItems, OwnsIn, Fits, HoldsSource, Settled, SettledItems, SettledIn, Room}
+use Rattle.gl_guards.specs.Guarded.{any_stale, entering, guard, guarded_codes_as, idle_handles, if_ok, given_as, with_taken, stale_taken_as, entered_code_as, entered_codes_as, entered_items_as, entered_handles_as, renew_items_as}
+use Rattle.gl_guards.specs.Settled.{PassesFresh, Leaves, Ended, NotesApart, Owns, OwnsItems, OwnsIn, Fits, HoldsSource, Settled, SettledItems, SettledIn, Room}
 use Rattle.gl_guards.proofs.Fresh.{or_left, or_right, give_idle, first_is, list_chosen, codes_stay, items_stay}
 use Rattle.gl_guards.proofs.Leaves.{left_more, reread_left, evaluate_left, attrs_left}
 use Rattle.gl_guards.proofs.Parts.{Elem, Goes, handle, elems, taken_elem, both_handles, handles_taken, times_elem, times_elems, times_handles, times_elems_of, EachElem, is_elem, Parted, parted, attrs_counted, Left, OneLeft, one_left, ElemLeft, elem_count, item_left, renewing, handles_are, codes_left, elems_left}
 use Rattle.gl_guards.proofs.Steps.{Step, step_less, step_into, items_go, codes_go, made_goes, fits_goes, room_less, room_into, beside_same, room_beside, step_beside, give_step, give_holds}
+
+-- The question whether a position is stale passes over what is fresh alone.
+pub fresh_alone : PassesFresh any_stale
+fresh_alone st rs e = e
 
 module _ (naming : Naming) (notes : NotesApart naming) (run : Runs) where
   -- Old items
@@ -239,15 +243,6 @@ module _ (naming : Naming) (notes : NotesApart naming) (run : Runs) where
         by lost l rec = refl
   walks one m p around _ _ st room o f = absurd f
 
-  -- The recorded program
-
-  abbrev pub guarding : ℕ → Goes
-  guarding m cs q st = guard st (positions_in (lives_of cs)) cs (guarded_codes_as naming run m q 0 cs st)
-
-  pub guarded_are : (m : ℕ) (is : ItemCodes) → guarded_handles_as naming run m is ≡ map (handle (guarding m)) (elems is)
-  guarded_are m no_item_codes = refl
-  guarded_are m (item_code z k cs is) = ap (λ hs. handle (guarding m) (record { spot = z; comment = k; codes = cs }) ∷ hs) (guarded_are m is)
-
   pub idle_are : (is : ItemCodes) → idle_handles is ≡ map (handle idle) (elems is)
   idle_are no_item_codes = refl
   idle_are (item_code z k cs is) = ap (λ hs. handle idle (record { spot = z; comment = k; codes = cs }) ∷ hs) (idle_are is)
@@ -256,41 +251,10 @@ module _ (naming : Naming) (notes : NotesApart naming) (run : Runs) where
   elems_stay m no_item_codes d = tt
   elems_stay m (item_code z k cs is) d = ((λ q st around s e. codes_stay naming notes run st m q 0 around cs s d.0 e), elems_stay m is d.1)
 
-  -- a region
-  pub region_same : (m : ℕ) (q : Path) (around : Id → ℕ) (cs : Codes) (st : State) → SettledIn naming st around q 0 cs → NestsIn (lives_of cs) m
-      → guarded_codes_as naming run m q 0 cs st ≡ renew_codes_as naming run m q 0 cs st → guard st (positions_in (lives_of cs)) cs (guarded_codes_as naming run m q 0 cs st) ≡ renew_codes_as naming run m q 0 cs st
-  region_same m q around cs st s d rec = by (any_stale st (positions_in (lives_of cs))) refl where
-    by : (b : Bool) → any_stale st (positions_in (lives_of cs)) ≡ b → (if b then guarded_codes_as naming run m q 0 cs st else ok (cs, st)) ≡ renew_codes_as naming run m q 0 cs st
-    by true e = rec
-    by false e = sym (codes_stay naming notes run st m q 0 around cs s d e)
-
-  -- the items of a list that wasn't read again
-  items_region : (one : Path → Entry → State → Outcome ItemDone) (m : ℕ) (p : Path) (around : Id → ℕ) (xs : List Entry) (is : ItemCodes) (st : State) → Room st around (λ i. times_items i (items_of is)) → OwnsItems naming run is
-      → SettledItems naming st around p is → NestsItems (items_of is) m → Fits st.look xs is → guarded_items_as naming run m p is st ≡ renew_items_as naming run m p is st
-      → sync_codes_as naming one p xs (code_handles_as naming run m is) st ≡ guard st (positions_items (items_of is)) is (guarded_items_as naming run m p is st)
-  items_region one m p around xs is st room o s d f rec = by (any_stale st (positions_items (items_of is))) refl where
-    by : (b : Bool) → any_stale st (positions_items (items_of is)) ≡ b → sync_codes_as naming one p xs (code_handles_as naming run m is) st ≡ (if b then guarded_items_as naming run m p is st else ok (is, st))
-    by true e = walks one m p around xs is st room o f ∙ sym rec
-    by false e = items_stay naming notes run st one m p around xs is f s d e
-
-  -- the items of a list that was read again
-  synced_same : (one : Path → Entry → State → Outcome ItemDone) → OneLeft naming notes run one → (m : ℕ) (p : Path) (around : Id → ℕ) (xs : List Entry) (is : ItemCodes) (st : State) → Room st around (λ i. times_items i (items_of is)) → OwnsItems naming run is
-      → SettledItems naming st around p is → NestsItems (items_of is) m → EachElem (ElemSame (guarding m) (renewing naming notes run m)) (elems is)
-      → sync_codes_as naming one p xs (if stale_taken_as naming one p xs (idle_handles is) st then guarded_handles_as naming run m is else idle_handles is) st ≡ sync_codes_as naming one p xs (code_handles_as naming run m is) st
-  synced_same one ol m p around xs is st room o s d same =
-      by (stale_taken_as naming one p xs (idle_handles is) st) refl ∙ ap (λ hs. sync_codes_as naming one p xs hs st) (sym (handles_are naming notes run m is)) where
-        ro : Room st around (λ i. times_elems i (elems is))
-        ro = room_less st around (λ i. times_elems i (elems is)) _ (λ i. let e = times_elems_of i is in omega (arith, e)) room
-
-        by : (b : Bool) → stale_taken_as naming one p xs (idle_handles is) st ≡ b
-            → sync_codes_as naming one p xs (if b then guarded_handles_as naming run m is else idle_handles is) st ≡ sync_codes_as naming one p xs (map (handle (renewing naming notes run m)) (elems is)) st
-        by true e =
-            ap (λ hs. sync_codes_as naming one p xs hs st) (guarded_are m is)
-            ∙ sync_same (guarding m) (renewing naming notes run m) one ol p around xs (elems is) st same (elems_left naming notes run m is o) (elems_own is o) ro (elems_settled st around p is s)
-        by false e =
-            ap (λ hs. sync_codes_as naming one p xs hs st) (idle_are is)
-            ∙ sync_idle (renewing naming notes run m) one ol p around xs (elems is) st (elems_stay m is d) (elems_own is o) ro (elems_settled st around p is s)
-            (ap (λ hs. stale_taken_as naming one p xs hs st) (sym (idle_are is)) ∙ e)
+  -- it was asked
+  asked_none : (once b : Bool) → (if once then b else true) ≡ false → b ≡ false
+  asked_none true b e = e
+  asked_none false b e = absurd (true≢false e)
 
   values_same : {A : Type 0} (vs : Values Path) (F G : Values Path → A) (y : A) → ((us : Values Path) → F us ≡ G us) → by_values vs F y ≡ by_values vs G y
   values_same no_values F G y e = refl
@@ -303,118 +267,171 @@ module _ (naming : Naming) (notes : NotesApart naming) (run : Runs) where
   abbrev other_body : Listing → Spot → ℕ → Path → ItemCodes → State → Outcome (Code × State)
   other_body z x m p is t = fresh_other run z x p m (dropped_as naming (λ q. times_items q (items_of is)) t)
 
-  abbrev guarded_list : Listing → Spot → ℕ → Path → ItemCodes → State → Values Path → Outcome (Code × State)
-  guarded_list z x m p is t vs =
-      let xs = entries z.key 0 [] vs in
-      let olds = if stale_taken_as naming (new_item z m) (items ∷ p) xs (idle_handles is) t then guarded_handles_as naming run m is else idle_handles is in
-      on_ok (sync_codes_as naming (new_item z m) (items ∷ p) xs olds t) (λ r. ok (listed_code z x r.0, r.1))
-
   abbrev plain_list : Listing → Spot → ℕ → Path → ItemCodes → State → Values Path → Outcome (Code × State)
   plain_list z x m p is t vs = on_ok (sync_codes_as naming (new_item z m) (items ∷ p) (entries z.key 0 [] vs) (code_handles_as naming run m is) t) (λ r. ok (listed_code z x r.0, r.1))
 
-  mutual
-    pub code_same : (m : ℕ) (p : Path) (around : Id → ℕ) (c : Code) (st : State) → Room st around (λ q. times q (live_of c)) → Owns naming run c → Settled naming st around p c → Nests (live_of c) m
-        → guarded_code_as naming run m p c st ≡ renew_code_as naming run m p c st
-    code_same m p around (still_code n) st room o s d = refl
-    code_same m p around (put_code n x) st room o s d = refl
-    code_same m p around (element_code n made xs zs cs) st room o s d =
-        let a : Id → ℕ = λ q. hit q (node n) + times_attrs q xs in
-        let c : Id → ℕ = λ q. times_in q (lives_of cs) in
-        let st1 = renew_attrs n xs st in
-        let l = attrs_left naming n xs st a (let i = hit_self (node n) in omega (arith, i)) (attrs_counted xs a (λ q w. omega (arith, w)) o.0) in
-        let ro = room_less st around (λ q. a q + c q) _ (λ q. omega arith) room in
-        ap (λ y. on_ok y (λ r. ok (element_code n made xs zs r.0, renew_mods zs r.1)))
-        (codes_same m p 0 around cs st1 (room_beside naming st st1 around a c ro l) o.2 (codes_go naming run st st1 around p 0 cs (step_beside naming st st1 around a c ro l) o.2 s) d)
-    code_same m p around (branch_code z x true k cs) st room o s d =
-        let a : Id → ℕ = λ q. occurs q x.made in
-        let c : Id → ℕ = λ q. times_in q (lives_of cs) in
-        let st1 = reread x.ref st in
-        let l = reread_left naming x.ref st a o.0 in
-        let ro = room_less st around (λ q. a q + c q) _ (λ q. omega arith) room in
-        let s1 = codes_go naming run st st1 around (main ∷ p) 0 cs (step_beside naming st st1 around a c ro l) o.2 s.1 in
-        ap (λ y. cond {A = Outcome (Code × State)} (takes_first z.unless (first_value (spot_pairs st1 x.ref))) (on_ok y (λ r. ok (branch_with z x true (kept k r)))) (fresh_branch run z x false p m (dropped_as naming (λ q. times_in q (lives_of cs) + times_comment q k) st1)))
-        (region_same m (main ∷ p) around cs st1 s1 d (codes_same m (main ∷ p) 0 around cs st1 (room_beside naming st st1 around a c ro l) o.2 s1 d))
-    code_same m p around (branch_code z x false k cs) st room o s d =
-        let a : Id → ℕ = λ q. occurs q x.made in
-        let c : Id → ℕ = λ q. times_in q (lives_of cs) in
-        let st1 = reread x.ref st in
-        let l = reread_left naming x.ref st a o.0 in
-        let ro = room_less st around (λ q. a q + c q) _ (λ q. omega arith) room in
-        let s1 = codes_go naming run st st1 around (otherwise ∷ p) 0 cs (step_beside naming st st1 around a c ro l) o.2 s.1 in
-        ap (λ y. cond {A = Outcome (Code × State)} (takes_first z.unless (first_value (spot_pairs st1 x.ref))) (fresh_branch run z x true p m (dropped_as naming (λ q. times_in q (lives_of cs) + times_comment q k) st1)) (on_ok y (λ r. ok (branch_with z x false (kept k r)))))
-        (region_same m (otherwise ∷ p) around cs st1 s1 d (codes_same m (otherwise ∷ p) 0 around cs st1 (room_beside naming st st1 around a c ro l) o.2 s1 d))
-    code_same m p around (listed_code z x is) st room o s d =
-        by (is_stale st x.ref) refl (λ t r k. items_same m (items ∷ p) around is t r o.2 k d) (elems_same m is o.2 d) where
-          by : (b : Bool) → is_stale st x.ref ≡ b
-              → ((t : State) → Room t around (λ q. times_items q (items_of is)) → SettledItems naming t around (items ∷ p) is → guarded_items_as naming run m (items ∷ p) is t ≡ renew_items_as naming run m (items ∷ p) is t)
-              → EachElem (ElemSame (guarding m) (renewing naming notes run m)) (elems is)
-              → (if b then (let st1 = evaluate x.ref st in by_values (values_listed (first_value (spot_pairs st1 x.ref))) (guarded_list z x m p is st1) (other_body z x m p is st1))
-              else on_ok (guard st (positions_items (items_of is)) is (guarded_items_as naming run m (items ∷ p) is st)) (λ r. ok (listed_code z x r.0, r.1)))
-              ≡ (let st1 = (if b then evaluate x.ref st else st) in by_values (values_listed (first_value (spot_pairs st1 x.ref))) (plain_list z x m p is st1) (other_body z x m p is st1))
-          by true e rec same =
-              let a : Id → ℕ = λ q. occurs q x.made in
-              let c : Id → ℕ = λ q. times_items q (items_of is) in
-              let st1 = evaluate x.ref st in
-              let l = evaluate_left naming x.ref st a o.0 in
-              let s1 = items_go naming run st st1 around (items ∷ p) is (step_beside naming st st1 around a c room l) o.2 s.1 in
-              values_same (values_listed (first_value (spot_pairs st1 x.ref))) (guarded_list z x m p is st1) (plain_list z x m p is st1) (other_body z x m p is st1)
-              (λ vs. ap (λ y. on_ok y (λ r. ok (listed_code z x r.0, r.1)))
-              (synced_same (new_item z m) (one_left naming notes run z m o.1) m (items ∷ p) around (entries z.key 0 [] vs) is st1 (room_beside naming st st1 around a c room l) o.2 s1 d same))
-          by false e rec same =
-              let ri = room_less st around (λ q. times_items q (items_of is)) _ (λ q. omega arith) room in
-              let K : ItemCodes × State → Outcome (Code × State) = λ r. ok (listed_code z x r.0, r.1) in
-              sym
-              (list_chosen (values_listed (first_value (spot_pairs st x.ref))) (λ vs. Fits st.look (entries z.key 0 [] vs) is) (plain_list z x m p is st) (other_body z x m p is st)
-              (on_ok (guard st (positions_items (items_of is)) is (guarded_items_as naming run m (items ∷ p) is st)) K)
-              (λ vs f. ap (λ y. on_ok y K) (items_region (new_item z m) m (items ∷ p) around (entries z.key 0 [] vs) is st ri o.2 s.1 d f (rec st ri s.1))) (s.0.holds e))
-    code_same m p around (unlisted_code z x k cs) st room o s d =
-        let a : Id → ℕ = λ q. occurs q x.made in
-        let c : Id → ℕ = λ q. times_in q (lives_of cs) in
-        let st1 = reread x.ref st in
-        let l = reread_left naming x.ref st a o.0 in
-        let ro = room_less st around (λ q. a q + c q) _ (λ q. omega arith) room in
-        let s1 = codes_go naming run st st1 around (otherwise ∷ p) 0 cs (step_beside naming st st1 around a c ro l) o.2 s.1 in
-        ap (λ y. by_values (values_listed (first_value (spot_pairs st1 x.ref)))
-        (λ vs. on_ok (fresh_codes (fresh_item_as naming run z m) (items ∷ p) (entries z.key 0 [] vs) (dropped_as naming (λ q. times_in q (lives_of cs) + times_comment q k) st1)) (λ r. ok (listed_code z x r.0, r.1)))
-        (on_ok y (λ r. ok (unlisted_with z x (kept k r)))))
-        (region_same m (otherwise ∷ p) around cs st1 s1 d (codes_same m (otherwise ∷ p) 0 around cs st1 (room_beside naming st st1 around a c ro l) o.2 s1 d))
-    code_same m p around (let_code made rs cs) st room o s d =
-        ap (λ y. on_ok y (λ r. ok (let_code made rs r.0, r.1))) (codes_same m (main ∷ p) 0 (with_made made around) cs st (room_into st around (λ q. times_in q (lives_of cs)) made s.0 room) o s.1 d)
-    code_same zero p around (component_code i made gm args k cs) st room o s d = refl
-    code_same (suc m) p around (component_code i made gm args k cs) st room o s d =
-        ap (λ y. on_ok y (λ r. ok (component_code i made gm args k r.0, r.1)))
-        (region_same m i.path (with_made made around) cs st s.1 d (codes_same m i.path 0 (with_made made around) cs st (room_into st around (λ q. times_in q (lives_of cs)) made s.0 room) o s.1 d))
-    code_same m p around (yield_code n made rs cs) st room o s d =
-        ap (λ y. on_ok y (λ r. ok (yield_code n made rs r.0, r.1))) (codes_same m (slot n ∷ p) 0 (with_made made around) cs st (room_into st around (λ q. times_in q (lives_of cs)) made s.0 room) o s.1 d)
+  -- a region
+  pub region_same : (asks : State → List ℕ → Bool) → PassesFresh asks → (m : ℕ) (q : Path) (around : Id → ℕ) (cs : Codes) (st : State) → SettledIn naming st around q 0 cs → NestsIn (lives_of cs) m
+      → {o : Outcome (Codes × State)} → o ≡ renew_codes_as naming run m q 0 cs st → entering asks st (positions_in (lives_of cs)) cs o ≡ renew_codes_as naming run m q 0 cs st
+  region_same asks safe m q around cs st s d {o} rec = by (asks st (positions_in (lives_of cs))) refl where
+    by : (b : Bool) → asks st (positions_in (lives_of cs)) ≡ b → (if b then o else ok (cs, st)) ≡ renew_codes_as naming run m q 0 cs st
+    by true e = rec
+    by false e = sym (codes_stay naming notes run st m q 0 around cs s d (safe st (positions_in (lives_of cs)) e))
 
-    pub codes_same : (m : ℕ) (p : Path) (i : ℕ) (around : Id → ℕ) (cs : Codes) (st : State) → Room st around (λ q. times_in q (lives_of cs)) → OwnsIn naming run cs → SettledIn naming st around p i cs → NestsIn (lives_of cs) m
-        → guarded_codes_as naming run m p i cs st ≡ renew_codes_as naming run m p i cs st
-    codes_same m p i around no_codes st room o s d = refl
-    codes_same m p i around (code_and c cs) st room o s d =
-        let ca : Id → ℕ = λ q. times q (live_of c) in
-        let cb : Id → ℕ = λ q. times_in q (lives_of cs) in
-        ap (λ y. on_ok y (λ r. on_ok (guarded_codes_as naming run m p (suc i) cs r.1) (λ z. ok (code_and r.0 z.0, z.1)))) (code_same m (at i ∷ p) around c st (room_less st around ca _ (λ q. omega arith) room) o.0 s.0 d.0)
-        ∙ Rattle.gl_guards.proofs.Leaves.on_same (renew_code_as naming run m (at i ∷ p) c st) (λ r. on_ok (guarded_codes_as naming run m p (suc i) cs r.1) (λ z. ok (code_and r.0 z.0, z.1)))
-        (λ r. on_ok (renew_codes_as naming run m p (suc i) cs r.1) (λ z. ok (code_and r.0 z.0, z.1))) (λ r. Leaves naming st r.1 ca) (Rattle.gl_guards.proofs.Parts.code_left naming notes run m (at i ∷ p) c st o.0)
-        (λ r l. ap (λ y. on_ok y (λ z. ok (code_and r.0 z.0, z.1)))
-        (codes_same m p (suc i) around cs r.1 (room_beside naming st r.1 around ca cb room l) o.1 (codes_go naming run st r.1 around p (suc i) cs (step_beside naming st r.1 around ca cb room l) o.1 s.1) d.1))
+  -- The recorded program, of which a question passes over what is fresh alone
+  module _ (enters : State → List ℕ → Bool) (safe : PassesFresh enters) (once : Bool) where
+    abbrev pub entering_in : ℕ → Goes
+    entering_in m cs q st = entering enters st (positions_in (lives_of cs)) cs (entered_codes_as naming run enters once m q 0 cs st)
 
-    pub items_same : (m : ℕ) (p : Path) (around : Id → ℕ) (is : ItemCodes) (st : State) → Room st around (λ q. times_items q (items_of is)) → OwnsItems naming run is → SettledItems naming st around p is → NestsItems (items_of is) m
-        → guarded_items_as naming run m p is st ≡ renew_items_as naming run m p is st
-    items_same m p around no_item_codes st room o s d = refl
-    items_same m p around (item_code z k cs is) st room o s d =
-        let q = item z.key z.occurrence ∷ p in
-        let inside = with_made (item_made z) around in
-        let ca : Id → ℕ = λ i. times_in i (lives_of cs) in
-        let cb : Id → ℕ = λ i. times_items i (items_of is) in
-        let ri = room_into st around ca (item_made z) s.0.0 (room_less st around (λ i. occurs i (item_made z) + ca i) _ (λ i. omega arith) room) in
-        let ro = room_less st around (λ i. ca i + cb i) _ (λ i. omega arith) room in
-        ap (λ y. on_ok y (λ r. on_ok (guarded_items_as naming run m p is r.1) (λ w. ok (item_code z k r.0 w.0, w.1)))) (region_same m q inside cs st s.0.3 d.0 (codes_same m q 0 inside cs st ri o.0 s.0.3 d.0))
-        ∙ Rattle.gl_guards.proofs.Leaves.on_same (renew_codes_as naming run m q 0 cs st) (λ r. on_ok (guarded_items_as naming run m p is r.1) (λ w. ok (item_code z k r.0 w.0, w.1)))
-        (λ r. on_ok (renew_items_as naming run m p is r.1) (λ w. ok (item_code z k r.0 w.0, w.1))) (λ r. Leaves naming st r.1 ca) (codes_left naming notes run m q 0 cs st o.0)
-        (λ r l. ap (λ y. on_ok y (λ w. ok (item_code z k r.0 w.0, w.1)))
-        (items_same m p around is r.1 (room_beside naming st r.1 around ca cb ro l) o.1 (items_go naming run st r.1 around p is (step_beside naming st r.1 around ca cb ro l) o.1 s.1) d.1))
+    pub entered_are : (m : ℕ) (is : ItemCodes) → entered_handles_as naming run enters once m is ≡ map (handle (entering_in m)) (elems is)
+    entered_are m no_item_codes = refl
+    entered_are m (item_code z k cs is) = ap (λ hs. handle (entering_in m) (record { spot = z; comment = k; codes = cs }) ∷ hs) (entered_are m is)
 
-    pub elems_same : (m : ℕ) (is : ItemCodes) → OwnsItems naming run is → NestsItems (items_of is) m → EachElem (ElemSame (guarding m) (renewing naming notes run m)) (elems is)
-    elems_same m no_item_codes o d = tt
-    elems_same m (item_code z k cs is) o d = ((λ q st around room s. region_same m q around cs st s d.0 (codes_same m q 0 around cs st room o.0 s d.0)), elems_same m is o.1 d.1)
+    -- the items of a list that wasn't read again
+    items_region : (one : Path → Entry → State → Outcome ItemDone) (m : ℕ) (p : Path) (around : Id → ℕ) (xs : List Entry) (is : ItemCodes) (st : State) → Room st around (λ i. times_items i (items_of is)) → OwnsItems naming run is
+        → SettledItems naming st around p is → NestsItems (items_of is) m → Fits st.look xs is → entered_items_as naming run enters once m p is st ≡ renew_items_as naming run m p is st
+        → sync_codes_as naming one p xs (code_handles_as naming run m is) st ≡ entering enters st (positions_items (items_of is)) is (entered_items_as naming run enters once m p is st)
+    items_region one m p around xs is st room o s d f rec = by (enters st (positions_items (items_of is))) refl where
+      by : (b : Bool) → enters st (positions_items (items_of is)) ≡ b → sync_codes_as naming one p xs (code_handles_as naming run m is) st ≡ (if b then entered_items_as naming run enters once m p is st else ok (is, st))
+      by true e = walks one m p around xs is st room o f ∙ sym rec
+      by false e = items_stay naming notes run st one m p around xs is f s d (safe st (positions_items (items_of is)) e)
+
+    -- where the items of a list that was read again are asked at once, whether one of those that stay is stale
+    abbrev asked_once : (Path → Entry → State → Outcome ItemDone) → Path → List Entry → ItemCodes → State → Bool
+    asked_once one p xs is st = if once then stale_taken_as naming one p xs (idle_handles is) st else true
+
+    -- the items of a list that was read again
+    synced_same : (one : Path → Entry → State → Outcome ItemDone) → OneLeft naming notes run one → (m : ℕ) (p : Path) (around : Id → ℕ) (xs : List Entry) (is : ItemCodes) (st : State) → Room st around (λ i. times_items i (items_of is)) → OwnsItems naming run is
+        → SettledItems naming st around p is → NestsItems (items_of is) m → EachElem (ElemSame (entering_in m) (renewing naming notes run m)) (elems is)
+        → sync_codes_as naming one p xs (if asked_once one p xs is st then entered_handles_as naming run enters once m is else idle_handles is) st ≡ sync_codes_as naming one p xs (code_handles_as naming run m is) st
+    synced_same one ol m p around xs is st room o s d same =
+        by (asked_once one p xs is st) refl ∙ ap (λ hs. sync_codes_as naming one p xs hs st) (sym (handles_are naming notes run m is)) where
+          ro : Room st around (λ i. times_elems i (elems is))
+          ro = room_less st around (λ i. times_elems i (elems is)) _ (λ i. let e = times_elems_of i is in omega (arith, e)) room
+
+          by : (b : Bool) → asked_once one p xs is st ≡ b
+              → sync_codes_as naming one p xs (if b then entered_handles_as naming run enters once m is else idle_handles is) st ≡ sync_codes_as naming one p xs (map (handle (renewing naming notes run m)) (elems is)) st
+          by true e =
+              ap (λ hs. sync_codes_as naming one p xs hs st) (entered_are m is)
+              ∙ sync_same (entering_in m) (renewing naming notes run m) one ol p around xs (elems is) st same (elems_left naming notes run m is o) (elems_own is o) ro (elems_settled st around p is s)
+          by false e =
+              ap (λ hs. sync_codes_as naming one p xs hs st) (idle_are is)
+              ∙ sync_idle (renewing naming notes run m) one ol p around xs (elems is) st (elems_stay m is d) (elems_own is o) ro (elems_settled st around p is s)
+              (ap (λ hs. stale_taken_as naming one p xs hs st) (sym (idle_are is)) ∙ asked_none once _ e)
+
+    abbrev entered_list : Listing → Spot → ℕ → Path → ItemCodes → State → Values Path → Outcome (Code × State)
+    entered_list z x m p is t vs =
+        let xs = entries z.key 0 [] vs in
+        let olds = if asked_once (new_item z m) (items ∷ p) xs is t then entered_handles_as naming run enters once m is else idle_handles is in
+        on_ok (sync_codes_as naming (new_item z m) (items ∷ p) xs olds t) (λ r. ok (listed_code z x r.0, r.1))
+
+    mutual
+      pub code_same : (m : ℕ) (p : Path) (around : Id → ℕ) (c : Code) (st : State) → Room st around (λ q. times q (live_of c)) → Owns naming run c → Settled naming st around p c → Nests (live_of c) m
+          → entered_code_as naming run enters once m p c st ≡ renew_code_as naming run m p c st
+      code_same m p around (still_code n) st room o s d = refl
+      code_same m p around (put_code n x) st room o s d = refl
+      code_same m p around (element_code n made xs zs cs) st room o s d =
+          let a : Id → ℕ = λ q. hit q (node n) + times_attrs q xs in
+          let c : Id → ℕ = λ q. times_in q (lives_of cs) in
+          let st1 = renew_attrs n xs st in
+          let l = attrs_left naming n xs st a (let i = hit_self (node n) in omega (arith, i)) (attrs_counted xs a (λ q w. omega (arith, w)) o.0) in
+          let ro = room_less st around (λ q. a q + c q) _ (λ q. omega arith) room in
+          ap (λ y. on_ok y (λ r. ok (element_code n made xs zs r.0, renew_mods zs r.1)))
+          (codes_same m p 0 around cs st1 (room_beside naming st st1 around a c ro l) o.2 (codes_go naming run st st1 around p 0 cs (step_beside naming st st1 around a c ro l) o.2 s) d)
+      code_same m p around (branch_code z x true k cs) st room o s d =
+          let a : Id → ℕ = λ q. occurs q x.made in
+          let c : Id → ℕ = λ q. times_in q (lives_of cs) in
+          let st1 = reread x.ref st in
+          let l = reread_left naming x.ref st a o.0 in
+          let ro = room_less st around (λ q. a q + c q) _ (λ q. omega arith) room in
+          let s1 = codes_go naming run st st1 around (main ∷ p) 0 cs (step_beside naming st st1 around a c ro l) o.2 s.1 in
+          ap (λ y. cond {A = Outcome (Code × State)} (takes_first z.unless (first_value (spot_pairs st1 x.ref))) (on_ok y (λ r. ok (branch_with z x true (kept k r)))) (fresh_branch run z x false p m (dropped_as naming (λ q. times_in q (lives_of cs) + times_comment q k) st1)))
+          (region_same enters safe m (main ∷ p) around cs st1 s1 d (codes_same m (main ∷ p) 0 around cs st1 (room_beside naming st st1 around a c ro l) o.2 s1 d))
+      code_same m p around (branch_code z x false k cs) st room o s d =
+          let a : Id → ℕ = λ q. occurs q x.made in
+          let c : Id → ℕ = λ q. times_in q (lives_of cs) in
+          let st1 = reread x.ref st in
+          let l = reread_left naming x.ref st a o.0 in
+          let ro = room_less st around (λ q. a q + c q) _ (λ q. omega arith) room in
+          let s1 = codes_go naming run st st1 around (otherwise ∷ p) 0 cs (step_beside naming st st1 around a c ro l) o.2 s.1 in
+          ap (λ y. cond {A = Outcome (Code × State)} (takes_first z.unless (first_value (spot_pairs st1 x.ref))) (fresh_branch run z x true p m (dropped_as naming (λ q. times_in q (lives_of cs) + times_comment q k) st1)) (on_ok y (λ r. ok (branch_with z x false (kept k r)))))
+          (region_same enters safe m (otherwise ∷ p) around cs st1 s1 d (codes_same m (otherwise ∷ p) 0 around cs st1 (room_beside naming st st1 around a c ro l) o.2 s1 d))
+      code_same m p around (listed_code z x is) st room o s d =
+          by (is_stale st x.ref) refl (λ t r k. items_same m (items ∷ p) around is t r o.2 k d) (elems_same m is o.2 d) where
+            by : (b : Bool) → is_stale st x.ref ≡ b
+                → ((t : State) → Room t around (λ q. times_items q (items_of is)) → SettledItems naming t around (items ∷ p) is → entered_items_as naming run enters once m (items ∷ p) is t ≡ renew_items_as naming run m (items ∷ p) is t)
+                → EachElem (ElemSame (entering_in m) (renewing naming notes run m)) (elems is)
+                → (if b then (let st1 = evaluate x.ref st in by_values (values_listed (first_value (spot_pairs st1 x.ref))) (entered_list z x m p is st1) (other_body z x m p is st1))
+                else on_ok (entering enters st (positions_items (items_of is)) is (entered_items_as naming run enters once m (items ∷ p) is st)) (λ r. ok (listed_code z x r.0, r.1)))
+                ≡ (let st1 = (if b then evaluate x.ref st else st) in by_values (values_listed (first_value (spot_pairs st1 x.ref))) (plain_list z x m p is st1) (other_body z x m p is st1))
+            by true e rec same =
+                let a : Id → ℕ = λ q. occurs q x.made in
+                let c : Id → ℕ = λ q. times_items q (items_of is) in
+                let st1 = evaluate x.ref st in
+                let l = evaluate_left naming x.ref st a o.0 in
+                let s1 = items_go naming run st st1 around (items ∷ p) is (step_beside naming st st1 around a c room l) o.2 s.1 in
+                values_same (values_listed (first_value (spot_pairs st1 x.ref))) (entered_list z x m p is st1) (plain_list z x m p is st1) (other_body z x m p is st1)
+                (λ vs. ap (λ y. on_ok y (λ r. ok (listed_code z x r.0, r.1)))
+                (synced_same (new_item z m) (one_left naming notes run z m o.1) m (items ∷ p) around (entries z.key 0 [] vs) is st1 (room_beside naming st st1 around a c room l) o.2 s1 d same))
+            by false e rec same =
+                let ri = room_less st around (λ q. times_items q (items_of is)) _ (λ q. omega arith) room in
+                let K : ItemCodes × State → Outcome (Code × State) = λ r. ok (listed_code z x r.0, r.1) in
+                sym
+                (list_chosen (values_listed (first_value (spot_pairs st x.ref))) (λ vs. Fits st.look (entries z.key 0 [] vs) is) (plain_list z x m p is st) (other_body z x m p is st)
+                (on_ok (entering enters st (positions_items (items_of is)) is (entered_items_as naming run enters once m (items ∷ p) is st)) K)
+                (λ vs f. ap (λ y. on_ok y K) (items_region (new_item z m) m (items ∷ p) around (entries z.key 0 [] vs) is st ri o.2 s.1 d f (rec st ri s.1))) (s.0.holds e))
+      code_same m p around (unlisted_code z x k cs) st room o s d =
+          let a : Id → ℕ = λ q. occurs q x.made in
+          let c : Id → ℕ = λ q. times_in q (lives_of cs) in
+          let st1 = reread x.ref st in
+          let l = reread_left naming x.ref st a o.0 in
+          let ro = room_less st around (λ q. a q + c q) _ (λ q. omega arith) room in
+          let s1 = codes_go naming run st st1 around (otherwise ∷ p) 0 cs (step_beside naming st st1 around a c ro l) o.2 s.1 in
+          ap (λ y. by_values (values_listed (first_value (spot_pairs st1 x.ref)))
+          (λ vs. on_ok (fresh_codes (fresh_item_as naming run z m) (items ∷ p) (entries z.key 0 [] vs) (dropped_as naming (λ q. times_in q (lives_of cs) + times_comment q k) st1)) (λ r. ok (listed_code z x r.0, r.1)))
+          (on_ok y (λ r. ok (unlisted_with z x (kept k r)))))
+          (region_same enters safe m (otherwise ∷ p) around cs st1 s1 d (codes_same m (otherwise ∷ p) 0 around cs st1 (room_beside naming st st1 around a c ro l) o.2 s1 d))
+      code_same m p around (let_code made rs cs) st room o s d =
+          ap (λ y. on_ok y (λ r. ok (let_code made rs r.0, r.1))) (codes_same m (main ∷ p) 0 (with_made made around) cs st (room_into st around (λ q. times_in q (lives_of cs)) made s.0 room) o s.1 d)
+      code_same zero p around (component_code i made gm args k cs) st room o s d = refl
+      code_same (suc m) p around (component_code i made gm args k cs) st room o s d =
+          ap (λ y. on_ok y (λ r. ok (component_code i made gm args k r.0, r.1)))
+          (region_same enters safe m i.path (with_made made around) cs st s.1 d (codes_same m i.path 0 (with_made made around) cs st (room_into st around (λ q. times_in q (lives_of cs)) made s.0 room) o s.1 d))
+      code_same m p around (yield_code n made rs cs) st room o s d =
+          ap (λ y. on_ok y (λ r. ok (yield_code n made rs r.0, r.1))) (codes_same m (slot n ∷ p) 0 (with_made made around) cs st (room_into st around (λ q. times_in q (lives_of cs)) made s.0 room) o s.1 d)
+
+      pub codes_same : (m : ℕ) (p : Path) (i : ℕ) (around : Id → ℕ) (cs : Codes) (st : State) → Room st around (λ q. times_in q (lives_of cs)) → OwnsIn naming run cs → SettledIn naming st around p i cs → NestsIn (lives_of cs) m
+          → entered_codes_as naming run enters once m p i cs st ≡ renew_codes_as naming run m p i cs st
+      codes_same m p i around no_codes st room o s d = refl
+      codes_same m p i around (code_and c cs) st room o s d =
+          let ca : Id → ℕ = λ q. times q (live_of c) in
+          let cb : Id → ℕ = λ q. times_in q (lives_of cs) in
+          ap (λ y. on_ok y (λ r. on_ok (entered_codes_as naming run enters once m p (suc i) cs r.1) (λ z. ok (code_and r.0 z.0, z.1)))) (code_same m (at i ∷ p) around c st (room_less st around ca _ (λ q. omega arith) room) o.0 s.0 d.0)
+          ∙ Rattle.gl_guards.proofs.Leaves.on_same (renew_code_as naming run m (at i ∷ p) c st) (λ r. on_ok (entered_codes_as naming run enters once m p (suc i) cs r.1) (λ z. ok (code_and r.0 z.0, z.1)))
+          (λ r. on_ok (renew_codes_as naming run m p (suc i) cs r.1) (λ z. ok (code_and r.0 z.0, z.1))) (λ r. Leaves naming st r.1 ca) (Rattle.gl_guards.proofs.Parts.code_left naming notes run m (at i ∷ p) c st o.0)
+          (λ r l. ap (λ y. on_ok y (λ z. ok (code_and r.0 z.0, z.1)))
+          (codes_same m p (suc i) around cs r.1 (room_beside naming st r.1 around ca cb room l) o.1 (codes_go naming run st r.1 around p (suc i) cs (step_beside naming st r.1 around ca cb room l) o.1 s.1) d.1))
+
+      pub items_same : (m : ℕ) (p : Path) (around : Id → ℕ) (is : ItemCodes) (st : State) → Room st around (λ q. times_items q (items_of is)) → OwnsItems naming run is → SettledItems naming st around p is → NestsItems (items_of is) m
+          → entered_items_as naming run enters once m p is st ≡ renew_items_as naming run m p is st
+      items_same m p around no_item_codes st room o s d = refl
+      items_same m p around (item_code z k cs is) st room o s d =
+          let q = item z.key z.occurrence ∷ p in
+          let inside = with_made (item_made z) around in
+          let ca : Id → ℕ = λ i. times_in i (lives_of cs) in
+          let cb : Id → ℕ = λ i. times_items i (items_of is) in
+          let ri = room_into st around ca (item_made z) s.0.0 (room_less st around (λ i. occurs i (item_made z) + ca i) _ (λ i. omega arith) room) in
+          let ro = room_less st around (λ i. ca i + cb i) _ (λ i. omega arith) room in
+          ap (λ y. on_ok y (λ r. on_ok (entered_items_as naming run enters once m p is r.1) (λ w. ok (item_code z k r.0 w.0, w.1)))) (region_same enters safe m q inside cs st s.0.3 d.0 (codes_same m q 0 inside cs st ri o.0 s.0.3 d.0))
+          ∙ Rattle.gl_guards.proofs.Leaves.on_same (renew_codes_as naming run m q 0 cs st) (λ r. on_ok (entered_items_as naming run enters once m p is r.1) (λ w. ok (item_code z k r.0 w.0, w.1)))
+          (λ r. on_ok (renew_items_as naming run m p is r.1) (λ w. ok (item_code z k r.0 w.0, w.1))) (λ r. Leaves naming st r.1 ca) (codes_left naming notes run m q 0 cs st o.0)
+          (λ r l. ap (λ y. on_ok y (λ w. ok (item_code z k r.0 w.0, w.1)))
+          (items_same m p around is r.1 (room_beside naming st r.1 around ca cb ro l) o.1 (items_go naming run st r.1 around p is (step_beside naming st r.1 around ca cb ro l) o.1 s.1) d.1))
+
+      pub elems_same : (m : ℕ) (is : ItemCodes) → OwnsItems naming run is → NestsItems (items_of is) m → EachElem (ElemSame (entering_in m) (renewing naming notes run m)) (elems is)
+      elems_same m no_item_codes o d = tt
+      elems_same m (item_code z k cs is) o d = ((λ q st around room s. region_same enters safe m q around cs st s d.0 (codes_same m q 0 around cs st room o.0 s d.0)), elems_same m is o.1 d.1)
+
+  -- an item that is entered where one of its positions is stale
+  abbrev pub guarding : ℕ → Goes
+  guarding m cs q st = guard st (positions_in (lives_of cs)) cs (guarded_codes_as naming run m q 0 cs st)

@@ -1,5 +1,5 @@
 -- The laws of an update that passes over what is fresh.
-use Rattle.std.specs.Prelude.{◌≡◌, ◌≤◌, ℕ, List, [], ◌∷◌, map, false, Some}
+use Rattle.std.specs.Prelude.{◌≡◌, ◌≤◌, ℕ, List, [], ◌∷◌, map, Bool, false, Some}
 use Rattle.gl_meaning.specs.App.{Event}
 use Rattle.gl_meaning.specs.Laws.{Reached}
 use Rattle.gl_meaning.specs.Session as session
@@ -23,9 +23,10 @@ use Rattle.gl_plain.specs.Turns.{begin}
 use Rattle.gl_naming.specs.Exist.{FieldsDiffer}
 use Rattle.gl_follows.specs.Sets.{set_all_by, AreThere, Put, put_all, held_of, AreOwn}
 use Rattle.gl_follows.specs.Turns.{FollowsBy}
-use Rattle.gl_guards.specs.Guarded.{any_stale, guarded_code_as, guarded_codes_as, guarded_items_as, renew_items_as, guarded_root_code_as}
+use Rattle.gl_guards.specs.Guarded.{any_stale, entered_code_as, entered_root_code_as, guarded_code_as, guarded_codes_as, guarded_items_as, renew_items_as, guarded_root_code_as}
+use Rattle.gl_guards.specs.Along.{along_root_code_as}
 use Rattle.gl_guards.specs.Questions.{root_asks_as}
-use Rattle.gl_guards.specs.Settled.{NotesApart, MayPass, MayPassIn, MayPassItems, Fits, AtRoot, IsRoot}
+use Rattle.gl_guards.specs.Settled.{PassesFresh, NotesApart, MayPass, MayPassIn, MayPassItems, Fits, AtRoot, IsRoot}
 
 -- Both namings leave all things where they note something.
 abbrev pub NamingsApart : Type 0
@@ -86,6 +87,19 @@ GuardedIsRenewRoot =
     (naming : Naming) → NotesApart naming → (run : Runs) (around : Id → ℕ) (m : ℕ) (k : Code) (st : State) → MayPass naming run st around m [] k → AtRoot k
     → guarded_root_code_as naming m run k st ≡ renew_root_code_as naming m run k st
 
+-- So does one that enters more regions: any question will do that passes over a region only where no position of it is stale, on a part,
+abbrev pub EnteredIsRenew : Type 0
+EnteredIsRenew =
+    (naming : Naming) → NotesApart naming → (run : Runs) (enters : State → List ℕ → Bool) → PassesFresh enters → (once : Bool) (around : Id → ℕ) (m : ℕ) (p : Path) (c : Code) (st : State) → MayPass naming run st around m p c
+    → entered_code_as naming run enters once m p c st ≡ renew_code_as naming run m p c st
+
+-- and on the whole page, of which another such question may be asked first.
+abbrev pub EnteredIsRenewRoot : Type 0
+EnteredIsRenewRoot =
+    (naming : Naming) → NotesApart naming → (run : Runs) (first : State → List ℕ → Bool) → PassesFresh first → (enters : State → List ℕ → Bool) → PassesFresh enters
+    → (once : Bool) (around : Id → ℕ) (m : ℕ) (k : Code) (st : State) → MayPass naming run st around m [] k → AtRoot k
+    → entered_root_code_as naming first enters once m run k st ≡ renew_root_code_as naming m run k st
+
 -- So it is in each turn of a session: where a machine by numbers follows a state, after the sets of an event its page may be passed over where it
 -- is fresh,
 abbrev pub TurnMayPass : Type 0
@@ -109,6 +123,23 @@ PutsAreRenew =
     → (xs : List Put) → AreOwn env.app f.named.owner (live_of k) xs → (applied env.app s (Some e)).sets ≡ map (held_of f.named.owner) xs
     → (n : ℕ) → let now = put_all xs (begin st) in
     guarded_root_code_as by_number env.app.limit (run_for_as by_number env [] n) k now ≡ renew_root_code_as by_number env.app.limit (run_for_as by_number env [] n) k now
+
+-- The same of one that enters more regions.
+abbrev pub PutsAreEntered : Type 0
+PutsAreEntered =
+    (first : State → List ℕ → Bool) → PassesFresh first → (enters : State → List ℕ → Bool) → PassesFresh enters → (once : Bool)
+    → (env : Env) → AllLowered env → FieldsDiffer env.app → (s : session.State) (e : Event) → Reached env.app s → (k : Code) (st : State) → PlacedRoot env k → (f : FollowsBy env.app s st (live_of k))
+    → (xs : List Put) → AreOwn env.app f.named.owner (live_of k) xs → (applied env.app s (Some e)).sets ≡ map (held_of f.named.owner) xs
+    → (n : ℕ) → let now = put_all xs (begin st) in
+    entered_root_code_as by_number first enters once env.app.limit (run_for_as by_number env [] n) k now ≡ renew_root_code_as by_number env.app.limit (run_for_as by_number env [] n) k now
+
+-- So is one that goes along the items of each list whose position isn't stale.
+abbrev pub PutsGoAlong : Type 0
+PutsGoAlong =
+    (env : Env) → AllLowered env → FieldsDiffer env.app → (s : session.State) (e : Event) → Reached env.app s → (k : Code) (st : State) → PlacedRoot env k → (f : FollowsBy env.app s st (live_of k))
+    → (xs : List Put) → AreOwn env.app f.named.owner (live_of k) xs → (applied env.app s (Some e)).sets ≡ map (held_of f.named.owner) xs
+    → (n : ℕ) → let now = put_all xs (begin st) in
+    along_root_code_as by_number env.app.limit (run_for_as by_number env [] n) k now ≡ renew_root_code_as by_number env.app.limit (run_for_as by_number env [] n) k now
 
 -- Where no position of a page is stale, one question is asked: that of the whole.
 abbrev pub FreshAsksOne : Type 0

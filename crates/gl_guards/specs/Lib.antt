@@ -1,4 +1,5 @@
 pub mod Guarded
+pub mod Along
 pub mod Questions
 pub mod Settled
 pub mod Laws

@@ -20,6 +20,7 @@ use Rattle.gl_machine.specs.Code.{Choice, Listing, Code, still_code, put_code, e
 use Rattle.gl_machine.specs.Nesting.{Nests, NestsIn, NestsItems}
 use Rattle.gl_machine.specs.Outcome.{Outcome, ok, deep, lost}
 use Rattle.gl_machine.specs.RenewCode.{Runs, start, item_locals}
+use Rattle.gl_guards.specs.Guarded.{any_stale}
 
 -- a source that a reference with a given number may hold
 abbrev pub IsGiven : Naming → State → Source → Type 0
@@ -31,6 +32,10 @@ pub record Leaves (naming : Naming) (st st' : State) (count : Id → ℕ) : Type
   pub more : (q : Id) → st.next q.kind ≤ st'.next q.kind
   pub rows : (q : Id) → q.num < st.next q.kind → count q ≡ 0 → st'.look q ≡ st.look q
   pub still : (y : Source) → IsGiven naming st y → st'.touched y ≡ false → st.touched y ≡ false
+
+-- A question passes over a region only where no position of it is stale.
+abbrev pub PassesFresh : (State → List ℕ → Bool) → Type 0
+PassesFresh enters = (st : State) (rs : List ℕ) → enters st rs ≡ false → any_stale st rs ≡ false
 
 -- where it ended well
 abbrev pub Ended : {A : Type 0} → Outcome A → (A → Type 0) → Type 0

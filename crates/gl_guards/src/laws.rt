@@ -1,6 +1,6 @@
 //! The laws of an update that passes over what is fresh. Each function does nothing: its contract is the law.
 
-ghost use Rattle.gl_guards.specs.Laws.{NamingsApart, FreshStays, FreshStaysIn, FreshStaysItems, FreshStaysRoot, ListGoesAlong, GuardedIsRenew, GuardedIsRenewIn, GuardedIsRenewItems, GuardedIsRenewRoot, TurnMayPass, TurnIsRenew, PutsAreRenew, FreshAsksOne, TurnAsks, PutsAsk};
+ghost use Rattle.gl_guards.specs.Laws.{NamingsApart, FreshStays, FreshStaysIn, FreshStaysItems, FreshStaysRoot, ListGoesAlong, GuardedIsRenew, GuardedIsRenewIn, GuardedIsRenewItems, GuardedIsRenewRoot, EnteredIsRenew, EnteredIsRenewRoot, TurnMayPass, TurnIsRenew, PutsAreRenew, PutsAreEntered, PutsGoAlong, FreshAsksOne, TurnAsks, PutsAsk};
 
 /// What is noted of what comes and goes leaves all things.
 pub fn notes()
@@ -28,11 +28,19 @@ pub fn guarded()
     ensures page { GuardedIsRenewRoot }
 {}
 
+/// So does an update that enters more regions than those, by any question that passes over what is fresh alone.
+pub fn entered()
+    ensures part { EnteredIsRenew }
+    ensures page { EnteredIsRenewRoot }
+{}
+
 /// So it is in each turn of a session, by numbers and through the words.
 pub fn turns()
     ensures may { TurnMayPass }
     ensures same { TurnIsRenew }
     ensures puts { PutsAreRenew }
+    ensures entered { PutsAreEntered }
+    ensures along { PutsGoAlong }
 {}
 
 /// Where no position of a page is stale, one question is asked; and in each turn of a session at most as many as the turn says.

@@ -23,6 +23,8 @@ use Rattle.gl_vm.specs.Steps.{Follows}
 use Rattle.gl_vm.specs.declared.vm.Vm.{Vm}
 use Rattle.gl_kept.specs.Between.{moved_between}
 use Rattle.gl_follows.specs.Sets.{put_all, held_of, AreOwn}
+use Rattle.gl_guards.specs.Along.{along_root_code_as}
+use Rattle.gl_guards.proofs.Pages.{puts_go_along}
 use Rattle.gl_append.specs.CodeView.{seen_code}
 use Rattle.gl_append.specs.Stepping.{env_of}
 use Rattle.gl_append.specs.Tables.{tables_of}
@@ -72,14 +74,24 @@ module _ (a : App) (templates : List Body) (rises : NamesRise (manifest_view a.m
 
   -- what the update answers over the state in which it begins
   abbrev Answers : ℕ → Outcome (PlainCode × State)
-  Answers k = renew_root_code_as by_number (env_of a templates).app.limit (run_for_as by_number (env_of a templates) [] k) (seen_code (tables_of (manifest_view a.manifest)) page.code) laid
+  Answers k = along_root_code_as by_number (env_of a templates).app.limit (run_for_as by_number (env_of a templates) [] k) (seen_code (tables_of (manifest_view a.manifest)) page.code) laid
+
+  -- that goes along lists that weren't touched, and does what the update does that reads all lists
+  goes_along : (k : ℕ)
+      → Answers k
+      ≡ renew_root_code_as by_number (env_of a templates).app.limit (run_for_as by_number (env_of a templates) [] k) (seen_code (tables_of (manifest_view a.manifest)) page.code)
+      (put_all (puts_of (world_of a templates page s x) sets) (begin (state_of (tables_of (manifest_view a.manifest)) page.vm x.touched)))
+  goes_along k =
+      ap (along_root_code_as by_number (env_of a templates).app.limit (run_for_as by_number (env_of a templates) [] k) (seen_code (tables_of (manifest_view a.manifest)) page.code)) laid_is
+      ∙ puts_go_along (env_of a templates) is_lowered differ s e x.reached (seen_code (tables_of (manifest_view a.manifest)) page.code) (state_of (tables_of (manifest_view a.manifest)) page.vm x.touched) x.placed x.follows
+      (puts_of (world_of a templates page s x) sets) own held k
 
   made : (k : ℕ) (r : PlainCode × State) → Answers k ≡ ok r
       → Made (env_of a templates) s (Some e) (ended_lines (env_of a templates).app (state_of (tables_of (manifest_view a.manifest)) page.vm x.touched) (live_of (seen_code (tables_of (manifest_view a.manifest)) page.code)) (live_of r.0)) (moved_between (live_of (seen_code (tables_of (manifest_view a.manifest)) page.code)) (live_of r.0)) r.0 r.1
   made k r is =
       next_made (env_of a templates) is_lowered differ s e x.reached (seen_code (tables_of (manifest_view a.manifest)) page.code) (state_of (tables_of (manifest_view a.manifest)) page.vm x.touched)
       x.placed x.follows (puts_of (world_of a templates page s x) sets) own held k r
-      (ap (renew_root_code_as by_number (env_of a templates).app.limit (run_for_as by_number (env_of a templates) [] k) (seen_code (tables_of (manifest_view a.manifest)) page.code)) (sym laid_is) ∙ is)
+      (sym (goes_along k) ∙ is)
 
   ends : (k : ℕ) (r : PlainCode × State) → Answers k ≡ ok r
       → ended_lines (env_of a templates).app (state_of (tables_of (manifest_view a.manifest)) page.vm x.touched) (live_of (seen_code (tables_of (manifest_view a.manifest)) page.code)) (live_of r.0)
@@ -87,11 +99,11 @@ module _ (a : App) (templates : List Body) (rises : NamesRise (manifest_view a.m
   ends k r is =
       next_ends (env_of a templates) is_lowered differ s e x.reached (seen_code (tables_of (manifest_view a.manifest)) page.code) (state_of (tables_of (manifest_view a.manifest)) page.vm x.touched)
       x.placed x.follows (puts_of (world_of a templates page s x) sets) own held k r
-      (ap (renew_root_code_as by_number (env_of a templates).app.limit (run_for_as by_number (env_of a templates) [] k) (seen_code (tables_of (manifest_view a.manifest)) page.code)) (sym laid_is) ∙ is)
+      (sym (goes_along k) ∙ is)
 
   module _ (mid : Vm) (begun : Follows (tables_of (manifest_view a.manifest)) laid mid) where
     -- the update after which the page stands in the next state
-    pub renewed : (page' : Page) → Renews a [] (λ n run. renew_root_code_as by_number a.manifest.limit run (seen_code n page.code)) mid (λ n. seen_code n page'.code) page'.vm
+    pub renewed : (page' : Page) → Renews a [] (λ n run. along_root_code_as by_number a.manifest.limit run (seen_code n page.code)) mid (λ n. seen_code n page'.code) page'.vm
         → (r : State) × Follows (tables_of (manifest_view a.manifest)) r page'.vm
         × Made (env_of a templates) s (Some e) (ended_lines (env_of a templates).app (state_of (tables_of (manifest_view a.manifest)) page.vm x.touched) (live_of (seen_code (tables_of (manifest_view a.manifest)) page.code)) (live_of (seen_code (tables_of (manifest_view a.manifest)) page'.code)))
         (moved_between (live_of (seen_code (tables_of (manifest_view a.manifest)) page.code)) (live_of (seen_code (tables_of (manifest_view a.manifest)) page'.code)))
@@ -101,16 +113,16 @@ module _ (a : App) (templates : List Body) (rises : NamesRise (manifest_view a.m
     renewed page' h =
         let r = h templates rises laid.touched begun.agrees in
         let is : Answers r.steps ≡ ok (seen_code (tables_of (manifest_view a.manifest)) page'.code, r.state) =
-        ap (renew_root_code_as by_number (env_of a templates).app.limit (run_for_as by_number (env_of a templates) [] r.steps) (seen_code (tables_of (manifest_view a.manifest)) page.code)) (sym begun.state) ∙ r.is r.steps (le_refl r.steps) in (
+        ap (along_root_code_as by_number (env_of a templates).app.limit (run_for_as by_number (env_of a templates) [] r.steps) (seen_code (tables_of (manifest_view a.manifest)) page.code)) (sym begun.state) ∙ r.is r.steps (le_refl r.steps) in (
           r.state,
           r.follows,
           made r.steps (seen_code (tables_of (manifest_view a.manifest)) page'.code, r.state) is,
           ends r.steps (seen_code (tables_of (manifest_view a.manifest)) page'.code, r.state) is,
         )
 
-    pub too_deep : RenewsDeep {A = PlainCode} a [] (λ n run. renew_root_code_as by_number a.manifest.limit run (seen_code n page.code)) mid → step (env_of a templates).app s (Some e) ≡ None
+    pub too_deep : RenewsDeep {A = PlainCode} a [] (λ n run. along_root_code_as by_number a.manifest.limit run (seen_code n page.code)) mid → step (env_of a templates).app s (Some e) ≡ None
     too_deep h =
         let r = h templates rises laid.touched begun.agrees in
         next_fails (env_of a templates) is_lowered differ s e x.reached (seen_code (tables_of (manifest_view a.manifest)) page.code) (state_of (tables_of (manifest_view a.manifest)) page.vm x.touched)
         x.placed x.follows (puts_of (world_of a templates page s x) sets) own held r.0
-        (ap (renew_root_code_as by_number (env_of a templates).app.limit (run_for_as by_number (env_of a templates) [] r.0) (seen_code (tables_of (manifest_view a.manifest)) page.code)) (sym laid_is ∙ sym begun.state) ∙ r.1 r.0 (le_refl r.0))
+        (sym (goes_along r.0) ∙ (ap (along_root_code_as by_number (env_of a templates).app.limit (run_for_as by_number (env_of a templates) [] r.0) (seen_code (tables_of (manifest_view a.manifest)) page.code)) (sym begun.state) ∙ r.1 r.0 (le_refl r.0)))

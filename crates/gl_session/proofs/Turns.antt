@@ -20,7 +20,7 @@ use Rattle.gl_plain.specs.Naming.{by_number}
 use Rattle.gl_naming.specs.Exist.{FieldsDiffer}
 use Rattle.gl_naming.proofs.Rules.{entries_differ}
 use Rattle.gl_machine.specs.Code.{Code as PlainCode, live_of}
-use Rattle.gl_machine.specs.Root.{renew_root_code_as}
+use Rattle.gl_guards.specs.Along.{along_root_code_as}
 use Rattle.gl_machine.specs.Shape.{nest}
 use Rattle.gl_vm.specs.View.{Tables, state_of}
 use Rattle.gl_vm.specs.Steps.{Follows, Does}
@@ -86,7 +86,7 @@ module _ (a : App) (templates : List Body) (rises : NamesRise (manifest_view a.m
   begun = did (tables_of (manifest_view a.manifest)) x.touched x.agrees
 
   -- the page that is updated stands in the state after it, once its log is written
-  pub next_goes : (page' : Page) → Renews a [] (λ n run. renew_root_code_as by_number a.manifest.limit run (seen_code n page.code)) mid (λ n. seen_code n page'.code) page'.vm
+  pub next_goes : (page' : Page) → Renews a [] (λ n run. along_root_code_as by_number a.manifest.limit run (seen_code n page.code)) mid (λ n. seen_code n page'.code) page'.vm
       → ((n : Tables) → nest_of page'.vm.tree.forest ≡ nest (live_of (seen_code n page'.code))) → IsFlat page'.vm.tree → IsSound page'.vm.mods
       → (before : List Ending) → Lists page before → (d : Text) → Logs a before page' d
       → (state : State) (turn : ℕ) (missing : List ℕ) (made : Turn) → turn ≡ s.turn → missing ≡ (applied (env_of a templates).app s (Some e)).missing
@@ -104,10 +104,10 @@ module _ (a : App) (templates : List Body) (rises : NamesRise (manifest_view a.m
       (ap (λ k. head_line k (Some e)) t) (ap missing_lines q) (w ∙ ap (λ z. written a templates page' s (Some e) z r.0 (head_line turn (Some e)) (missing_lines missing)) told)
       (record { evaluated = did'.evaluated; made = did'.made ∙ ap (λ k. page'.vm.tree.nodes.made - k) first; moved = did'.moved ∙ moves (tables_of (manifest_view a.manifest)) })
 
-  pub next_is_deep : RenewsDeep {A = PlainCode} a [] (λ n run. renew_root_code_as by_number a.manifest.limit run (seen_code n page.code)) mid → step (app_with a templates) s (Some e) ≡ None
+  pub next_is_deep : RenewsDeep {A = PlainCode} a [] (λ n run. along_root_code_as by_number a.manifest.limit run (seen_code n page.code)) mid → step (app_with a templates) s (Some e) ≡ None
   next_is_deep h = too_deep a templates rises lowered (fields_differ a templates rises) page s x e sets givens same owned found mid begun h
 
-  pub next_fault : (f : VmFault) → RenewFails {A = PlainCode} a [] (λ n run. renew_root_code_as by_number a.manifest.limit run (seen_code n page.code)) mid f → TurnFails a templates s (Some e) f
+  pub next_fault : (f : VmFault) → RenewFails {A = PlainCode} a [] (λ n run. along_root_code_as by_number a.manifest.limit run (seen_code n page.code)) mid f → TurnFails a templates s (Some e) f
   next_fault fault.NestingLimit h = next_is_deep h
   next_fault fault.Memory h = tt
 

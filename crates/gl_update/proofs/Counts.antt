@@ -1,5 +1,5 @@
 -- How many items are moved between two pieces of the updating program, by how they are put together.
-use Rattle.std.proofs.Common.{◌≡◌, ◌≢◌, ℕ, zero, suc, ◌+◌, List, [], ◌∷◌, ◌++◌, map, length, Bool, true, false, Option, Some, None, refl, sym, ◌∙◌, ap, ap₂, subst, inl, inr, arith}
+use Rattle.std.proofs.Common.{◌≡◌, ◌≢◌, ℕ, zero, suc, ◌+◌, List, [], ◌∷◌, ◌++◌, map, length, Bool, true, false, Option, Some, None, refl, sym, ◌∙◌, ap, subst, inl, inr, arith}
 use Rattle.std.specs.Prelude.{slice_get, if◌then◌else◌}
 use Rattle.gl_meaning.specs.Known.{Among}
 use Rattle.gl_meaning.specs.Laws.{NoRepeat}
@@ -52,11 +52,11 @@ among_key (x ∷ xs) zero k e = let is : Some x ≡ Some k = e in inl cc
 among_key (x ∷ xs) (suc i) k e = inr (among_key xs i k e)
 
 -- the first of the items, or one of the others
-first_or : (k : Key) (x : Item) (xs : List Item) (b : Bool) → same_key k (spot_key x) ≡ b
+pub first_or : (k : Key) (x : Item) (xs : List Item) (b : Bool) → same_key k (spot_key x) ≡ b
     → lives_with k (items_of (all_items (x ∷ xs))) ≡ (if b then Some (lives_of x.1.1) else lives_with k (items_of (all_items xs)))
 first_or k x xs b e = ap (λ t. if t then Some (lives_of x.1.1) else lives_with k (items_of (all_items xs))) e
 
-apart_keys : (k l : Key) → k ≢ l → same_key k l ≡ false
+pub apart_keys : (k l : Key) → k ≢ l → same_key k l ≡ false
 apart_keys k l ne = by (same_key k l) refl where
   by : (b : Bool) → same_key k l ≡ b → b ≡ false
   by true e = absurd (ne ((same_key-Decides k l).0 e))

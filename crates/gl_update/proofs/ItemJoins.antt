@@ -9,7 +9,8 @@ use Rattle.gl_plain.specs.Naming.{by_number}
 use Rattle.gl_plain.specs.Renew.{give}
 use Rattle.gl_machine.specs.Code.{Codes, ItemCodes, no_item_codes, item_code}
 use Rattle.gl_machine.specs.Outcome.{Outcome, ok, deep, lost, on_ok}
-use Rattle.gl_machine.specs.RenewCode.{Runs, CodeHandle, ItemDone, item_done, item_with, commented, with_left, renew_codes_as, renew_item_code_as, code_handles_as}
+use Rattle.gl_machine.specs.RenewCode.{Runs, CodeHandle, ItemDone, item_done, item_with, commented, with_left, renew_item_code_as}
+use Rattle.gl_guards.specs.Along.{along_codes_as, along_handles_as}
 use Rattle.gl_append.specs.CodeView.{all_items}
 use Rattle.gl_update.specs.ListItems.{Item, item_kept, one_item, items_before, onto, handle, handles}
 
@@ -46,7 +47,7 @@ pub before_none : (ys : List Item) → items_before ys no_item_codes ≡ all_ite
 before_none [] = refl
 before_none (y ∷ ys) = ap (item_code y.0 y.1.0 y.1.1) (before_none ys)
 
-pub handles_are : (run : Runs) (m : ℕ) (xs : List Item) → code_handles_as by_number run m (all_items xs) ≡ handles run m xs
+pub handles_are : (run : Runs) (m : ℕ) (xs : List Item) → along_handles_as by_number run m (all_items xs) ≡ handles run m xs
 handles_are run m [] = refl
 handles_are run m (x ∷ xs) = ap (λ hs. handle run m x ∷ hs) (handles_are run m xs)
 
@@ -63,6 +64,6 @@ renewed_by x lost = refl
 
 pub item_renewed : (run : Runs) (m : ℕ) (q : Path) (e : Entry) (x : Item) (st : State)
     → one_item (renew_item_code_as by_number q e (handle run m x) st)
-    ≡ on_ok (renew_codes_as by_number run m q 0 x.1.1 (give x.0.index (by_number.index_source x.0.index q) (count_value e.index) (give x.0.value (by_number.value_source x.0.value q) e.value st))) (λ r. ok ((x.0, (x.1.0, r.0)), r.1))
+    ≡ on_ok (along_codes_as by_number run m q 0 x.1.1 (give x.0.index (by_number.index_source x.0.index q) (count_value e.index) (give x.0.value (by_number.value_source x.0.value q) e.value st))) (λ r. ok ((x.0, (x.1.0, r.0)), r.1))
 item_renewed run m q e x st =
-    renewed_by x (renew_codes_as by_number run m q 0 x.1.1 (give x.0.index (by_number.index_source x.0.index q) (count_value e.index) (give x.0.value (by_number.value_source x.0.value q) e.value st)))
+    renewed_by x (along_codes_as by_number run m q 0 x.1.1 (give x.0.index (by_number.index_source x.0.index q) (count_value e.index) (give x.0.value (by_number.value_source x.0.value q) e.value st)))

@@ -17,3 +17,5 @@ pub mod ListUpdates
 pub mod Counts
 pub mod MovedCodes
 pub mod SyncCounts
+pub mod AlongCounts
+pub mod AlongItems

@@ -1,5 +1,6 @@
 -- An `each` that is read again.
-use Rattle.std.proofs.Common.{◌≡◌, ℕ, ◌+◌, Bool, List, [], ◌∷◌, map, Option, refl, sym, ◌∙◌, ap, ap₂, rules}
+use Rattle.std.proofs.Common.{◌≡◌, ℕ, ◌+◌, Bool, true, false, List, [], ◌∷◌, map, Option, refl, sym, ◌∙◌, ap, ap₂, rules}
+use Rattle.std.specs.Prelude.{if◌then◌else◌}
 use Rattle.std.specs.declared.vec.Vec.{Vec}
 use Rattle.std.specs.declared.alloc.Global.{Global}
 use Rattle.gl_arena.specs.Id.{Id}
@@ -13,12 +14,13 @@ use Rattle.gl_plain.specs.Binding.{Spot, first_value}
 use Rattle.gl_plain.specs.Ids.{Id as Name}
 use Rattle.gl_plain.specs.Live.{times_in, times_comment, times_items}
 use Rattle.gl_plain.specs.Naming.{by_number, dropped_as}
-use Rattle.gl_plain.specs.Renew.{spot_pairs, reread}
+use Rattle.gl_plain.specs.Renew.{spot_pairs, is_stale, evaluate, reread}
 use Rattle.gl_plain.specs.State.{State}
 use Rattle.gl_machine.specs.Code as c
 use Rattle.gl_machine.specs.Code.{Listing as PlainListing, Code as PlainCode, Codes as PlainCodes, ItemCodes, listed_code, unlisted_code, lives_of, items_of}
 use Rattle.gl_machine.specs.Outcome.{Outcome, ok, on_ok}
-use Rattle.gl_machine.specs.RenewCode.{Start, start, Runs, by_values, commented, kept, unlisted_with, fresh_item_as, fresh_codes, fresh_other, sync_codes_as, code_handles_as, renew_codes_as, renew_code_as}
+use Rattle.gl_machine.specs.RenewCode.{Start, start, Runs, by_values, commented, kept, unlisted_with, fresh_item_as, fresh_codes, fresh_other, sync_codes_as}
+use Rattle.gl_guards.specs.Along.{along_code_as, along_codes_as, along_handles_as}
 use Rattle.gl_vm.specs.View.{Tables, state_of, Agrees}
 use Rattle.gl_vm.specs.Steps.{Does}
 use Rattle.gl_vm.specs.declared.vm.Vm.{Vm}
@@ -31,9 +33,10 @@ use Rattle.gl_append.specs.declared.code.ItemCode.{ItemCode}
 use Rattle.gl_append.specs.declared.code.Code.TheVariants.{Listed, Unlisted}
 use Rattle.gl_append.specs.declared.fault.VmFault.{VmFault}
 use Rattle.gl_update.specs.Renewing.{Renewal, Renews, RenewFails}
-use Rattle.gl_update.specs.ListItems.{Item, FreshItems, ListsFresh, ListsNone, StaysNone, Syncs}
+use Rattle.gl_update.specs.ListItems.{Item, FreshItems, ListsFresh, ListsNone, StaysNone, Syncs, Relists, GoesAlong}
 use Rattle.gl_update.proofs.Branching.{renews_commented}
 use Rattle.gl_update.proofs.ItemJoins.{handles_are}
+use Rattle.gl_update.proofs.Onward.{renews_agreed, fails_agreed}
 use Rattle.gl_update.proofs.Renewing.{renews_same, renews_then, renews_in, does_renews, fails_same, fails_first, fails_in, does_fails}
 
 module _ (n : Tables) where
@@ -64,7 +67,7 @@ module _ (a : App) (cells : CellList) (z : Tables → PlainListing) (key : Text)
 
   module _ (k : Option ℕ) (cs : Tables → PlainCodes) where
     abbrev pub Unlisting : Renewal PlainCode
-    Unlisting = λ n run. renew_code_as by_number run left p (unlisted_code (z n) s k (cs n))
+    Unlisting = λ n run. along_code_as by_number run left p (unlisted_code (z n) s k (cs n))
 
     abbrev pub gone : Tables → Name → ℕ
     gone n q = times_in q (lives_of (cs n)) + times_comment q k
@@ -73,7 +76,7 @@ module _ (a : App) (cells : CellList) (z : Tables → PlainListing) (key : Text)
     unlisting = λ n run st.
         by_values (values_listed (first_value (spot_pairs st s.ref)))
         (λ vs. on_ok (fresh_codes (fresh_item_as by_number run (z n) left) (items ∷ p) (entries (z n).key 0 [] vs) (dropped_as by_number (gone n) st)) (λ r. ok (listed_code (z n) s r.0, r.1)))
-        (on_ok (renew_codes_as by_number run left (otherwise ∷ p) 0 (cs n) st) (λ r. ok (unlisted_with (z n) s (kept k r))))
+        (on_ok (along_codes_as by_number run left (otherwise ∷ p) 0 (cs n) st) (λ r. ok (unlisted_with (z n) s (kept k r))))
 
     stays_is : (vm : Vm) → Gives [] vm → (n : Tables) (run : Runs) (u : Source → Bool) → StaysNone z s left p k cs n run (state_of n vm u) ≡ unlisting n run (state_of n vm u)
     stays_is vm g n run u =
@@ -91,19 +94,19 @@ module _ (a : App) (cells : CellList) (z : Tables → PlainListing) (key : Text)
         (StaysNone z s left p k cs n run st) (λ none. some (sym (gives_at es vm g n u) ∙ none)))
 
     -- nothing comes: the body is walked along
-    pub unlisted_stays : (old mid new : Vm) (ds : Tables → PlainCodes) → Does (λ n. reread s.ref) old mid → Gives [] mid → Renews a cells (λ n run. renew_codes_as by_number run left (otherwise ∷ p) 0 (cs n)) mid ds new
+    pub unlisted_stays : (old mid new : Vm) (ds : Tables → PlainCodes) → Does (λ n. reread s.ref) old mid → Gives [] mid → Renews a cells (λ n run. along_codes_as by_number run left (otherwise ∷ p) 0 (cs n)) mid ds new
         → Renews a cells Unlisting old (λ n. unlisted_code (z n) s k (ds n)) new
     unlisted_stays old mid new ds d g r =
         does_renews a cells (λ n. reread s.ref) unlisting (λ n. unlisted_code (z n) s k (ds n)) old mid new d
         (renews_same a cells (StaysNone z s left p k cs) unlisting (λ n. unlisted_code (z n) s k (ds n)) mid new (stays_is mid g)
-        (renews_in a cells (λ n run. renew_codes_as by_number run left (otherwise ∷ p) 0 (cs n)) (λ n x. unlisted_code (z n) s k x) ds mid new r))
+        (renews_in a cells (λ n run. along_codes_as by_number run left (otherwise ∷ p) 0 (cs n)) (λ n x. unlisted_code (z n) s k x) ds mid new r))
 
-    pub unlisted_stays_fails : (old mid : Vm) (h : VmFault) → Does (λ n. reread s.ref) old mid → Gives [] mid → RenewFails {A = PlainCodes} a cells (λ n run. renew_codes_as by_number run left (otherwise ∷ p) 0 (cs n)) mid h
+    pub unlisted_stays_fails : (old mid : Vm) (h : VmFault) → Does (λ n. reread s.ref) old mid → Gives [] mid → RenewFails {A = PlainCodes} a cells (λ n run. along_codes_as by_number run left (otherwise ∷ p) 0 (cs n)) mid h
         → RenewFails {A = PlainCode} a cells Unlisting old h
     unlisted_stays_fails old mid h d g r =
         does_fails a cells (λ n. reread s.ref) unlisting old mid h d
         (fails_same a cells (StaysNone z s left p k cs) unlisting mid h (stays_is mid g)
-        (fails_in a cells (λ n run. renew_codes_as by_number run left (otherwise ∷ p) 0 (cs n)) (λ n x. unlisted_code (z n) s k x) (λ n st. st) mid h r))
+        (fails_in a cells (λ n run. along_codes_as by_number run left (otherwise ∷ p) 0 (cs n)) (λ n x. unlisted_code (z n) s k x) (λ n st. st) mid h r))
 
     -- items come
     pub unlisted_lists : (es : List PlainEntry) (old mid new : Vm) (x : Tables → PlainCode) → (es ≡ [] → ⊥) → Does (λ n. reread s.ref) old mid → Gives es mid → Renews a cells (ListsFresh z s left p es gone) mid x new → Renews a cells Unlisting old x new
@@ -119,7 +122,7 @@ module _ (a : App) (cells : CellList) (z : Tables → PlainListing) (key : Text)
 
   module _ (xs : Tables → List Item) where
     abbrev pub Relisting : Renewal PlainCode
-    Relisting = λ n run. renew_code_as by_number run left p (listed_code (z n) s (all_items (xs n)))
+    Relisting = Relists z s left p xs
 
     abbrev pub ended : Tables → Name → ℕ
     ended n q = times_items q (items_of (all_items (xs n)))
@@ -127,11 +130,11 @@ module _ (a : App) (cells : CellList) (z : Tables → PlainListing) (key : Text)
     abbrev listing : Renewal PlainCode
     listing = λ n run st.
         by_values (values_listed (first_value (spot_pairs st s.ref)))
-        (λ vs. on_ok (sync_codes_as by_number (fresh_item_as by_number run (z n) left) (items ∷ p) (entries (z n).key 0 [] vs) (code_handles_as by_number run left (all_items (xs n))) st) (λ r. ok (listed_code (z n) s r.0, r.1)))
+        (λ vs. on_ok (sync_codes_as by_number (fresh_item_as by_number run (z n) left) (items ∷ p) (entries (z n).key 0 [] vs) (along_handles_as by_number run left (all_items (xs n))) st) (λ r. ok (listed_code (z n) s r.0, r.1)))
         (fresh_other run (z n) s p left (dropped_as by_number (ended n) st))
 
     abbrev synced : Tables → Runs → State → Values Path → Outcome (PlainCode × State)
-    synced n run st vs = on_ok (sync_codes_as by_number (fresh_item_as by_number run (z n) left) (items ∷ p) (entries (z n).key 0 [] vs) (code_handles_as by_number run left (all_items (xs n))) st) (λ r. ok (listed_code (z n) s r.0, r.1))
+    synced n run st vs = on_ok (sync_codes_as by_number (fresh_item_as by_number run (z n) left) (items ∷ p) (entries (z n).key 0 [] vs) (along_handles_as by_number run left (all_items (xs n))) st) (λ r. ok (listed_code (z n) s r.0, r.1))
 
     none_is : (vm : Vm) → Gives [] vm → (n : Tables) (run : Runs) (u : Source → Bool) → ListsNone z s left p ended n run (state_of n vm u) ≡ listing n run (state_of n vm u)
     none_is vm g n run u =
@@ -157,6 +160,36 @@ module _ (a : App) (cells : CellList) (z : Tables → PlainListing) (key : Text)
 
     pub listed_syncs_fails : (es : List PlainEntry) (old mid : Vm) (h : VmFault) → (es ≡ [] → ⊥) → Does (λ n. reread s.ref) old mid → Gives es mid → RenewFails {A = PlainCode} a cells (Syncs z s left p es xs) mid h → RenewFails {A = PlainCode} a cells Relisting old h
     listed_syncs_fails es old mid h some d g r = does_fails a cells (λ n. reread s.ref) listing old mid h d (fails_same a cells (Syncs z s left p es xs) listing mid h (synced_is es mid some g) r)
+
+    -- A list whose position is stale is read again; the items of another one are gone along.
+
+    abbrev pub Updating : Renewal PlainCode
+    Updating = λ n run. along_code_as by_number run left p (listed_code (z n) s (all_items (xs n)))
+
+    abbrev pub IsStale : Bool → Vm → Type 0
+    IsStale b vm = (n : Tables) (u : Source → Bool) → Agrees u vm → is_stale (state_of n vm u) s.ref ≡ b
+
+    read_is : (vm : Vm) → IsStale true vm → (n : Tables) (run : Runs) (u : Source → Bool) → Agrees u vm → Relists z s left p xs n run (state_of n vm u) ≡ Updating n run (state_of n vm u)
+    read_is vm h n run u agrees =
+        let st : State = state_of n vm u in
+        ap (λ b. listing n run (if b then evaluate s.ref st else st)) (h n u agrees)
+        ∙ sym (ap (λ b. if b then listing n run (evaluate s.ref st) else GoesAlong z s left p xs n run st) (h n u agrees))
+
+    along_is : (vm : Vm) → IsStale false vm → (n : Tables) (run : Runs) (u : Source → Bool) → Agrees u vm → GoesAlong z s left p xs n run (state_of n vm u) ≡ Updating n run (state_of n vm u)
+    along_is vm h n run u agrees =
+        let st : State = state_of n vm u in sym (ap (λ b. if b then listing n run (evaluate s.ref st) else GoesAlong z s left p xs n run st) (h n u agrees))
+
+    pub listed_reads : (old mid new : Vm) (x : Tables → PlainCode) → IsStale true old → Does (λ n st. st) old mid → Renews a cells (Relists z s left p xs) mid x new → Renews a cells Updating old x new
+    listed_reads old mid new x h d r = renews_agreed a cells (Relists z s left p xs) Updating x old new (read_is old h) (does_renews a cells (λ n st. st) (Relists z s left p xs) x old mid new d r)
+
+    pub listed_reads_fails : (old mid : Vm) (f : VmFault) → IsStale true old → Does (λ n st. st) old mid → RenewFails {A = PlainCode} a cells (Relists z s left p xs) mid f → RenewFails {A = PlainCode} a cells Updating old f
+    listed_reads_fails old mid f h d r = fails_agreed a cells (Relists z s left p xs) Updating old f (read_is old h) (does_fails a cells (λ n st. st) (Relists z s left p xs) old mid f d r)
+
+    pub listed_goes : (old mid new : Vm) (x : Tables → PlainCode) → IsStale false old → Does (λ n st. st) old mid → Renews a cells (GoesAlong z s left p xs) mid x new → Renews a cells Updating old x new
+    listed_goes old mid new x h d r = renews_agreed a cells (GoesAlong z s left p xs) Updating x old new (along_is old h) (does_renews a cells (λ n st. st) (GoesAlong z s left p xs) x old mid new d r)
+
+    pub listed_goes_fails : (old mid : Vm) (f : VmFault) → IsStale false old → Does (λ n st. st) old mid → RenewFails {A = PlainCode} a cells (GoesAlong z s left p xs) mid f → RenewFails {A = PlainCode} a cells Updating old f
+    listed_goes_fails old mid f h d r = fails_agreed a cells (GoesAlong z s left p xs) Updating old f (along_is old h) (does_fails a cells (λ n st. st) (GoesAlong z s left p xs) old mid f d r)
 
   -- In the place of what stood there
 

@@ -1,5 +1,5 @@
 -- What was moved, counted as the updating program is walked along.
-use Rattle.std.proofs.Common.{◌≡◌, ◌≢◌, ◌≤◌, ◌<◌, ℕ, ◌+◌, Bool, List, [], ◌∷◌, ◌++◌, map, take, set, length, get_or, Option, refl, sym, ◌∙◌, ap, ap₂, arith}
+use Rattle.std.proofs.Common.{◌≡◌, ◌≢◌, ◌≤◌, ◌<◌, ℕ, ◌+◌, Bool, List, [], ◌∷◌, ◌++◌, map, take, set, length, get_or, Option, sym, ◌∙◌, ap, ap₂, arith}
 use Rattle.std.proofs.lemmas.List.{map-append, length-map, length-take-le, take_all, take_more, take_more_set}
 use Rattle.gl_plain.specs.Binding.{Spot}
 use Rattle.gl_machine.specs.Code.{Choice, Listing, Code as PlainCode, Codes as PlainCodes, branch_code, listed_code, unlisted_code, live_of, lives_of}

@@ -1,5 +1,5 @@
 -- What was moved of the items of a list that become those of other entries.
-use Rattle.std.proofs.Common.{◌≡◌, ◌≢◌, ℕ, zero, suc, ◌+◌, Bool, true, false, List, [], ◌∷◌, ◌++◌, map, reverse, set, Option, Some, None, slice_get, append-nil, append_assoc, refl, sym, ◌∙◌, ap, ap₂, subst, arith}
+use Rattle.std.proofs.Common.{◌≡◌, ◌≢◌, ℕ, zero, suc, ◌+◌, Bool, false, List, [], ◌∷◌, ◌++◌, map, reverse, set, Option, Some, None, slice_get, append-nil, append_assoc, refl, sym, ◌∙◌, ap, ap₂, subst, arith}
 use Rattle.std.proofs.lemmas.List.{map-append}
 use Rattle.gl_meaning.specs.Laws.{NoRepeat}
 use Rattle.gl_plain.specs.Binding.{Spot}
@@ -17,7 +17,7 @@ use Rattle.gl_append.specs.declared.code.ItemCode.{ItemCode}
 use Rattle.gl_append.specs.declared.machine.Entry.{Entry}
 use Rattle.gl_append.proofs.EntryLists.{next_left}
 use Rattle.gl_update.specs.Counted.{one_if, CodeMoved, HasKey, ItemMoved, ItemsMoved, live_items}
-use Rattle.gl_update.specs.ListItems.{Item, spot_key, there}
+use Rattle.gl_update.specs.ListItems.{spot_key, there}
 use Rattle.gl_update.specs.OldItems.{code_key, is_move, CodeKeys, Picks, Plans, TakenAt, TakenBy, IsReady}
 use Rattle.gl_update.specs.declared.counting.Moved.{Moved}
 use Rattle.gl_update.specs.declared.old_items.Work.{Work}
@@ -163,7 +163,7 @@ syncing_end m0 m w0 w done r none h = (
 
 -- The list
 
-keys_seen : (n : Tables) (xs : List ItemCode) → map spot_key (map (seen_item_code n) xs) ≡ map code_key xs
+pub keys_seen : (n : Tables) (xs : List ItemCode) → map spot_key (map (seen_item_code n) xs) ≡ map code_key xs
 keys_seen n [] = refl
 keys_seen n (x ∷ xs) = ap₂ (λ (k : Key) ks. k ∷ ks) (key_is n x) (keys_seen n xs)
 

@@ -7,7 +7,7 @@ use Rattle.gl_opc.specs.declared.app.App.{App}
 use Rattle.gl_plain.specs.Naming.{by_number}
 use Rattle.gl_machine.specs.Code.{Code as PlainCode, Codes as PlainCodes, no_codes, code_and}
 use Rattle.gl_machine.specs.Outcome.{ok, on_ok}
-use Rattle.gl_machine.specs.RenewCode.{renew_code_as, renew_codes_as}
+use Rattle.gl_guards.specs.Along.{along_code_as, along_codes_as}
 use Rattle.gl_vm.specs.View.{Tables, state_of}
 use Rattle.gl_vm.specs.declared.vm.Vm.{Vm}
 use Rattle.gl_append.specs.CodeView.{all_codes, seen_code, seen_codes}
@@ -25,13 +25,13 @@ seen_all xs n = all_codes (map (seen_code n) xs)
 module _ (a : App) (cells : CellList) (left : ℕ) (p : Path) where
   -- the update of one statement, of those from a place on, and of a body
   abbrev pub One : Path → Code → Renewal PlainCode
-  One q x = λ n run. renew_code_as by_number run left q (seen_code n x)
+  One q x = λ n run. along_code_as by_number run left q (seen_code n x)
 
   abbrev pub Rest : ℕ → List Code → Renewal PlainCodes
-  Rest i xs = λ n run. renew_codes_as by_number run left p i (seen_all xs n)
+  Rest i xs = λ n run. along_codes_as by_number run left p i (seen_all xs n)
 
   abbrev pub All : Codes → Renewal PlainCodes
-  All x = λ n run. renew_codes_as by_number run left p 0 (seen_codes n x)
+  All x = λ n run. along_codes_as by_number run left p 0 (seen_codes n x)
 
   -- Whatever the rest gives, the whole gives.
   pub record Walks (all : Codes) (vm0 : Vm) (items : List Code) (i : ℕ) (vm : Vm) : Type 0 where
@@ -43,8 +43,8 @@ module _ (a : App) (cells : CellList) (left : ℕ) (p : Path) where
 
   pub walks_begin : (all : Codes) (items : List Code) (vm : Vm) → items ≡ all.list.items → Walks all vm items 0 vm
   walks_begin all items vm e = record {
-    goes = λ ys v r. renews_same a cells (Rest 0 items) (All all) (seen_all ys) vm v (λ n run u. ap (λ cs. renew_codes_as by_number run left p 0 cs (state_of n vm u)) (all_is all items e n)) r;
-    stops = λ f r. fails_same a cells (Rest 0 items) (All all) vm f (λ n run u. ap (λ cs. renew_codes_as by_number run left p 0 cs (state_of n vm u)) (all_is all items e n)) r;
+    goes = λ ys v r. renews_same a cells (Rest 0 items) (All all) (seen_all ys) vm v (λ n run u. ap (λ cs. along_codes_as by_number run left p 0 cs (state_of n vm u)) (all_is all items e n)) r;
+    stops = λ f r. fails_same a cells (Rest 0 items) (All all) vm f (λ n run u. ap (λ cs. along_codes_as by_number run left p 0 cs (state_of n vm u)) (all_is all items e n)) r;
   }
 
   module _ (items : List Code) (i : ℕ) (x : Code) (lt : i < length items) (is : x ≡ get_or items i x) (q : Path) (here : q ≡ at i ∷ p) where
@@ -52,7 +52,7 @@ module _ (a : App) (cells : CellList) (left : ℕ) (p : Path) where
     more = drop (i + 1) items
 
     abbrev onward : Tables → PlainCode → Renewal PlainCodes
-    onward n v m run st = on_ok (renew_codes_as by_number run left p (suc i) (seen_all more m) st) (λ z. ok (code_and v z.0, z.1))
+    onward n v m run st = on_ok (along_codes_as by_number run left p (suc i) (seen_all more m) st) (λ z. ok (code_and v z.0, z.1))
 
     first_renews : (old mid : Vm) (y : Code) → Renews a cells (One q x) old (λ n. seen_code n y) mid → Renews a cells (One (at i ∷ p) x) old (λ n. seen_code n y) mid
     first_renews old mid y r = subst (λ z. Renews a cells (One z x) old (λ n. seen_code n y) mid) here r

@@ -1,5 +1,5 @@
 -- How many items an update moved, with what was counted before.
-use Rattle.std.specs.Prelude.{◌≡◌, ℕ, ◌+◌, List, map, Bool, Option, Some, None, if◌then◌else◌}
+use Rattle.std.specs.Prelude.{◌≡◌, ℕ, ◌+◌, List, ◌∷◌, map, Bool, Option, Some, None, if◌then◌else◌}
 use Rattle.gl_plain.specs.Live.{Live, listed, unlisted, Items}
 use Rattle.gl_machine.specs.Code.{Code, live_of, Codes, lives_of, items_of}
 use Rattle.gl_each.specs.Key.{Key}
@@ -38,6 +38,16 @@ live_items n xs = items_of (all_items (map (seen_item_code n) xs))
 -- of the items of a list, of which so many are moved by the plan
 abbrev pub ItemsMoved : Moved → Moved → ℕ → List ItemCode → List ItemCode → Type 0
 ItemsMoved before after count olds news = (n : Tables) → after.items ≡ before.items + (count + moved_items (live_items n olds) (live_items n news))
+
+-- what was moved within items that stay in their places
+abbrev pub along_moved : List Item → List Item → ℕ
+along_moved (x ∷ xs) (y ∷ ys) = moved_bodies (lives_of x.1.1) (lives_of y.1.1) + along_moved xs ys
+along_moved _ _ = 0
+
+-- of the items of a list that are walked along in order: their keys stay
+abbrev pub ItemsAlong : Moved → Moved → List ItemCode → List ItemCode → Type 0
+ItemsAlong before after olds news =
+    (n : Tables) → (map spot_key (map (seen_item_code n) news) ≡ map spot_key (map (seen_item_code n) olds)) × (after.items ≡ before.items + along_moved (map (seen_item_code n) olds) (map (seen_item_code n) news))
 
 -- the key of the item of an entry: that of the old one, or the entry's
 abbrev pub HasKey : Tables → Option ItemCode → Key → ItemCode → Type 0

@@ -1,18 +1,21 @@
 -- The items of a list, one after another.
 use Rattle.std.specs.Prelude.{◌≡◌, ℕ, List, [], ◌∷◌, Option, Some, None}
 use Rattle.gl_ast.specs.ExprCode.{owned}
-use Rattle.gl_meaning.specs.Path.{items, otherwise, Path}
-use Rattle.gl_meaning.specs.Render.{Entry}
+use Rattle.gl_meaning.specs.Path.{item, items, otherwise, Path}
+use Rattle.gl_meaning.specs.Render.{Entry, entries, values_listed}
 use Rattle.gl_plain.specs.Ids.{Id}
 use Rattle.gl_plain.specs.State.{State}
-use Rattle.gl_plain.specs.Binding.{Spot}
-use Rattle.gl_plain.specs.Live.{ItemSpot}
+use Rattle.gl_plain.specs.Binding.{Spot, first_value}
+use Rattle.gl_plain.specs.Live.{ItemSpot, times_items}
+use Rattle.gl_plain.specs.Renew.{spot_pairs, reread}
 use Rattle.gl_plain.specs.Naming.{by_number, dropped_as}
-use Rattle.gl_machine.specs.Code.{Listing, Code, listed_code, Codes, ItemCodes, item_code}
+use Rattle.gl_machine.specs.Code.{Listing, Code, listed_code, Codes, ItemCodes, item_code, items_of}
 use Rattle.gl_machine.specs.Outcome.{Outcome, ok, on_ok}
-use Rattle.gl_machine.specs.RenewCode.{Start, Runs, CodeHandle, ItemDone, item_done, commented, kept, unlisted_with, fresh_item_as, fresh_codes, fresh_other, sync_codes_as, renew_codes_as, renew_item_code_as}
+use Rattle.gl_machine.specs.RenewCode.{Start, Runs, CodeHandle, ItemDone, item_done, commented, kept, unlisted_with, fresh_item_as, fresh_codes, fresh_other, by_values, sync_codes_as, renew_item_code_as}
+use Rattle.gl_guards.specs.Along.{along_codes_as, along_items_as, along_handles_as}
 use Rattle.gl_each.specs.Key.{Key}
 use Rattle.gl_vm.specs.View.{Tables}
+use Rattle.gl_append.specs.CodeView.{all_items}
 use Rattle.gl_update.specs.Renewing.{Renewal}
 
 -- an item that was rendered: its comment stands where it has no node
@@ -38,7 +41,7 @@ onto ys o = on_ok o (λ r. ok (items_before ys r.0, r.1))
 -- how each of them is updated
 module _ (run : Runs) (m : ℕ) where
   abbrev pub handle : Item → CodeHandle
-  handle x = record { spot = x.0; comment = x.1.0; codes = x.1.1; go = λ q st. renew_codes_as by_number run m q 0 x.1.1 st }
+  handle x = record { spot = x.0; comment = x.1.0; codes = x.1.1; go = λ q st. along_codes_as by_number run m q 0 x.1.1 st }
 
   abbrev pub handles : List Item → List CodeHandle
   handles [] = []
@@ -72,6 +75,14 @@ BodyItem from s = λ n run st. on_ok (run (from n) st) (λ r. ok (item_kept (ite
 abbrev pub KeptItem : ℕ → Path → Entry → (Tables → Item) → Renewal Item
 KeptItem m p e x = λ n run st. one_item (renew_item_code_as by_number p e (handle run m (x n)) st)
 
+-- an item is walked along, with the value and the index that it has
+abbrev pub AlongItem : ℕ → Path → (Tables → Item) → Renewal Item
+AlongItem m p x = λ n run st. on_ok (along_codes_as by_number run m (item (x n).0.key (x n).0.occurrence ∷ p) 0 (x n).1.1 st) (λ r. ok (((x n).0, ((x n).1.0, r.0)), r.1))
+
+-- all items are
+abbrev pub AlongItems : ℕ → Path → (Tables → List Item) → Renewal ItemCodes
+AlongItems m p xs = λ n run st. along_items_as by_number run m p (all_items (xs n)) st
+
 module _ (z : Tables → Listing) (m : ℕ) (p : Path) where
   -- an item is appended
   abbrev pub FreshItem : Entry → Renewal Item
@@ -94,7 +105,19 @@ module _ (z : Tables → Listing) (s : Spot) (m : ℕ) (p : Path) where
   ListsNone gone = λ n run st. fresh_other run (z n) s p m (dropped_as by_number (gone n) st)
 
   abbrev pub StaysNone : Option ℕ → (Tables → Codes) → Renewal Code
-  StaysNone k cs = λ n run st. on_ok (renew_codes_as by_number run m (otherwise ∷ p) 0 (cs n) st) (λ r. ok (unlisted_with (z n) s (kept k r)))
+  StaysNone k cs = λ n run st. on_ok (along_codes_as by_number run m (otherwise ∷ p) 0 (cs n) st) (λ r. ok (unlisted_with (z n) s (kept k r)))
 
   abbrev pub Syncs : List Entry → (Tables → List Item) → Renewal Code
   Syncs es xs = λ n run st. on_ok (sync_codes_as by_number (fresh_item_as by_number run (z n) m) (items ∷ p) es (handles run m (xs n)) st) (λ r. ok (listed_code (z n) s r.0, r.1))
+
+  -- its position is read, and its items become others, or end
+  abbrev pub Relists : (Tables → List Item) → Renewal Code
+  Relists xs = λ n run st.
+      let st1 = reread s.ref st in
+      by_values (values_listed (first_value (spot_pairs st1 s.ref)))
+      (λ vs. on_ok (sync_codes_as by_number (fresh_item_as by_number run (z n) m) (items ∷ p) (entries (z n).key 0 [] vs) (along_handles_as by_number run m (all_items (xs n))) st1) (λ r. ok (listed_code (z n) s r.0, r.1)))
+      (fresh_other run (z n) s p m (dropped_as by_number (λ q. times_items q (items_of (all_items (xs n)))) st1))
+
+  -- its items are walked along in order
+  abbrev pub GoesAlong : (Tables → List Item) → Renewal Code
+  GoesAlong xs = λ n run st. on_ok (AlongItems m (items ∷ p) xs n run st) (λ r. ok (listed_code (z n) s r.0, r.1))

@@ -5,7 +5,8 @@ ghost use Rattle.gl_plain.specs.Live.{times_in, times_comment};
 ghost use Rattle.gl_plain.specs.Naming.{by_number, dropped_as};
 ghost use Rattle.gl_machine.specs.Code as c;
 ghost use Rattle.gl_machine.specs.Code.{Code as PlainCode, lives_of};
-ghost use Rattle.gl_machine.specs.RenewCode.{renew_code_as, fresh_branch};
+ghost use Rattle.gl_machine.specs.RenewCode.{fresh_branch};
+ghost use Rattle.gl_guards.specs.Along.{along_code_as};
 ghost use Rattle.gl_vm.specs.View.{Calm};
 ghost use Rattle.gl_append.specs.CodeView.{seen_choice, seen_codes, seen_spot};
 ghost use Rattle.gl_update.specs.Counted.{CodeMoved};
@@ -44,8 +45,8 @@ pub(crate) fn renew_branch(
     moved: &mut Moved,
 ) -> Result<(), VmFault>
     requires calm { Calm vm.old }
-    ensures ok { OnOk result (Renews app.now cells.now (λ n run. renew_code_as by_number run left (trail_view trail.old) (c.branch_code (seen_choice n choice.now) (seen_spot spot.now) main.old (stamp_of comment.old) (seen_codes n body.old))) vm.old (λ n. c.branch_code (seen_choice n choice.now) (seen_spot spot.now) main.new (stamp_of comment.new) (seen_codes n body.new)) vm.new) }
-    ensures fails { IfErr result (RenewFails {A = PlainCode} app.now cells.now (λ n run. renew_code_as by_number run left (trail_view trail.old) (c.branch_code (seen_choice n choice.now) (seen_spot spot.now) main.old (stamp_of comment.old) (seen_codes n body.old))) vm.old) }
+    ensures ok { OnOk result (Renews app.now cells.now (λ n run. along_code_as by_number run left (trail_view trail.old) (c.branch_code (seen_choice n choice.now) (seen_spot spot.now) main.old (stamp_of comment.old) (seen_codes n body.old))) vm.old (λ n. c.branch_code (seen_choice n choice.now) (seen_spot spot.now) main.new (stamp_of comment.new) (seen_codes n body.new)) vm.new) }
+    ensures fails { IfErr result (RenewFails {A = PlainCode} app.now cells.now (λ n run. along_code_as by_number run left (trail_view trail.old) (c.branch_code (seen_choice n choice.now) (seen_spot spot.now) main.old (stamp_of comment.old) (seen_codes n body.old))) vm.old) }
     ensures moved { OnOk result (CodeMoved moved.old moved.new (λ n. c.branch_code (seen_choice n choice.now) (seen_spot spot.now) main.old (stamp_of comment.old) (seen_codes n body.old)) (λ n. c.branch_code (seen_choice n choice.now) (seen_spot spot.now) main.new (stamp_of comment.new) (seen_codes n body.new))) }
     ensures trail { OnOk result (trail.new ≡ trail.old) }
     ensures calm { Calm vm.new }

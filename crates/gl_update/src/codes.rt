@@ -5,7 +5,7 @@ ghost use Rattle.gl_meaning.specs.View.{path_view, path_step_view};
 ghost use Rattle.gl_plain.specs.Naming.{by_number};
 ghost use Rattle.gl_machine.specs.Code as c;
 ghost use Rattle.gl_machine.specs.Code.{Code as PlainCode, Codes as PlainCodes};
-ghost use Rattle.gl_machine.specs.RenewCode.{renew_code_as, renew_codes_as};
+ghost use Rattle.gl_guards.specs.Along.{along_code_as, along_codes_as};
 ghost use Rattle.gl_vm.specs.View.{Calm};
 ghost use Rattle.gl_append.specs.CodeView.{seen_attr_spot, seen_code, seen_codes, seen_mod_spot};
 ghost use Rattle.gl_update.specs.Counted.{CodeMoved, CodesMoved};
@@ -41,8 +41,8 @@ pub(crate) fn renew_codes(
     moved: &mut Moved,
 ) -> Result<(), VmFault>
     requires calm { Calm vm.old }
-    ensures ok { OnOk result (Renews app.now cells.now (λ n run. renew_codes_as by_number run left (trail_view trail.old) 0 (seen_codes n codes.old)) vm.old (λ n. seen_codes n codes.new) vm.new) }
-    ensures fails { IfErr result (RenewFails {A = PlainCodes} app.now cells.now (λ n run. renew_codes_as by_number run left (trail_view trail.old) 0 (seen_codes n codes.old)) vm.old) }
+    ensures ok { OnOk result (Renews app.now cells.now (λ n run. along_codes_as by_number run left (trail_view trail.old) 0 (seen_codes n codes.old)) vm.old (λ n. seen_codes n codes.new) vm.new) }
+    ensures fails { IfErr result (RenewFails {A = PlainCodes} app.now cells.now (λ n run. along_codes_as by_number run left (trail_view trail.old) 0 (seen_codes n codes.old)) vm.old) }
     ensures moved { OnOk result (CodesMoved moved.old moved.new (λ n. seen_codes n codes.old) (λ n. seen_codes n codes.new)) }
     ensures trail { OnOk result (trail.new ≡ trail.old) }
     ensures calm { Calm vm.new }
@@ -72,8 +72,8 @@ pub(crate) fn renew_code(
     moved: &mut Moved,
 ) -> Result<(), VmFault>
     requires calm { Calm vm.old }
-    ensures ok { OnOk result (Renews app.now cells.now (λ n run. renew_code_as by_number run left (trail_view trail.old) (seen_code n code.old)) vm.old (λ n. seen_code n code.new) vm.new) }
-    ensures fails { IfErr result (RenewFails {A = PlainCode} app.now cells.now (λ n run. renew_code_as by_number run left (trail_view trail.old) (seen_code n code.old)) vm.old) }
+    ensures ok { OnOk result (Renews app.now cells.now (λ n run. along_code_as by_number run left (trail_view trail.old) (seen_code n code.old)) vm.old (λ n. seen_code n code.new) vm.new) }
+    ensures fails { IfErr result (RenewFails {A = PlainCode} app.now cells.now (λ n run. along_code_as by_number run left (trail_view trail.old) (seen_code n code.old)) vm.old) }
     ensures moved { OnOk result (CodeMoved moved.old moved.new (λ n. seen_code n code.old) (λ n. seen_code n code.new)) }
     ensures trail { OnOk result (trail.new ≡ trail.old) }
     ensures calm { Calm vm.new }
@@ -146,8 +146,8 @@ fn renew_element(
     moved: &mut Moved,
 ) -> Result<(), VmFault>
     requires calm { Calm vm.old }
-    ensures ok { OnOk result ((made : _) → Renews app.now cells.now (λ n run. renew_code_as by_number run left (trail_view trail.old) (c.element_code node.1 made (map seen_attr_spot attrs.now.items) (map seen_mod_spot mods.now.items) (seen_codes n body.old))) vm.old (λ n. c.element_code node.1 made (map seen_attr_spot attrs.now.items) (map seen_mod_spot mods.now.items) (seen_codes n body.new)) vm.new) }
-    ensures fails { (made : _) → IfErr result (RenewFails {A = PlainCode} app.now cells.now (λ n run. renew_code_as by_number run left (trail_view trail.old) (c.element_code node.1 made (map seen_attr_spot attrs.now.items) (map seen_mod_spot mods.now.items) (seen_codes n body.old))) vm.old) }
+    ensures ok { OnOk result ((made : _) → Renews app.now cells.now (λ n run. along_code_as by_number run left (trail_view trail.old) (c.element_code node.1 made (map seen_attr_spot attrs.now.items) (map seen_mod_spot mods.now.items) (seen_codes n body.old))) vm.old (λ n. c.element_code node.1 made (map seen_attr_spot attrs.now.items) (map seen_mod_spot mods.now.items) (seen_codes n body.new)) vm.new) }
+    ensures fails { (made : _) → IfErr result (RenewFails {A = PlainCode} app.now cells.now (λ n run. along_code_as by_number run left (trail_view trail.old) (c.element_code node.1 made (map seen_attr_spot attrs.now.items) (map seen_mod_spot mods.now.items) (seen_codes n body.old))) vm.old) }
     ensures moved { OnOk result (CodesMoved moved.old moved.new (λ n. seen_codes n body.old) (λ n. seen_codes n body.new)) }
     ensures trail { OnOk result (trail.new ≡ trail.old) }
     ensures calm { Calm vm.new }
@@ -178,8 +178,8 @@ pub(crate) fn renew_below(
     moved: &mut Moved,
 ) -> Result<(), VmFault>
     requires calm { Calm vm.old }
-    ensures ok { OnOk result (Renews app.now cells.now (λ n run. renew_codes_as by_number run left (path_step_view step ∷ trail_view trail.old) 0 (seen_codes n body.old)) vm.old (λ n. seen_codes n body.new) vm.new) }
-    ensures fails { IfErr result (RenewFails {A = PlainCodes} app.now cells.now (λ n run. renew_codes_as by_number run left (path_step_view step ∷ trail_view trail.old) 0 (seen_codes n body.old)) vm.old) }
+    ensures ok { OnOk result (Renews app.now cells.now (λ n run. along_codes_as by_number run left (path_step_view step ∷ trail_view trail.old) 0 (seen_codes n body.old)) vm.old (λ n. seen_codes n body.new) vm.new) }
+    ensures fails { IfErr result (RenewFails {A = PlainCodes} app.now cells.now (λ n run. along_codes_as by_number run left (path_step_view step ∷ trail_view trail.old) 0 (seen_codes n body.old)) vm.old) }
     ensures moved { OnOk result (CodesMoved moved.old moved.new (λ n. seen_codes n body.old) (λ n. seen_codes n body.new)) }
     ensures trail { OnOk result (trail.new ≡ trail.old) }
     ensures calm { Calm vm.new }
@@ -209,8 +209,8 @@ fn renew_let(
     moved: &mut Moved,
 ) -> Result<(), VmFault>
     requires calm { Calm vm.old }
-    ensures ok { OnOk result (Renews app.now cells.now (λ n run. renew_codes_as by_number run left (main ∷ trail_view trail.old) 0 (seen_codes n body.old)) vm.old (λ n. seen_codes n body.new) vm.new) }
-    ensures fails { IfErr result (RenewFails {A = PlainCodes} app.now cells.now (λ n run. renew_codes_as by_number run left (main ∷ trail_view trail.old) 0 (seen_codes n body.old)) vm.old) }
+    ensures ok { OnOk result (Renews app.now cells.now (λ n run. along_codes_as by_number run left (main ∷ trail_view trail.old) 0 (seen_codes n body.old)) vm.old (λ n. seen_codes n body.new) vm.new) }
+    ensures fails { IfErr result (RenewFails {A = PlainCodes} app.now cells.now (λ n run. along_codes_as by_number run left (main ∷ trail_view trail.old) 0 (seen_codes n body.old)) vm.old) }
     ensures moved { OnOk result (CodesMoved moved.old moved.new (λ n. seen_codes n body.old) (λ n. seen_codes n body.new)) }
     ensures trail { OnOk result (trail.new ≡ trail.old) }
     ensures calm { Calm vm.new }
@@ -236,8 +236,8 @@ pub(crate) fn renew_else(
     moved: &mut Moved,
 ) -> Result<(), VmFault>
     requires calm { Calm vm.old }
-    ensures ok { OnOk result (Renews app.now cells.now (λ n run. renew_codes_as by_number run left (otherwise ∷ trail_view trail.old) 0 (seen_codes n body.old)) vm.old (λ n. seen_codes n body.new) vm.new) }
-    ensures fails { IfErr result (RenewFails {A = PlainCodes} app.now cells.now (λ n run. renew_codes_as by_number run left (otherwise ∷ trail_view trail.old) 0 (seen_codes n body.old)) vm.old) }
+    ensures ok { OnOk result (Renews app.now cells.now (λ n run. along_codes_as by_number run left (otherwise ∷ trail_view trail.old) 0 (seen_codes n body.old)) vm.old (λ n. seen_codes n body.new) vm.new) }
+    ensures fails { IfErr result (RenewFails {A = PlainCodes} app.now cells.now (λ n run. along_codes_as by_number run left (otherwise ∷ trail_view trail.old) 0 (seen_codes n body.old)) vm.old) }
     ensures moved { OnOk result (CodesMoved moved.old moved.new (λ n. seen_codes n body.old) (λ n. seen_codes n body.new)) }
     ensures trail { OnOk result (trail.new ≡ trail.old) }
     ensures calm { Calm vm.new }
@@ -264,8 +264,8 @@ fn renew_yield(
     moved: &mut Moved,
 ) -> Result<(), VmFault>
     requires calm { Calm vm.old }
-    ensures ok { OnOk result (Renews app.now cells.now (λ n run. renew_codes_as by_number run left (slot name.now ∷ trail_view trail.old) 0 (seen_codes n body.old)) vm.old (λ n. seen_codes n body.new) vm.new) }
-    ensures fails { IfErr result (RenewFails {A = PlainCodes} app.now cells.now (λ n run. renew_codes_as by_number run left (slot name.now ∷ trail_view trail.old) 0 (seen_codes n body.old)) vm.old) }
+    ensures ok { OnOk result (Renews app.now cells.now (λ n run. along_codes_as by_number run left (slot name.now ∷ trail_view trail.old) 0 (seen_codes n body.old)) vm.old (λ n. seen_codes n body.new) vm.new) }
+    ensures fails { IfErr result (RenewFails {A = PlainCodes} app.now cells.now (λ n run. along_codes_as by_number run left (slot name.now ∷ trail_view trail.old) 0 (seen_codes n body.old)) vm.old) }
     ensures moved { OnOk result (CodesMoved moved.old moved.new (λ n. seen_codes n body.old) (λ n. seen_codes n body.new)) }
     ensures trail { OnOk result (trail.new ≡ trail.old) }
     ensures calm { Calm vm.new }
@@ -291,8 +291,8 @@ fn renew_component(
     moved: &mut Moved,
 ) -> Result<(), VmFault>
     requires calm { Calm vm.old }
-    ensures ok { OnOk result ((i : _) (made gm : _) (args : _) (k : _) (p : _) → i.path ≡ path_view path.now → Renews app.now cells.now (λ n run. renew_code_as by_number run left p (c.component_code i made gm args k (seen_codes n body.old))) vm.old (λ n. c.component_code i made gm args k (seen_codes n body.new)) vm.new) }
-    ensures fails { (i : _) (made gm : _) (args : _) (k : _) (p : _) → i.path ≡ path_view path.now → IfErr result (RenewFails {A = PlainCode} app.now cells.now (λ n run. renew_code_as by_number run left p (c.component_code i made gm args k (seen_codes n body.old))) vm.old) }
+    ensures ok { OnOk result ((i : _) (made gm : _) (args : _) (k : _) (p : _) → i.path ≡ path_view path.now → Renews app.now cells.now (λ n run. along_code_as by_number run left p (c.component_code i made gm args k (seen_codes n body.old))) vm.old (λ n. c.component_code i made gm args k (seen_codes n body.new)) vm.new) }
+    ensures fails { (i : _) (made gm : _) (args : _) (k : _) (p : _) → i.path ≡ path_view path.now → IfErr result (RenewFails {A = PlainCode} app.now cells.now (λ n run. along_code_as by_number run left p (c.component_code i made gm args k (seen_codes n body.old))) vm.old) }
     ensures moved { OnOk result (CodesMoved moved.old moved.new (λ n. seen_codes n body.old) (λ n. seen_codes n body.new)) }
     ensures calm { Calm vm.new }
 {

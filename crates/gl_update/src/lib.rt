@@ -1,6 +1,7 @@
 //! The update of what was rendered: only what something touched reaches is changed.
 #![tactic(auto)]
 
+mod along;
 mod appending;
 mod asks;
 mod branches;

@@ -5,15 +5,16 @@ ghost use Rattle.gl_plain.specs.Live.{times_in, times_comment, times_items};
 ghost use Rattle.gl_plain.specs.Naming.{by_number};
 ghost use Rattle.gl_machine.specs.Code as c;
 ghost use Rattle.gl_machine.specs.Code.{Code as PlainCode, live_of, lives_of, items_of as lives_in};
-ghost use Rattle.gl_machine.specs.RenewCode.{renew_code_as};
+ghost use Rattle.gl_guards.specs.Along.{along_code_as};
 ghost use Rattle.gl_vm.specs.View.{Calm};
 ghost use Rattle.gl_append.specs.CodeView.{seen_code, seen_codes, seen_listing, seen_spot, seen_item_code, all_items};
 ghost use Rattle.gl_append.specs.MachineView.{seen_left};
 ghost use Rattle.gl_update.specs.Counted.{CodeMoved, IsListed, IsUnlisted};
 ghost use Rattle.gl_update.specs.View.{trail_view};
-ghost use Rattle.gl_update.specs.ListItems.{ListsFresh, ListsNone};
+ghost use Rattle.gl_update.specs.ListItems.{ListsFresh, ListsNone, Relists};
 ghost use Rattle.gl_update.specs.Renewing.{Renews, RenewFails};
 
+use crate::along::walk_list;
 use crate::appending::append_body;
 use crate::codes::renew_else;
 use crate::counting::Moved;
@@ -23,8 +24,8 @@ use crate::items::fresh_items;
 use crate::standing::{behind, behind_items, seat_with_comment};
 use crate::syncing::sync_list;
 use crate::taken::{
-    Listed, Ready, Taken, Unlisted, boxed_code, first_of, lost_list, put_list, read_listed,
-    read_unlisted, take_list, without_items,
+    Listed, Ready, Taken, Unlisted, ask_list, boxed_code, first_of, lost_list, put_list,
+    read_listed, read_unlisted, take_list, without_items,
 };
 use crate::trail::Trail;
 use gl_append::{Cells, Code, Codes, Entry, ItemCode, Listing, Spot, VmFault};
@@ -49,8 +50,8 @@ pub(crate) fn renew_list(
     moved: &mut Moved,
 ) -> Result<(), VmFault>
     requires calm { Calm vm.old }
-    ensures ok { OnOk result (Renews app.now cells.now (λ n run. renew_code_as by_number run left (trail_view trail.old) (seen_code n code.old)) vm.old (λ n. seen_code n code.new) vm.new) }
-    ensures fails { IfErr result (RenewFails {A = PlainCode} app.now cells.now (λ n run. renew_code_as by_number run left (trail_view trail.old) (seen_code n code.old)) vm.old) }
+    ensures ok { OnOk result (Renews app.now cells.now (λ n run. along_code_as by_number run left (trail_view trail.old) (seen_code n code.old)) vm.old (λ n. seen_code n code.new) vm.new) }
+    ensures fails { IfErr result (RenewFails {A = PlainCode} app.now cells.now (λ n run. along_code_as by_number run left (trail_view trail.old) (seen_code n code.old)) vm.old) }
     ensures moved { OnOk result (CodeMoved moved.old moved.new (λ n. seen_code n code.old) (λ n. seen_code n code.new)) }
     ensures trail { OnOk result (trail.new ≡ trail.old) }
     ensures calm { Calm vm.new }
@@ -78,9 +79,10 @@ pub(crate) fn renew_list(
     }
 }
 
-// An `each` with items. Where it has none any more, they are ended and the other body is appended.
+// An `each` with items: it is read again where its position is stale, and else its items are walked along. It stands in the frame of
+// its caller, so that a level of lists takes no more stack.
 #[cycle(renewing)]
-#[inline(never)]
+#[inline(always)]
 fn renew_listed(
     vm: &mut Vm,
     alloc: Global,
@@ -93,8 +95,39 @@ fn renew_listed(
     moved: &mut Moved,
 ) -> Result<Box<Code>, VmFault>
     requires calm { Calm vm.old }
-    ensures ok { IfOk result (λ r. Renews app.now cells.now (λ n run. renew_code_as by_number run left (trail_view trail.old) (c.listed_code (seen_listing n list.value.listing) (seen_spot list.value.spot) (all_items (map (seen_item_code n) list.value.items.items)))) vm.old (λ n. seen_code n r.value) vm.new) }
-    ensures fails { IfErr result (RenewFails {A = PlainCode} app.now cells.now (λ n run. renew_code_as by_number run left (trail_view trail.old) (c.listed_code (seen_listing n list.value.listing) (seen_spot list.value.spot) (all_items (map (seen_item_code n) list.value.items.items)))) vm.old) }
+    ensures ok { IfOk result (λ r. Renews app.now cells.now (λ n run. along_code_as by_number run left (trail_view trail.old) (c.listed_code (seen_listing n list.value.listing) (seen_spot list.value.spot) (all_items (map (seen_item_code n) list.value.items.items)))) vm.old (λ n. seen_code n r.value) vm.new) }
+    ensures fails { IfErr result (RenewFails {A = PlainCode} app.now cells.now (λ n run. along_code_as by_number run left (trail_view trail.old) (c.listed_code (seen_listing n list.value.listing) (seen_spot list.value.spot) (all_items (map (seen_item_code n) list.value.items.items)))) vm.old) }
+    ensures moved { IfOk result (λ r. CodeMoved moved.old moved.new (λ n. c.listed_code (seen_listing n list.value.listing) (seen_spot list.value.spot) (all_items (map (seen_item_code n) list.value.items.items))) (λ n. seen_code n r.value)) }
+    ensures trail { OnOk result (trail.new ≡ trail.old) }
+    ensures calm { Calm vm.new }
+{
+    let asked = ask_list(vm, list)?;
+    let stale = asked.1;
+    if stale {
+        relist(vm, alloc, app, cells, trail, left, asked.0, parent, moved)
+    } else {
+        walk_list(vm, alloc, app, cells, trail, left, asked.0, parent, moved)
+    }
+}
+
+// An `each` with items is read again. Where it has none any more, they are ended and the other body is appended. It stands in the
+// frame of its caller too.
+#[cycle(renewing)]
+#[inline(always)]
+fn relist(
+    vm: &mut Vm,
+    alloc: Global,
+    app: &App,
+    cells: &Cells,
+    trail: &mut Trail<'_>,
+    left: u32,
+    list: Box<Listed>,
+    parent: &Option<NodeId>,
+    moved: &mut Moved,
+) -> Result<Box<Code>, VmFault>
+    requires calm { Calm vm.old }
+    ensures ok { IfOk result (λ r. Renews app.now cells.now (Relists (λ n. seen_listing n list.value.listing) (seen_spot list.value.spot) left (trail_view trail.old) (λ n. map (seen_item_code n) list.value.items.items)) vm.old (λ n. seen_code n r.value) vm.new) }
+    ensures fails { IfErr result (RenewFails {A = PlainCode} app.now cells.now (Relists (λ n. seen_listing n list.value.listing) (seen_spot list.value.spot) left (trail_view trail.old) (λ n. map (seen_item_code n) list.value.items.items)) vm.old) }
     ensures moved { IfOk result (λ r. CodeMoved moved.old moved.new (λ n. c.listed_code (seen_listing n list.value.listing) (seen_spot list.value.spot) (all_items (map (seen_item_code n) list.value.items.items))) (λ n. seen_code n r.value)) }
     ensures trail { OnOk result (trail.new ≡ trail.old) }
     ensures calm { Calm vm.new }
@@ -195,8 +228,8 @@ fn renew_unlisted(
     moved: &mut Moved,
 ) -> Result<Box<Code>, VmFault>
     requires calm { Calm vm.old }
-    ensures ok { IfOk result (λ r. Renews app.now cells.now (λ n run. renew_code_as by_number run left (trail_view trail.old) (c.unlisted_code (seen_listing n list.value.listing) (seen_spot list.value.spot) (stamp_of list.value.comment) (seen_codes n list.value.body))) vm.old (λ n. seen_code n r.value) vm.new) }
-    ensures fails { IfErr result (RenewFails {A = PlainCode} app.now cells.now (λ n run. renew_code_as by_number run left (trail_view trail.old) (c.unlisted_code (seen_listing n list.value.listing) (seen_spot list.value.spot) (stamp_of list.value.comment) (seen_codes n list.value.body))) vm.old) }
+    ensures ok { IfOk result (λ r. Renews app.now cells.now (λ n run. along_code_as by_number run left (trail_view trail.old) (c.unlisted_code (seen_listing n list.value.listing) (seen_spot list.value.spot) (stamp_of list.value.comment) (seen_codes n list.value.body))) vm.old (λ n. seen_code n r.value) vm.new) }
+    ensures fails { IfErr result (RenewFails {A = PlainCode} app.now cells.now (λ n run. along_code_as by_number run left (trail_view trail.old) (c.unlisted_code (seen_listing n list.value.listing) (seen_spot list.value.spot) (stamp_of list.value.comment) (seen_codes n list.value.body))) vm.old) }
     ensures moved { IfOk result (λ r. CodeMoved moved.old moved.new (λ n. c.unlisted_code (seen_listing n list.value.listing) (seen_spot list.value.spot) (stamp_of list.value.comment) (seen_codes n list.value.body)) (λ n. seen_code n r.value)) }
     ensures trail { OnOk result (trail.new ≡ trail.old) }
     ensures calm { Calm vm.new }

@@ -56,9 +56,9 @@ fn are_keys_of(keys: &[Key], items: &[ItemCode]) -> bool
     true
 }
 
-// The keys of the items. Where one stands twice, as in no list, it answers as for want of memory.
+/// The keys of the items. Where one stands twice, as in no list, it answers as for want of memory.
 #[inline(never)]
-fn keys_of_items(alloc: Global, items: &[ItemCode]) -> Result<Keys, AllocError>
+pub(crate) fn keys_of_items(alloc: Global, items: &[ItemCode]) -> Result<Keys, AllocError>
     ensures once { IfOk result (λ ks. NoRepeat ks) }
     ensures keys { IfOk result (λ ks. ks ≡ map code_key items.now) }
 {

@@ -2,8 +2,8 @@
 ghost use Rattle.std.specs.Prelude.{◌≡◌, ◌+◌, IfOk, OnOk, IfErr, IsTrue};
 ghost use Rattle.gl_plain.specs.Naming.{by_number};
 ghost use Rattle.gl_machine.specs.Code.{Code as PlainCode, live_of};
-ghost use Rattle.gl_machine.specs.Root.{renew_root_code_as};
 ghost use Rattle.gl_machine.specs.Shape.{nest};
+ghost use Rattle.gl_guards.specs.Along.{along_root_code_as};
 ghost use Rattle.gl_kept.specs.Between.{moved_between};
 ghost use Rattle.gl_vm.specs.View.{Calm};
 ghost use Rattle.gl_append.specs.CodeView.{seen_code};
@@ -25,8 +25,8 @@ use std::alloc::Global;
 /// It answers how many items were moved, each by one move of nodes. After a fault the page is not to be used.
 pub fn update(alloc: Global, app: &App, cells: &Cells, page: &mut Page) -> Result<Moved, VmFault>
     requires calm { Calm page.old.vm }
-    ensures ok { OnOk result (Renews app.now cells.now (λ n run. renew_root_code_as by_number app.now.manifest.limit run (seen_code n page.old.code)) page.old.vm (λ n. seen_code n page.new.code) page.new.vm) }
-    ensures fails { IfErr result (RenewFails {A = PlainCode} app.now cells.now (λ n run. renew_root_code_as by_number app.now.manifest.limit run (seen_code n page.old.code)) page.old.vm) }
+    ensures ok { OnOk result (Renews app.now cells.now (λ n run. along_root_code_as by_number app.now.manifest.limit run (seen_code n page.old.code)) page.old.vm (λ n. seen_code n page.new.code) page.new.vm) }
+    ensures fails { IfErr result (RenewFails {A = PlainCode} app.now cells.now (λ n run. along_root_code_as by_number app.now.manifest.limit run (seen_code n page.old.code)) page.old.vm) }
     ensures nodes { OnOk result ((n : _) → nest_of page.new.vm.tree.forest ≡ nest (live_of (seen_code n page.new.code))) }
     ensures moved { IfOk result (λ m. (n : _) → m.items ≡ moved_between (live_of (seen_code n page.old.code)) (live_of (seen_code n page.new.code))) }
     ensures moves { IfOk result (λ m. page.new.vm.tree.moves ≡ page.old.vm.tree.moves + m.items) }
@@ -53,8 +53,8 @@ fn is_settled(page: &Page, before: u128, moved: &Moved) -> bool
 // The walk along a page. It answers how many items were moved.
 fn renew_page(alloc: Global, app: &App, cells: &Cells, page: &mut Page) -> Result<Moved, VmFault>
     requires calm { Calm page.old.vm }
-    ensures ok { OnOk result (Renews app.now cells.now (λ n run. renew_root_code_as by_number app.now.manifest.limit run (seen_code n page.old.code)) page.old.vm (λ n. seen_code n page.new.code) page.new.vm) }
-    ensures fails { IfErr result (RenewFails {A = PlainCode} app.now cells.now (λ n run. renew_root_code_as by_number app.now.manifest.limit run (seen_code n page.old.code)) page.old.vm) }
+    ensures ok { OnOk result (Renews app.now cells.now (λ n run. along_root_code_as by_number app.now.manifest.limit run (seen_code n page.old.code)) page.old.vm (λ n. seen_code n page.new.code) page.new.vm) }
+    ensures fails { IfErr result (RenewFails {A = PlainCode} app.now cells.now (λ n run. along_root_code_as by_number app.now.manifest.limit run (seen_code n page.old.code)) page.old.vm) }
     ensures moved { IfOk result (λ m. (n : _) → m.items ≡ moved_between (live_of (seen_code n page.old.code)) (live_of (seen_code n page.new.code))) }
     ensures calm { Calm page.new.vm }
 {

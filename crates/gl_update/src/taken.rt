@@ -12,7 +12,7 @@ ghost use Rattle.gl_plain.specs.Renew.{spot_pairs};
 ghost use Rattle.gl_plain.specs.Renew as r;
 ghost use Rattle.gl_machine.specs.Code as c;
 ghost use Rattle.gl_vm.specs.Labels.{labelled};
-ghost use Rattle.gl_vm.specs.View.{Calm, state_of};
+ghost use Rattle.gl_vm.specs.View.{Agrees, Calm, state_of};
 ghost use Rattle.gl_vm.specs.Steps.{Does};
 ghost use Rattle.gl_append.specs.CodeView.{seen_code, seen_codes, seen_listing, seen_spot, seen_item_code, all_items};
 ghost use Rattle.gl_append.specs.MachineView.{seen_left};
@@ -24,7 +24,7 @@ ghost use Rattle.gl_meaning.specs.View.{path_view};
 ghost use Rattle.gl_update.specs.View.{trail_view};
 
 use crate::old_items::Work;
-use crate::positions::{reread, shown};
+use crate::positions::{is_stale, reread, shown};
 use crate::seating::Seat;
 use crate::standing::before_items;
 use crate::trail::Trail;
@@ -189,6 +189,19 @@ pub(crate) fn read_list(
     let value = value_now(vm, id)?;
     let read = keyed_items_of(alloc, value, key)?;
     boxed_ready(alloc, read.0, read.1)
+}
+
+/// Whether the position of a list with items is stale. The list is handed through, so that it is dropped here where it isn't known.
+#[inline(never)]
+pub(crate) fn ask_list(vm: &mut Vm, list: Box<Listed>) -> Result<(Box<Listed>, bool), AllocError>
+    requires calm { Calm vm.old }
+    ensures list { IfOk result (λ x. x.0 ≡ list) }
+    ensures exact { IfOk result (λ x. (n : _) (touched : _) → Agrees touched vm.old → r.is_stale (state_of n vm.old touched) list.value.spot.id.1 ≡ x.1) }
+    ensures still { Does (λ n st. st) vm.old vm.new }
+    ensures calm { Calm vm.new }
+{
+    let stale = is_stale(vm, list.spot.id)?;
+    Ok((list, stale))
 }
 
 /// What a list with items has now.

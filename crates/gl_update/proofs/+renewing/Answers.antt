@@ -21,7 +21,6 @@ use Rattle.gl_append.specs.declared.code.Codes.{Codes}
 use Rattle.gl_append.specs.declared.code.ModSpot.{ModSpot}
 use Rattle.gl_append.specs.declared.code.Spot.{Spot}
 use Rattle.gl_append.specs.declared.sight.Owner.{Owner}
-use Rattle.gl_machine.specs.RenewCode.{renew_code_as, renew_codes_as}
 use Rattle.gl_vm.specs.View.{Tables, stamps, name_stamps}
 use Rattle.gl_vm.specs.Steps.{Does}
 use Rattle.gl_append.specs.View.{refs_made, seen_owner}
@@ -40,9 +39,10 @@ use Rattle.gl_value.specs.Value.{plain}
 use Rattle.gl_value.specs.View.{view}
 use Rattle.gl_plain.specs.Live.{times_items, times_in, times_comment}
 use Rattle.gl_machine.specs.Code.{Listing, Code as PlainCode, Codes as PlainCodes, ItemCodes, listed_code, unlisted_code, items_of, lives_of, live_of}
+use Rattle.gl_guards.specs.Along.{along_code_as, along_codes_as}
 use Rattle.gl_append.specs.MachineView.{seen_entry, seen_left}
 use Rattle.gl_append.proofs.ListEnds.{none_counted, some_counted, none_left}
-use Rattle.gl_update.specs.ListItems.{Item, there, FreshItem, ListsFresh, ListsNone, Syncs, KeptItem, SyncItems, spot_key}
+use Rattle.gl_update.specs.ListItems.{Item, there, FreshItem, ListsFresh, ListsNone, Syncs, Relists, AlongItem, GoesAlong, KeptItem, SyncItems, spot_key}
 use Rattle.gl_update.specs.OldItems.{OneItem, unboxed, code_key}
 use Rattle.gl_update.specs.NextItem.{Follows, Taking}
 use Rattle.gl_update.specs.TakenLists.{TakenOut}
@@ -57,11 +57,13 @@ use Rattle.gl_update.specs.declared.taken.Ready.{Ready}
 use Rattle.gl_update.specs.declared.taken.Unlisted.{Unlisted}
 use Rattle.gl_update.proofs.SyncItems.{given_item, All, sync_begin, sync_next, sync_fails, sync_end, work_next, kept_renews, kept_fails, list_syncs, list_sync_fails, item_is}
 use Rattle.gl_append.specs.declared.code.ItemCode.{ItemCode}
-use Rattle.gl_update.proofs.ListUpdates.{unlisted_stays, unlisted_stays_fails, unlisted_lists, unlisted_lists_fails, Unlisting, gone, listed_ends, listed_ends_fails, listed_syncs, listed_syncs_fails, Relisting}
+use Rattle.gl_update.proofs.ListUpdates.{unlisted_stays, unlisted_stays_fails, unlisted_lists, unlisted_lists_fails, Unlisting, gone, Updating, listed_reads, listed_reads_fails, listed_goes, listed_goes_fails, listed_ends, listed_ends_fails, listed_syncs, listed_syncs_fails, Relisting}
 use Rattle.gl_update.proofs.Still.{renews_on}
 use Rattle.gl_each.specs.Key.{entry_key}
-use Rattle.gl_update.specs.Counted.{CodeMoved, CodesMoved, HasKey, IsListed, IsUnlisted, ItemMoved}
+use Rattle.gl_update.specs.Counted.{CodeMoved, CodesMoved, HasKey, IsListed, IsUnlisted, ItemMoved, ItemsAlong, KeptMoved}
 use Rattle.gl_update.proofs.MovedCodes.{none_moved, code_moved, arm_moved, walked_begin, walked_next, walked_end, same_moved, flip_moved, ended_moved, begun_moved, kept_moved}
+use Rattle.gl_update.proofs.AlongCounts.{along_begin, along_next, along_end, list_along}
+use Rattle.gl_update.proofs.AlongItems.{along_renews, along_fails, items_begin, items_next, items_fail, items_end, list_goes, list_goes_fails}
 use Rattle.gl_update.proofs.SyncCounts.{syncing_begin, syncing_next, syncing_end, list_moved}
 use Rattle.gl_update.proofs.+renewing.Goals as goal
 
@@ -75,11 +77,11 @@ codes::renew_below-returns-in-Err-clause-fails t c =
 
 pub codes::renew_yield-returns-clause-ok : goal.codes::renew_yield-returns-clause-ok
 codes::renew_yield-returns-clause-ok t c =
-    subst (λ y. OnOk c.renew_below.result (Renews c.args.app.now c.args.cells.now (λ n run. renew_codes_as by_number run c.args.left (slot y ∷ trail_view c.args.trail.now) 0 (seen_codes n c.args.body.now)) c.args.vm.now (λ n. seen_codes n c.renew_below.new.body) c.renew_below.new.vm)) c.in_ok-copy.ensures c.renew_below.ensures.ok
+    subst (λ y. OnOk c.renew_below.result (Renews c.args.app.now c.args.cells.now (λ n run. along_codes_as by_number run c.args.left (slot y ∷ trail_view c.args.trail.now) 0 (seen_codes n c.args.body.now)) c.args.vm.now (λ n. seen_codes n c.renew_below.new.body) c.renew_below.new.vm)) c.in_ok-copy.ensures c.renew_below.ensures.ok
 
 pub codes::renew_yield-returns-clause-fails : goal.codes::renew_yield-returns-clause-fails
 codes::renew_yield-returns-clause-fails t c =
-    subst (λ y. IfErr c.renew_below.result (RenewFails {A = p.Codes} c.args.app.now c.args.cells.now (λ n run. renew_codes_as by_number run c.args.left (slot y ∷ trail_view c.args.trail.now) 0 (seen_codes n c.args.body.now)) c.args.vm.now)) c.in_ok-copy.ensures c.renew_below.ensures.fails
+    subst (λ y. IfErr c.renew_below.result (RenewFails {A = p.Codes} c.args.app.now c.args.cells.now (λ n run. along_codes_as by_number run c.args.left (slot y ∷ trail_view c.args.trail.now) 0 (seen_codes n c.args.body.now)) c.args.vm.now)) c.in_ok-copy.ensures c.renew_below.ensures.fails
 
 pub codes::renew_element-returns-in_ok-renew_mods-in-Ok-clause-ok : goal.codes::renew_element-returns-in_ok-renew_mods-in-Ok-clause-ok
 codes::renew_element-returns-in_ok-renew_mods-in-Ok-clause-ok t c = λ made.
@@ -178,7 +180,7 @@ branches::renew_branch-returns-then-shows-main-clause-ok t c =
     on_ok_weaker c.renew_below.result
     (λ r. branch_kept c.args.app.now c.args.cells.now c.args.left (trail_view c.args.trail.now) (λ n. seen_choice n c.args.choice.now) (seen_spot c.args.spot.now) (stamp_of c.args.comment.now) (λ n. seen_codes n c.args.body.now) b c.args.vm.now c.condition.new.vm c.renew_below.new.vm (λ n. seen_codes n c.renew_below.new.body)
     c.in_ok-shows.ensures.step (λ n u. c.in_ok-shows.ensures.shows n u ∙ e)
-    (subst (λ q. Renews c.args.app.now c.args.cells.now (λ n run. renew_codes_as by_number run c.args.left (q ∷ trail_view c.args.trail.now) 0 (seen_codes n c.args.body.now)) c.condition.new.vm (λ n. seen_codes n c.renew_below.new.body) c.renew_below.new.vm)
+    (subst (λ q. Renews c.args.app.now c.args.cells.now (λ n run. along_codes_as by_number run c.args.left (q ∷ trail_view c.args.trail.now) 0 (seen_codes n c.args.body.now)) c.condition.new.vm (λ n. seen_codes n c.renew_below.new.body) c.renew_below.new.vm)
     (c.side.ensures ∙ ap (λ z. if z then main else otherwise) e) r))
     c.renew_below.ensures.ok
 
@@ -189,7 +191,7 @@ branches::renew_branch-returns-then-shows-main-clause-fails t c =
     if_err c.renew_below.result
     (λ f r. branch_kept_fails c.args.app.now c.args.cells.now c.args.left (trail_view c.args.trail.now) (λ n. seen_choice n c.args.choice.now) (seen_spot c.args.spot.now) (stamp_of c.args.comment.now) (λ n. seen_codes n c.args.body.now) b c.args.vm.now c.condition.new.vm f
     c.in_ok-shows.ensures.step (λ n u. c.in_ok-shows.ensures.shows n u ∙ e)
-    (subst (λ q. RenewFails {A = p.Codes} c.args.app.now c.args.cells.now (λ n run. renew_codes_as by_number run c.args.left (q ∷ trail_view c.args.trail.now) 0 (seen_codes n c.args.body.now)) c.condition.new.vm f)
+    (subst (λ q. RenewFails {A = p.Codes} c.args.app.now c.args.cells.now (λ n run. along_codes_as by_number run c.args.left (q ∷ trail_view c.args.trail.now) 0 (seen_codes n c.args.body.now)) c.condition.new.vm f)
     (c.side.ensures ∙ ap (λ z. if z then main else otherwise) e) r))
     c.renew_below.ensures.fails
 
@@ -219,40 +221,40 @@ codes::renew_code-returns-in-Still-clause-ok t c =
 pub codes::renew_code-returns-in-Let-clause-ok : goal.codes::renew_code-returns-in-Let-clause-ok
 codes::renew_code-returns-in-Let-clause-ok t c =
     let k : Tables → p.Codes → p.Code = λ n cs. p.let_code (refs_made c.in-Let.made) (stamps c.in-Let.params) cs in
-    let held : OnOk c.renew_let.result (Renews c.args.app.now c.args.cells.now (λ n run. renew_codes_as by_number run c.args.left (main ∷ trail_view c.args.trail.now) 0 (seen_codes n c.in-Let.body)) c.args.vm.now (λ n. seen_codes n c.renew_let.new.body) c.renew_let.new.vm) =
-    subst (λ z. OnOk c.renew_let.result (Renews c.args.app.now c.args.cells.now (λ n run. renew_codes_as by_number run c.args.left (main ∷ trail_view c.args.trail.now) 0 (seen_codes n z)) c.args.vm.now (λ n. seen_codes n c.renew_let.new.body) c.renew_let.new.vm)) c.in-Let.body-is c.renew_let.ensures.ok in
+    let held : OnOk c.renew_let.result (Renews c.args.app.now c.args.cells.now (λ n run. along_codes_as by_number run c.args.left (main ∷ trail_view c.args.trail.now) 0 (seen_codes n c.in-Let.body)) c.args.vm.now (λ n. seen_codes n c.renew_let.new.body) c.renew_let.new.vm) =
+    subst (λ z. OnOk c.renew_let.result (Renews c.args.app.now c.args.cells.now (λ n run. along_codes_as by_number run c.args.left (main ∷ trail_view c.args.trail.now) 0 (seen_codes n z)) c.args.vm.now (λ n. seen_codes n c.renew_let.new.body) c.renew_let.new.vm)) c.in-Let.body-is c.renew_let.ensures.ok in
     on_ok_weaker c.renew_let.result
     (λ r. arm c.args.app.now c.args.cells.now c.args.left (trail_view c.args.trail.now) c.args.code.now _ (λ n. k n (seen_codes n c.in-Let.body)) (λ n. k n (seen_codes n c.renew_let.new.body)) c.args.vm.now c.renew_let.new.vm (λ n. ap (seen_code n) c.in-Let.is ∙ let_is n c.in-Let.made c.in-Let.params c.in-Let.body) (λ n. search (rules, the_lemmas))
-    (renews_in c.args.app.now c.args.cells.now (λ n run. renew_codes_as by_number run c.args.left (main ∷ trail_view c.args.trail.now) 0 (seen_codes n c.in-Let.body)) k (λ n. seen_codes n c.renew_let.new.body) c.args.vm.now c.renew_let.new.vm r))
+    (renews_in c.args.app.now c.args.cells.now (λ n run. along_codes_as by_number run c.args.left (main ∷ trail_view c.args.trail.now) 0 (seen_codes n c.in-Let.body)) k (λ n. seen_codes n c.renew_let.new.body) c.args.vm.now c.renew_let.new.vm r))
     held
 
 pub codes::renew_code-returns-in-Let-clause-fails : goal.codes::renew_code-returns-in-Let-clause-fails
 codes::renew_code-returns-in-Let-clause-fails t c =
     let k : Tables → p.Codes → p.Code = λ n cs. p.let_code (refs_made c.in-Let.made) (stamps c.in-Let.params) cs in
-    let held : IfErr c.renew_let.result (RenewFails {A = p.Codes} c.args.app.now c.args.cells.now (λ n run. renew_codes_as by_number run c.args.left (main ∷ trail_view c.args.trail.now) 0 (seen_codes n c.in-Let.body)) c.args.vm.now) =
-    subst (λ z. IfErr c.renew_let.result (RenewFails {A = p.Codes} c.args.app.now c.args.cells.now (λ n run. renew_codes_as by_number run c.args.left (main ∷ trail_view c.args.trail.now) 0 (seen_codes n z)) c.args.vm.now)) c.in-Let.body-is c.renew_let.ensures.fails in
+    let held : IfErr c.renew_let.result (RenewFails {A = p.Codes} c.args.app.now c.args.cells.now (λ n run. along_codes_as by_number run c.args.left (main ∷ trail_view c.args.trail.now) 0 (seen_codes n c.in-Let.body)) c.args.vm.now) =
+    subst (λ z. IfErr c.renew_let.result (RenewFails {A = p.Codes} c.args.app.now c.args.cells.now (λ n run. along_codes_as by_number run c.args.left (main ∷ trail_view c.args.trail.now) 0 (seen_codes n z)) c.args.vm.now)) c.in-Let.body-is c.renew_let.ensures.fails in
     if_err c.renew_let.result
     (λ f r. arm_fails c.args.app.now c.args.cells.now c.args.left (trail_view c.args.trail.now) c.args.code.now (λ n. k n (seen_codes n c.in-Let.body)) c.args.vm.now f (λ n. ap (seen_code n) c.in-Let.is ∙ let_is n c.in-Let.made c.in-Let.params c.in-Let.body)
-    (fails_in c.args.app.now c.args.cells.now (λ n run. renew_codes_as by_number run c.args.left (main ∷ trail_view c.args.trail.now) 0 (seen_codes n c.in-Let.body)) k (λ n st. st) c.args.vm.now f r))
+    (fails_in c.args.app.now c.args.cells.now (λ n run. along_codes_as by_number run c.args.left (main ∷ trail_view c.args.trail.now) 0 (seen_codes n c.in-Let.body)) k (λ n st. st) c.args.vm.now f r))
     held
 
 pub codes::renew_code-returns-in-Component-clause-ok : goal.codes::renew_code-returns-in-Component-clause-ok
 codes::renew_code-returns-in-Component-clause-ok t c =
     let k : Tables → p.Codes → p.Code = λ m cs. p.component_code (seen_owner m c.in-Component.owner.value) (ids.instance_id (seen_owner m c.in-Component.owner.value).id ∷ ((ids.block_id c.in-Component.block.1 ∷ refs_made c.in-Component.made) ++ refs_made c.in-Component.owner.value.cells)) (ids.block_id c.in-Component.block.1 ∷ refs_made c.in-Component.made) (name_stamps c.in-Component.args.value) (Some c.in-Component.block.1) cs in
-    let held : OnOk c.renew_component.result ((i : Inst) (made gm : List ids.Id) (args : Names) (k : Option ℕ) (q : Path) → i.path ≡ path_view c.deref.result.now.path → Renews c.args.app.now c.args.cells.now (λ n run. renew_code_as by_number run c.args.left q (p.component_code i made gm args k (seen_codes n c.in-Component.body))) c.args.vm.now (λ n. p.component_code i made gm args k (seen_codes n c.renew_component.new.body)) c.renew_component.new.vm) = subst (λ z. OnOk c.renew_component.result ((i : Inst) (made gm : List ids.Id) (args : Names) (k : Option ℕ) (q : Path) → i.path ≡ path_view c.deref.result.now.path → Renews c.args.app.now c.args.cells.now (λ n run. renew_code_as by_number run c.args.left q (p.component_code i made gm args k (seen_codes n z))) c.args.vm.now (λ n. p.component_code i made gm args k (seen_codes n c.renew_component.new.body)) c.renew_component.new.vm)) c.in-Component.body-is c.renew_component.ensures.ok in
+    let held : OnOk c.renew_component.result ((i : Inst) (made gm : List ids.Id) (args : Names) (k : Option ℕ) (q : Path) → i.path ≡ path_view c.deref.result.now.path → Renews c.args.app.now c.args.cells.now (λ n run. along_code_as by_number run c.args.left q (p.component_code i made gm args k (seen_codes n c.in-Component.body))) c.args.vm.now (λ n. p.component_code i made gm args k (seen_codes n c.renew_component.new.body)) c.renew_component.new.vm) = subst (λ z. OnOk c.renew_component.result ((i : Inst) (made gm : List ids.Id) (args : Names) (k : Option ℕ) (q : Path) → i.path ≡ path_view c.deref.result.now.path → Renews c.args.app.now c.args.cells.now (λ n run. along_code_as by_number run c.args.left q (p.component_code i made gm args k (seen_codes n z))) c.args.vm.now (λ n. p.component_code i made gm args k (seen_codes n c.renew_component.new.body)) c.renew_component.new.vm)) c.in-Component.body-is c.renew_component.ensures.ok in
     on_ok_weaker c.renew_component.result
     (λ r. arm c.args.app.now c.args.cells.now c.args.left (trail_view c.args.trail.now) c.args.code.now _ (λ n. k n (seen_codes n c.in-Component.body)) (λ n. k n (seen_codes n c.renew_component.new.body)) c.args.vm.now c.renew_component.new.vm (λ n. ap (seen_code n) c.in-Component.is ∙ component_is n c.in-Component.owner c.in-Component.block c.in-Component.made c.in-Component.args c.in-Component.body) (λ n. search (rules, the_lemmas))
-    (renews_at c.args.app.now c.args.cells.now (λ m n run. renew_code_as by_number run c.args.left (trail_view c.args.trail.now) (k m (seen_codes n c.in-Component.body))) (λ m n. k m (seen_codes n c.renew_component.new.body)) c.args.vm.now c.renew_component.new.vm
+    (renews_at c.args.app.now c.args.cells.now (λ m n run. along_code_as by_number run c.args.left (trail_view c.args.trail.now) (k m (seen_codes n c.in-Component.body))) (λ m n. k m (seen_codes n c.renew_component.new.body)) c.args.vm.now c.renew_component.new.vm
     (λ m. r (seen_owner m c.in-Component.owner.value) (ids.instance_id (seen_owner m c.in-Component.owner.value).id ∷ ((ids.block_id c.in-Component.block.1 ∷ refs_made c.in-Component.made) ++ refs_made c.in-Component.owner.value.cells)) (ids.block_id c.in-Component.block.1 ∷ refs_made c.in-Component.made) (name_stamps c.in-Component.args.value) (Some c.in-Component.block.1) (trail_view c.args.trail.now) (ap (λ (o : Owner). path_view o.path) (ap (λ z. z.value) (sym c.in-Component.owner-is) ∙ sym c.deref.ensures)))))
     held
 
 pub codes::renew_code-returns-in-Component-clause-fails : goal.codes::renew_code-returns-in-Component-clause-fails
 codes::renew_code-returns-in-Component-clause-fails t c =
     let k : Tables → p.Codes → p.Code = λ m cs. p.component_code (seen_owner m c.in-Component.owner.value) (ids.instance_id (seen_owner m c.in-Component.owner.value).id ∷ ((ids.block_id c.in-Component.block.1 ∷ refs_made c.in-Component.made) ++ refs_made c.in-Component.owner.value.cells)) (ids.block_id c.in-Component.block.1 ∷ refs_made c.in-Component.made) (name_stamps c.in-Component.args.value) (Some c.in-Component.block.1) cs in
-    let held : (i : Inst) (made gm : List ids.Id) (args : Names) (k : Option ℕ) (q : Path) → i.path ≡ path_view c.deref.result.now.path → IfErr c.renew_component.result (RenewFails {A = p.Code} c.args.app.now c.args.cells.now (λ n run. renew_code_as by_number run c.args.left q (p.component_code i made gm args k (seen_codes n c.in-Component.body))) c.args.vm.now) = subst (λ z. (i : Inst) (made gm : List ids.Id) (args : Names) (k : Option ℕ) (q : Path) → i.path ≡ path_view c.deref.result.now.path → IfErr c.renew_component.result (RenewFails {A = p.Code} c.args.app.now c.args.cells.now (λ n run. renew_code_as by_number run c.args.left q (p.component_code i made gm args k (seen_codes n z))) c.args.vm.now)) c.in-Component.body-is c.renew_component.ensures.fails in
+    let held : (i : Inst) (made gm : List ids.Id) (args : Names) (k : Option ℕ) (q : Path) → i.path ≡ path_view c.deref.result.now.path → IfErr c.renew_component.result (RenewFails {A = p.Code} c.args.app.now c.args.cells.now (λ n run. along_code_as by_number run c.args.left q (p.component_code i made gm args k (seen_codes n c.in-Component.body))) c.args.vm.now) = subst (λ z. (i : Inst) (made gm : List ids.Id) (args : Names) (k : Option ℕ) (q : Path) → i.path ≡ path_view c.deref.result.now.path → IfErr c.renew_component.result (RenewFails {A = p.Code} c.args.app.now c.args.cells.now (λ n run. along_code_as by_number run c.args.left q (p.component_code i made gm args k (seen_codes n z))) c.args.vm.now)) c.in-Component.body-is c.renew_component.ensures.fails in
     if_err_all c.renew_component.result
     (λ f r. arm_fails c.args.app.now c.args.cells.now c.args.left (trail_view c.args.trail.now) c.args.code.now (λ n. k n (seen_codes n c.in-Component.body)) c.args.vm.now f (λ n. ap (seen_code n) c.in-Component.is ∙ component_is n c.in-Component.owner c.in-Component.block c.in-Component.made c.in-Component.args c.in-Component.body)
-    (fails_at c.args.app.now c.args.cells.now (λ m n run. renew_code_as by_number run c.args.left (trail_view c.args.trail.now) (k m (seen_codes n c.in-Component.body))) c.args.vm.now f r))
+    (fails_at c.args.app.now c.args.cells.now (λ m n run. along_code_as by_number run c.args.left (trail_view c.args.trail.now) (k m (seen_codes n c.in-Component.body))) c.args.vm.now f r))
     (λ m. held (seen_owner m c.in-Component.owner.value) (ids.instance_id (seen_owner m c.in-Component.owner.value).id ∷ ((ids.block_id c.in-Component.block.1 ∷ refs_made c.in-Component.made) ++ refs_made c.in-Component.owner.value.cells)) (ids.block_id c.in-Component.block.1 ∷ refs_made c.in-Component.made) (name_stamps c.in-Component.args.value) (Some c.in-Component.block.1) (trail_view c.args.trail.now) (ap (λ (o : Owner). path_view o.path) (ap (λ z. z.value) (sym c.in-Component.owner-is) ∙ sym c.deref.ensures)))
 
 pub codes::renew_code-returns-in_ok-renew_text-in-Put-clause-ok : goal.codes::renew_code-returns-in_ok-renew_text-in-Put-clause-ok
@@ -267,42 +269,42 @@ codes::renew_code-returns-in-Element-clause-ok t c =
     let k : Tables → p.Codes → p.Code = λ n cs. p.element_code c.in-Element.node.1 (refs_made c.in-Element.made) (map seen_attr_spot c.in-Element.attrs.items) (map seen_mod_spot c.in-Element.mods.items) cs in
     on_ok_weaker c.renew_element.result
     (λ r. arm c.args.app.now c.args.cells.now c.args.left (trail_view c.args.trail.now) c.args.code.now _ (λ n. k n (seen_codes n c.in-Element.body)) (λ n. k n (seen_codes n c.renew_element.new.body)) c.args.vm.now c.renew_element.new.vm (λ n. ap (seen_code n) c.in-Element.is ∙ element_is n c.in-Element.node c.in-Element.made c.in-Element.attrs c.in-Element.mods c.in-Element.body) (λ n. search (rules, the_lemmas)) (r (refs_made c.in-Element.made)))
-    (moved4 (λ (y : Id) (xs : Vec AttrSpot Global) (zs : Vec ModSpot Global) (b : Codes). OnOk c.renew_element.result ((made : List ids.Id) → Renews c.args.app.now c.args.cells.now (λ n run. renew_code_as by_number run c.args.left (trail_view c.args.trail.now) (p.element_code y.1 made (map seen_attr_spot xs.items) (map seen_mod_spot zs.items) (seen_codes n b))) c.args.vm.now (λ n. (p.element_code y.1 made (map seen_attr_spot xs.items) (map seen_mod_spot zs.items) (seen_codes n c.renew_element.new.body))) c.renew_element.new.vm)) c.in-Element.node-is c.in-Element.attrs-is c.in-Element.mods-is c.in-Element.body-is c.renew_element.ensures.ok)
+    (moved4 (λ (y : Id) (xs : Vec AttrSpot Global) (zs : Vec ModSpot Global) (b : Codes). OnOk c.renew_element.result ((made : List ids.Id) → Renews c.args.app.now c.args.cells.now (λ n run. along_code_as by_number run c.args.left (trail_view c.args.trail.now) (p.element_code y.1 made (map seen_attr_spot xs.items) (map seen_mod_spot zs.items) (seen_codes n b))) c.args.vm.now (λ n. (p.element_code y.1 made (map seen_attr_spot xs.items) (map seen_mod_spot zs.items) (seen_codes n c.renew_element.new.body))) c.renew_element.new.vm)) c.in-Element.node-is c.in-Element.attrs-is c.in-Element.mods-is c.in-Element.body-is c.renew_element.ensures.ok)
 
 pub codes::renew_code-returns-in-Element-clause-fails : goal.codes::renew_code-returns-in-Element-clause-fails
 codes::renew_code-returns-in-Element-clause-fails t c =
     let k : Tables → p.Codes → p.Code = λ n cs. p.element_code c.in-Element.node.1 (refs_made c.in-Element.made) (map seen_attr_spot c.in-Element.attrs.items) (map seen_mod_spot c.in-Element.mods.items) cs in
     if_err c.renew_element.result
     (λ f r. arm_fails c.args.app.now c.args.cells.now c.args.left (trail_view c.args.trail.now) c.args.code.now (λ n. k n (seen_codes n c.in-Element.body)) c.args.vm.now f (λ n. ap (seen_code n) c.in-Element.is ∙ element_is n c.in-Element.node c.in-Element.made c.in-Element.attrs c.in-Element.mods c.in-Element.body) r)
-    (moved4 (λ (y : Id) (xs : Vec AttrSpot Global) (zs : Vec ModSpot Global) (b : Codes). (made : List ids.Id) → IfErr c.renew_element.result (RenewFails {A = p.Code} c.args.app.now c.args.cells.now (λ n run. renew_code_as by_number run c.args.left (trail_view c.args.trail.now) (p.element_code y.1 made (map seen_attr_spot xs.items) (map seen_mod_spot zs.items) (seen_codes n b))) c.args.vm.now)) c.in-Element.node-is c.in-Element.attrs-is c.in-Element.mods-is c.in-Element.body-is c.renew_element.ensures.fails (refs_made c.in-Element.made))
+    (moved4 (λ (y : Id) (xs : Vec AttrSpot Global) (zs : Vec ModSpot Global) (b : Codes). (made : List ids.Id) → IfErr c.renew_element.result (RenewFails {A = p.Code} c.args.app.now c.args.cells.now (λ n run. along_code_as by_number run c.args.left (trail_view c.args.trail.now) (p.element_code y.1 made (map seen_attr_spot xs.items) (map seen_mod_spot zs.items) (seen_codes n b))) c.args.vm.now)) c.in-Element.node-is c.in-Element.attrs-is c.in-Element.mods-is c.in-Element.body-is c.renew_element.ensures.fails (refs_made c.in-Element.made))
 
 pub codes::renew_code-returns-in-Branch-clause-ok : goal.codes::renew_code-returns-in-Branch-clause-ok
 codes::renew_code-returns-in-Branch-clause-ok t c =
     on_ok_weaker c.renew_branch.result
     (λ r. arm c.args.app.now c.args.cells.now c.args.left (trail_view c.args.trail.now) c.args.code.now _ (λ n. p.branch_code (seen_choice n c.in-Branch.choice) (seen_spot c.in-Branch.spot) c.in-Branch.main (stamp_of c.in-Branch.comment) (seen_codes n c.in-Branch.body))
     (λ n. p.branch_code (seen_choice n c.in-Branch.choice) (seen_spot c.in-Branch.spot) c.renew_branch.new.main (stamp_of c.renew_branch.new.comment) (seen_codes n c.renew_branch.new.body)) c.args.vm.now c.renew_branch.new.vm (λ n. ap (seen_code n) c.in-Branch.is ∙ branch_is n c.in-Branch.choice c.in-Branch.spot c.in-Branch.main c.in-Branch.comment c.in-Branch.body) (λ n. search (rules, the_lemmas)) r)
-    (moved5 (λ (z : Choice) (x : Spot) (u : Bool) (k : Option Id) (b : Codes). OnOk c.renew_branch.result (Renews c.args.app.now c.args.cells.now (λ n run. renew_code_as by_number run c.args.left (trail_view c.args.trail.now) (p.branch_code (seen_choice n z) (seen_spot x) u (stamp_of k) (seen_codes n b))) c.args.vm.now (λ n. p.branch_code (seen_choice n z) (seen_spot x) c.renew_branch.new.main (stamp_of c.renew_branch.new.comment) (seen_codes n c.renew_branch.new.body)) c.renew_branch.new.vm)) c.in-Branch.choice-is c.in-Branch.spot-is c.in-Branch.main-is c.in-Branch.comment-is c.in-Branch.body-is c.renew_branch.ensures.ok)
+    (moved5 (λ (z : Choice) (x : Spot) (u : Bool) (k : Option Id) (b : Codes). OnOk c.renew_branch.result (Renews c.args.app.now c.args.cells.now (λ n run. along_code_as by_number run c.args.left (trail_view c.args.trail.now) (p.branch_code (seen_choice n z) (seen_spot x) u (stamp_of k) (seen_codes n b))) c.args.vm.now (λ n. p.branch_code (seen_choice n z) (seen_spot x) c.renew_branch.new.main (stamp_of c.renew_branch.new.comment) (seen_codes n c.renew_branch.new.body)) c.renew_branch.new.vm)) c.in-Branch.choice-is c.in-Branch.spot-is c.in-Branch.main-is c.in-Branch.comment-is c.in-Branch.body-is c.renew_branch.ensures.ok)
 
 pub codes::renew_code-returns-in-Branch-clause-fails : goal.codes::renew_code-returns-in-Branch-clause-fails
 codes::renew_code-returns-in-Branch-clause-fails t c =
     if_err c.renew_branch.result
     (λ f r. arm_fails c.args.app.now c.args.cells.now c.args.left (trail_view c.args.trail.now) c.args.code.now (λ n. p.branch_code (seen_choice n c.in-Branch.choice) (seen_spot c.in-Branch.spot) c.in-Branch.main (stamp_of c.in-Branch.comment) (seen_codes n c.in-Branch.body)) c.args.vm.now f (λ n. ap (seen_code n) c.in-Branch.is ∙ branch_is n c.in-Branch.choice c.in-Branch.spot c.in-Branch.main c.in-Branch.comment c.in-Branch.body) r)
-    (moved5 (λ (z : Choice) (x : Spot) (u : Bool) (k : Option Id) (b : Codes). IfErr c.renew_branch.result (RenewFails {A = p.Code} c.args.app.now c.args.cells.now (λ n run. renew_code_as by_number run c.args.left (trail_view c.args.trail.now) (p.branch_code (seen_choice n z) (seen_spot x) u (stamp_of k) (seen_codes n b))) c.args.vm.now)) c.in-Branch.choice-is c.in-Branch.spot-is c.in-Branch.main-is c.in-Branch.comment-is c.in-Branch.body-is c.renew_branch.ensures.fails)
+    (moved5 (λ (z : Choice) (x : Spot) (u : Bool) (k : Option Id) (b : Codes). IfErr c.renew_branch.result (RenewFails {A = p.Code} c.args.app.now c.args.cells.now (λ n run. along_code_as by_number run c.args.left (trail_view c.args.trail.now) (p.branch_code (seen_choice n z) (seen_spot x) u (stamp_of k) (seen_codes n b))) c.args.vm.now)) c.in-Branch.choice-is c.in-Branch.spot-is c.in-Branch.main-is c.in-Branch.comment-is c.in-Branch.body-is c.renew_branch.ensures.fails)
 
 pub codes::renew_code-returns-in-Yield-clause-ok : goal.codes::renew_code-returns-in-Yield-clause-ok
 codes::renew_code-returns-in-Yield-clause-ok t c =
     let k : Tables → p.Codes → p.Code = λ n cs. p.yield_code c.in-Yield.name (refs_made c.in-Yield.made) (stamps c.in-Yield.params) cs in
     on_ok_weaker c.renew_yield.result
     (λ r. arm c.args.app.now c.args.cells.now c.args.left (trail_view c.args.trail.now) c.args.code.now _ (λ n. k n (seen_codes n c.in-Yield.body)) (λ n. k n (seen_codes n c.renew_yield.new.body)) c.args.vm.now c.renew_yield.new.vm (λ n. ap (seen_code n) c.in-Yield.is ∙ yield_is n c.in-Yield.name c.in-Yield.made c.in-Yield.params c.in-Yield.body) (λ n. search (rules, the_lemmas))
-    (renews_in c.args.app.now c.args.cells.now (λ n run. renew_codes_as by_number run c.args.left (slot c.in-Yield.name ∷ trail_view c.args.trail.now) 0 (seen_codes n c.in-Yield.body)) k (λ n. seen_codes n c.renew_yield.new.body) c.args.vm.now c.renew_yield.new.vm r))
-    (moved2 (λ (y : Text) (b : Codes). OnOk c.renew_yield.result (Renews c.args.app.now c.args.cells.now (λ n run. renew_codes_as by_number run c.args.left (slot y ∷ trail_view c.args.trail.now) 0 (seen_codes n b)) c.args.vm.now (λ n. seen_codes n c.renew_yield.new.body) c.renew_yield.new.vm)) c.in-Yield.name-is c.in-Yield.body-is c.renew_yield.ensures.ok)
+    (renews_in c.args.app.now c.args.cells.now (λ n run. along_codes_as by_number run c.args.left (slot c.in-Yield.name ∷ trail_view c.args.trail.now) 0 (seen_codes n c.in-Yield.body)) k (λ n. seen_codes n c.renew_yield.new.body) c.args.vm.now c.renew_yield.new.vm r))
+    (moved2 (λ (y : Text) (b : Codes). OnOk c.renew_yield.result (Renews c.args.app.now c.args.cells.now (λ n run. along_codes_as by_number run c.args.left (slot y ∷ trail_view c.args.trail.now) 0 (seen_codes n b)) c.args.vm.now (λ n. seen_codes n c.renew_yield.new.body) c.renew_yield.new.vm)) c.in-Yield.name-is c.in-Yield.body-is c.renew_yield.ensures.ok)
 
 pub codes::renew_code-returns-in-Yield-clause-fails : goal.codes::renew_code-returns-in-Yield-clause-fails
 codes::renew_code-returns-in-Yield-clause-fails t c =
     let k : Tables → p.Codes → p.Code = λ n cs. p.yield_code c.in-Yield.name (refs_made c.in-Yield.made) (stamps c.in-Yield.params) cs in
     if_err c.renew_yield.result
-    (λ f r. arm_fails c.args.app.now c.args.cells.now c.args.left (trail_view c.args.trail.now) c.args.code.now (λ n. k n (seen_codes n c.in-Yield.body)) c.args.vm.now f (λ n. ap (seen_code n) c.in-Yield.is ∙ yield_is n c.in-Yield.name c.in-Yield.made c.in-Yield.params c.in-Yield.body) (fails_in c.args.app.now c.args.cells.now (λ n run. renew_codes_as by_number run c.args.left (slot c.in-Yield.name ∷ trail_view c.args.trail.now) 0 (seen_codes n c.in-Yield.body)) k (λ n st. st) c.args.vm.now f r))
-    (moved2 (λ (y : Text) (b : Codes). IfErr c.renew_yield.result (RenewFails {A = p.Codes} c.args.app.now c.args.cells.now (λ n run. renew_codes_as by_number run c.args.left (slot y ∷ trail_view c.args.trail.now) 0 (seen_codes n b)) c.args.vm.now)) c.in-Yield.name-is c.in-Yield.body-is c.renew_yield.ensures.fails)
+    (λ f r. arm_fails c.args.app.now c.args.cells.now c.args.left (trail_view c.args.trail.now) c.args.code.now (λ n. k n (seen_codes n c.in-Yield.body)) c.args.vm.now f (λ n. ap (seen_code n) c.in-Yield.is ∙ yield_is n c.in-Yield.name c.in-Yield.made c.in-Yield.params c.in-Yield.body) (fails_in c.args.app.now c.args.cells.now (λ n run. along_codes_as by_number run c.args.left (slot c.in-Yield.name ∷ trail_view c.args.trail.now) 0 (seen_codes n c.in-Yield.body)) k (λ n st. st) c.args.vm.now f r))
+    (moved2 (λ (y : Text) (b : Codes). IfErr c.renew_yield.result (RenewFails {A = p.Codes} c.args.app.now c.args.cells.now (λ n run. along_codes_as by_number run c.args.left (slot y ∷ trail_view c.args.trail.now) 0 (seen_codes n b)) c.args.vm.now)) c.in-Yield.name-is c.in-Yield.body-is c.renew_yield.ensures.fails)
 
 -- what was moved
 
@@ -424,8 +426,8 @@ lists::renew_list-returns-in-Err-renew_unlisted-clause-fails t c =
 
 -- with items
 
-pub lists::renew_listed-returns-then-is_empty-clause-ok : goal.lists::renew_listed-returns-then-is_empty-clause-ok
-lists::renew_listed-returns-then-is_empty-clause-ok t c =
+pub lists::relist-returns-then-is_empty-clause-ok : goal.lists::relist-returns-then-is_empty-clause-ok
+lists::relist-returns-then-is_empty-clause-ok t c =
     let z : Tables → Listing = λ n. seen_listing n c.args.list.value.listing in
     let s = seen_spot c.args.list.value.spot in
     let p = trail_view c.args.trail.now in
@@ -440,8 +442,8 @@ lists::renew_listed-returns-then-is_empty-clause-ok t c =
     (λ n u. sym (ap seen_left none) ∙ c.in_ok-read.ensures.entries n u) h)
     (subst (λ (b : Box Listed Global). IfOk c.end_list.result (λ r. Renews c.args.app.now c.args.cells.now (ListsNone (λ n. seen_listing n b.value.listing) (seen_spot b.value.spot) c.args.left (trail_view c.args.trail.now) (λ n q. times_items q (items_of (all_items (map (seen_item_code n) b.value.items.items))))) c.read_listed.new.vm (λ n. seen_code n r.value) c.end_list.new.vm)) c.in_ok-read.ensures.list c.end_list.ensures.ok)
 
-pub lists::renew_listed-returns-then-is_empty-clause-fails : goal.lists::renew_listed-returns-then-is_empty-clause-fails
-lists::renew_listed-returns-then-is_empty-clause-fails t c =
+pub lists::relist-returns-then-is_empty-clause-fails : goal.lists::relist-returns-then-is_empty-clause-fails
+lists::relist-returns-then-is_empty-clause-fails t c =
     let z : Tables → Listing = λ n. seen_listing n c.args.list.value.listing in
     let s = seen_spot c.args.list.value.spot in
     let p = trail_view c.args.trail.now in
@@ -456,8 +458,8 @@ lists::renew_listed-returns-then-is_empty-clause-fails t c =
     (λ n u. sym (ap seen_left none) ∙ c.in_ok-read.ensures.entries n u) h)
     (subst (λ (b : Box Listed Global). IfErr c.end_list.result (RenewFails {A = PlainCode} c.args.app.now c.args.cells.now (ListsNone (λ n. seen_listing n b.value.listing) (seen_spot b.value.spot) c.args.left (trail_view c.args.trail.now) (λ n q. times_items q (items_of (all_items (map (seen_item_code n) b.value.items.items))))) c.read_listed.new.vm)) c.in_ok-read.ensures.list c.end_list.ensures.fails)
 
-pub lists::renew_listed-returns-else-is_empty-clause-ok : goal.lists::renew_listed-returns-else-is_empty-clause-ok
-lists::renew_listed-returns-else-is_empty-clause-ok t c =
+pub lists::relist-returns-else-is_empty-clause-ok : goal.lists::relist-returns-else-is_empty-clause-ok
+lists::relist-returns-else-is_empty-clause-ok t c =
     let z : Tables → Listing = λ n. seen_listing n c.args.list.value.listing in
     let s = seen_spot c.args.list.value.spot in
     let p = trail_view c.args.trail.now in
@@ -472,8 +474,8 @@ lists::renew_listed-returns-else-is_empty-clause-ok t c =
     c.in_ok-read.ensures.entries h)
     (subst (λ (b : Box Listed Global). IfOk c.sync_list.result (λ r. Renews c.args.app.now c.args.cells.now (Syncs (λ n. seen_listing n b.value.listing) (seen_spot b.value.spot) c.args.left (trail_view c.args.trail.now) (seen_left c.in_ok-read.read.1.value.entries.items) (λ n. map (seen_item_code n) b.value.items.items)) c.read_listed.new.vm (λ n. seen_code n r.value) c.sync_list.new.vm)) c.in_ok-read.ensures.list c.sync_list.ensures.ok)
 
-pub lists::renew_listed-returns-else-is_empty-clause-fails : goal.lists::renew_listed-returns-else-is_empty-clause-fails
-lists::renew_listed-returns-else-is_empty-clause-fails t c =
+pub lists::relist-returns-else-is_empty-clause-fails : goal.lists::relist-returns-else-is_empty-clause-fails
+lists::relist-returns-else-is_empty-clause-fails t c =
     let z : Tables → Listing = λ n. seen_listing n c.args.list.value.listing in
     let s = seen_spot c.args.list.value.spot in
     let p = trail_view c.args.trail.now in
@@ -488,12 +490,12 @@ lists::renew_listed-returns-else-is_empty-clause-fails t c =
     c.in_ok-read.ensures.entries h)
     (subst (λ (b : Box Listed Global). IfErr c.sync_list.result (RenewFails {A = PlainCode} c.args.app.now c.args.cells.now (Syncs (λ n. seen_listing n b.value.listing) (seen_spot b.value.spot) c.args.left (trail_view c.args.trail.now) (seen_left c.in_ok-read.read.1.value.entries.items) (λ n. map (seen_item_code n) b.value.items.items)) c.read_listed.new.vm)) c.in_ok-read.ensures.list c.sync_list.ensures.fails)
 
-pub lists::renew_listed-returns-else-is_empty-clause-moved : goal.lists::renew_listed-returns-else-is_empty-clause-moved
-lists::renew_listed-returns-else-is_empty-clause-moved t c =
+pub lists::relist-returns-else-is_empty-clause-moved : goal.lists::relist-returns-else-is_empty-clause-moved
+lists::relist-returns-else-is_empty-clause-moved t c =
     subst (λ (b : Box Listed Global). IfOk c.sync_list.result (λ r. CodeMoved c.args.moved.now c.sync_list.new.moved (λ n. listed_code (seen_listing n b.value.listing) (seen_spot b.value.spot) (all_items (map (seen_item_code n) b.value.items.items))) (λ n. seen_code n r.value))) c.in_ok-read.ensures.list c.sync_list.ensures.moved
 
-pub lists::renew_listed-returns-then-is_empty-clause-moved : goal.lists::renew_listed-returns-then-is_empty-clause-moved
-lists::renew_listed-returns-then-is_empty-clause-moved t c =
+pub lists::relist-returns-then-is_empty-clause-moved : goal.lists::relist-returns-then-is_empty-clause-moved
+lists::relist-returns-then-is_empty-clause-moved t c =
     let z : Tables → Listing = λ n. seen_listing n c.args.list.value.listing in
     let s = seen_spot c.args.list.value.spot in
     let xs : Tables → List Item = λ n. map (seen_item_code n) c.args.list.value.items.items in
@@ -501,6 +503,164 @@ lists::renew_listed-returns-then-is_empty-clause-moved t c =
     (λ r h. ended_moved c.args.moved.now z s xs (λ n. seen_code n r.value) h) c.end_list.ensures.none
 
 -- without items
+
+pub lists::renew_listed-returns-then-stale-clause-ok : goal.lists::renew_listed-returns-then-stale-clause-ok
+lists::renew_listed-returns-then-stale-clause-ok t c =
+    let z : Tables → Listing = λ n. seen_listing n c.args.list.value.listing in
+    let s = seen_spot c.args.list.value.spot in
+    let p = trail_view c.args.trail.now in
+    let key = c.args.list.value.listing.key in
+    let xs : Tables → List Item = λ n. map (seen_item_code n) c.args.list.value.items.items in
+    IfOk-weaker c.relist.result (λ r. Renews c.args.app.now c.args.cells.now (Relists z s c.args.left p xs) c.ask_list.new.vm (λ n. seen_code n r.value) c.relist.new.vm)
+    (λ r. Renews c.args.app.now c.args.cells.now (Updating c.args.app.now c.args.cells.now z key (λ n. refl) s c.args.left p xs) c.args.vm.now (λ n. seen_code n r.value) c.relist.new.vm)
+    (λ r h. listed_reads c.args.app.now c.args.cells.now z key (λ n. refl) s c.args.left p xs c.args.vm.now c.ask_list.new.vm c.relist.new.vm (λ n. seen_code n r.value) (λ n u agrees. c.in_ok-asked.ensures.exact n u agrees ∙ c.if-stale.true) c.ask_list.ensures.still h)
+    (subst (λ (b : Box Listed Global). IfOk c.relist.result (λ r. Renews c.args.app.now c.args.cells.now (Relists (λ n. seen_listing n b.value.listing) (seen_spot b.value.spot) c.args.left p (λ n. map (seen_item_code n) b.value.items.items)) c.ask_list.new.vm (λ n. seen_code n r.value) c.relist.new.vm)) c.in_ok-asked.ensures.list c.relist.ensures.ok)
+
+pub lists::renew_listed-returns-then-stale-clause-fails : goal.lists::renew_listed-returns-then-stale-clause-fails
+lists::renew_listed-returns-then-stale-clause-fails t c =
+    let z : Tables → Listing = λ n. seen_listing n c.args.list.value.listing in
+    let s = seen_spot c.args.list.value.spot in
+    let p = trail_view c.args.trail.now in
+    let key = c.args.list.value.listing.key in
+    let xs : Tables → List Item = λ n. map (seen_item_code n) c.args.list.value.items.items in
+    IfErr-weaker c.relist.result (RenewFails {A = PlainCode} c.args.app.now c.args.cells.now (Relists z s c.args.left p xs) c.ask_list.new.vm) (RenewFails {A = PlainCode} c.args.app.now c.args.cells.now (Updating c.args.app.now c.args.cells.now z key (λ n. refl) s c.args.left p xs) c.args.vm.now)
+    (λ f h. listed_reads_fails c.args.app.now c.args.cells.now z key (λ n. refl) s c.args.left p xs c.args.vm.now c.ask_list.new.vm f (λ n u agrees. c.in_ok-asked.ensures.exact n u agrees ∙ c.if-stale.true) c.ask_list.ensures.still h)
+    (subst (λ (b : Box Listed Global). IfErr c.relist.result (RenewFails {A = PlainCode} c.args.app.now c.args.cells.now (Relists (λ n. seen_listing n b.value.listing) (seen_spot b.value.spot) c.args.left p (λ n. map (seen_item_code n) b.value.items.items)) c.ask_list.new.vm)) c.in_ok-asked.ensures.list c.relist.ensures.fails)
+
+pub lists::renew_listed-returns-then-stale-clause-moved : goal.lists::renew_listed-returns-then-stale-clause-moved
+lists::renew_listed-returns-then-stale-clause-moved t c =
+    subst (λ (b : Box Listed Global). IfOk c.relist.result (λ r. CodeMoved c.args.moved.now c.relist.new.moved (λ n. listed_code (seen_listing n b.value.listing) (seen_spot b.value.spot) (all_items (map (seen_item_code n) b.value.items.items))) (λ n. seen_code n r.value))) c.in_ok-asked.ensures.list c.relist.ensures.moved
+
+pub lists::renew_listed-returns-else-stale-clause-ok : goal.lists::renew_listed-returns-else-stale-clause-ok
+lists::renew_listed-returns-else-stale-clause-ok t c =
+    let z : Tables → Listing = λ n. seen_listing n c.args.list.value.listing in
+    let s = seen_spot c.args.list.value.spot in
+    let p = trail_view c.args.trail.now in
+    let key = c.args.list.value.listing.key in
+    let xs : Tables → List Item = λ n. map (seen_item_code n) c.args.list.value.items.items in
+    IfOk-weaker c.walk_list.result (λ r. Renews c.args.app.now c.args.cells.now (GoesAlong z s c.args.left p xs) c.ask_list.new.vm (λ n. seen_code n r.value) c.walk_list.new.vm)
+    (λ r. Renews c.args.app.now c.args.cells.now (Updating c.args.app.now c.args.cells.now z key (λ n. refl) s c.args.left p xs) c.args.vm.now (λ n. seen_code n r.value) c.walk_list.new.vm)
+    (λ r h. listed_goes c.args.app.now c.args.cells.now z key (λ n. refl) s c.args.left p xs c.args.vm.now c.ask_list.new.vm c.walk_list.new.vm (λ n. seen_code n r.value) (λ n u agrees. c.in_ok-asked.ensures.exact n u agrees ∙ c.if-stale.false) c.ask_list.ensures.still h)
+    (subst (λ (b : Box Listed Global). IfOk c.walk_list.result (λ r. Renews c.args.app.now c.args.cells.now (GoesAlong (λ n. seen_listing n b.value.listing) (seen_spot b.value.spot) c.args.left p (λ n. map (seen_item_code n) b.value.items.items)) c.ask_list.new.vm (λ n. seen_code n r.value) c.walk_list.new.vm)) c.in_ok-asked.ensures.list c.walk_list.ensures.ok)
+
+pub lists::renew_listed-returns-else-stale-clause-fails : goal.lists::renew_listed-returns-else-stale-clause-fails
+lists::renew_listed-returns-else-stale-clause-fails t c =
+    let z : Tables → Listing = λ n. seen_listing n c.args.list.value.listing in
+    let s = seen_spot c.args.list.value.spot in
+    let p = trail_view c.args.trail.now in
+    let key = c.args.list.value.listing.key in
+    let xs : Tables → List Item = λ n. map (seen_item_code n) c.args.list.value.items.items in
+    IfErr-weaker c.walk_list.result (RenewFails {A = PlainCode} c.args.app.now c.args.cells.now (GoesAlong z s c.args.left p xs) c.ask_list.new.vm) (RenewFails {A = PlainCode} c.args.app.now c.args.cells.now (Updating c.args.app.now c.args.cells.now z key (λ n. refl) s c.args.left p xs) c.args.vm.now)
+    (λ f h. listed_goes_fails c.args.app.now c.args.cells.now z key (λ n. refl) s c.args.left p xs c.args.vm.now c.ask_list.new.vm f (λ n u agrees. c.in_ok-asked.ensures.exact n u agrees ∙ c.if-stale.false) c.ask_list.ensures.still h)
+    (subst (λ (b : Box Listed Global). IfErr c.walk_list.result (RenewFails {A = PlainCode} c.args.app.now c.args.cells.now (GoesAlong (λ n. seen_listing n b.value.listing) (seen_spot b.value.spot) c.args.left p (λ n. map (seen_item_code n) b.value.items.items)) c.ask_list.new.vm)) c.in_ok-asked.ensures.list c.walk_list.ensures.fails)
+
+pub lists::renew_listed-returns-else-stale-clause-moved : goal.lists::renew_listed-returns-else-stale-clause-moved
+lists::renew_listed-returns-else-stale-clause-moved t c =
+    subst (λ (b : Box Listed Global). IfOk c.walk_list.result (λ r. CodeMoved c.args.moved.now c.walk_list.new.moved (λ n. listed_code (seen_listing n b.value.listing) (seen_spot b.value.spot) (all_items (map (seen_item_code n) b.value.items.items))) (λ n. seen_code n r.value))) c.in_ok-asked.ensures.list c.walk_list.ensures.moved
+
+-- a list that wasn't touched
+
+pub along::walk_list-returns-in_ok-with_items-in-Ok-clause-ok : goal.along::walk_list-returns-in_ok-with_items-in-Ok-clause-ok
+along::walk_list-returns-in_ok-with_items-in-Ok-clause-ok t c =
+    let l = c.args.list.value in
+    let d : c.deref_mut.result.now ≡ l = c.deref_mut.ensures.value ∙ ap (λ (b : Box Listed Global). b.value) c.in_ok-once.ensures.list in
+    let made : (n : Tables) → seen_code n c.in_ok-with_items-in-Ok.field-0.value ≡ listed_code (seen_listing n l.listing) (seen_spot l.spot) (all_items (map (seen_item_code n) c.walk_items.new.items.items)) =
+    λ n. c.in_ok-with_items-in-Ok.ensures n ∙ ap (λ (x : Listed). listed_code (seen_listing n x.listing) (seen_spot x.spot) (all_items (map (seen_item_code n) c.walk_items.new.items.items))) d in
+    list_goes c.args.app.now c.args.cells.now (λ n. seen_listing n l.listing) (seen_spot l.spot) c.args.left (trail_view c.args.trail.now) (trail_view c.push.new.self) c.in_ok-push.ensures.view l.items.items c.deref_mut.result.now.items.items (ap (λ (x : Listed). x.items.items) d)
+    (λ n. all_items (map (seen_item_code n) c.walk_items.new.items.items)) (λ n. seen_code n c.in_ok-with_items-in-Ok.field-0.value) c.args.vm.now c.walk_items.new.vm made c.in-Ok.ensures.ok
+
+pub along::walk_list-returns-in-Err-clause-fails : goal.along::walk_list-returns-in-Err-clause-fails
+along::walk_list-returns-in-Err-clause-fails t c =
+    let l = c.args.list.value in
+    let d : c.deref_mut.result.now ≡ l = c.deref_mut.ensures.value ∙ ap (λ (b : Box Listed Global). b.value) c.in_ok-once.ensures.list in
+    subst (RenewFails {A = PlainCode} c.args.app.now c.args.cells.now (GoesAlong (λ n. seen_listing n l.listing) (seen_spot l.spot) c.args.left (trail_view c.args.trail.now) (λ n. map (seen_item_code n) l.items.items)) c.args.vm.now) (sym c.lost_items.ensures)
+    (list_goes_fails c.args.app.now c.args.cells.now (λ n. seen_listing n l.listing) (seen_spot l.spot) c.args.left (trail_view c.args.trail.now) (trail_view c.push.new.self) c.in_ok-push.ensures.view l.items.items c.deref_mut.result.now.items.items (ap (λ (x : Listed). x.items.items) d)
+    c.args.vm.now c.in-Err.fault c.in-Err.ensures.fails)
+
+pub along::walk_list-returns-in_ok-with_items-in-Ok-clause-moved : goal.along::walk_list-returns-in_ok-with_items-in-Ok-clause-moved
+along::walk_list-returns-in_ok-with_items-in-Ok-clause-moved t c =
+    let l = c.args.list.value in
+    let d : c.deref_mut.result.now ≡ l = c.deref_mut.ensures.value ∙ ap (λ (b : Box Listed Global). b.value) c.in_ok-once.ensures.list in
+    let made : (n : Tables) → seen_code n c.in_ok-with_items-in-Ok.field-0.value ≡ listed_code (seen_listing n l.listing) (seen_spot l.spot) (all_items (map (seen_item_code n) c.walk_items.new.items.items)) =
+    λ n. c.in_ok-with_items-in-Ok.ensures n ∙ ap (λ (x : Listed). listed_code (seen_listing n x.listing) (seen_spot x.spot) (all_items (map (seen_item_code n) c.walk_items.new.items.items))) d in
+    list_along c.args.moved.now c.walk_items.new.moved (λ n. seen_listing n l.listing) (seen_spot l.spot) l.items.items c.walk_items.new.items.items (λ n. seen_code n c.in_ok-with_items-in-Ok.field-0.value) c.in_ok-once.ensures.once
+    (subst (λ (x : Listed). ItemsAlong c.args.moved.now c.walk_items.new.moved x.items.items c.walk_items.new.items.items) d c.in-Ok.ensures.moved) made
+
+pub along::walk_item-returns-in-Ok-clause-ok : goal.along::walk_item-returns-in-Ok-clause-ok
+along::walk_item-returns-in-Ok-clause-ok t c =
+    let x = c.args.item.now in
+    let q : Path = item (plain (view x.spot.key)) x.spot.occurrence ∷ trail_view c.args.trail.now in
+    let y : ItemCode = record { spot = x.spot; comment = x.comment; body = c.renew_codes.new.codes } in
+    along_renews c.args.app.now c.args.cells.now c.args.left (trail_view c.args.trail.now) q x.spot x.comment x.body (λ n. seen_item_code n x) c.args.vm.now (λ n. item_is n x) refl c.renew_codes.new.codes (λ n. seen_item_code n y) c.renew_codes.new.vm (λ n. item_is n y)
+    (subst (λ w. Renews c.args.app.now c.args.cells.now (λ n run. along_codes_as by_number run c.args.left w 0 (seen_codes n x.body)) c.args.vm.now (λ n. seen_codes n c.renew_codes.new.codes) c.renew_codes.new.vm) c.in_ok-enter_item.ensures.view c.in-Ok.ensures.ok)
+
+pub along::walk_item-returns-in-Err-clause-fails : goal.along::walk_item-returns-in-Err-clause-fails
+along::walk_item-returns-in-Err-clause-fails t c =
+    let x = c.args.item.now in
+    let q : Path = item (plain (view x.spot.key)) x.spot.occurrence ∷ trail_view c.args.trail.now in
+    let y : ItemCode = record { spot = x.spot; comment = x.comment; body = c.renew_codes.new.codes } in
+    along_fails c.args.app.now c.args.cells.now c.args.left (trail_view c.args.trail.now) q x.spot x.comment x.body (λ n. seen_item_code n x) c.args.vm.now (λ n. item_is n x) refl c.in-Err.fault
+    (subst (λ w. RenewFails {A = PlainCodes} c.args.app.now c.args.cells.now (λ n run. along_codes_as by_number run c.args.left w 0 (seen_codes n x.body)) c.args.vm.now c.in-Err.fault) c.in_ok-enter_item.ensures.view c.in-Err.ensures.fails)
+
+pub along::walk_item-returns-in-Ok-clause-moved : goal.along::walk_item-returns-in-Ok-clause-moved
+along::walk_item-returns-in-Ok-clause-moved t c =
+    let x = c.args.item.now in
+    let q : Path = item (plain (view x.spot.key)) x.spot.occurrence ∷ trail_view c.args.trail.now in
+    let y : ItemCode = record { spot = x.spot; comment = x.comment; body = c.renew_codes.new.codes } in
+    kept_moved c.args.moved.now c.renew_codes.new.moved c.renew_codes.new.moved false (λ n. seen_item_code n x) (λ n. seen_item_code n y) (λ n. seen_codes n x.body) (λ n. seen_codes n c.renew_codes.new.codes)
+    (λ n. ap (λ (z : Item). z.1.1) (item_is n x)) (λ n. ap (λ (z : Item). z.1.1) (item_is n y)) c.in-Ok.ensures.moved (omega arith)
+
+pub along::walk_item-returns-in-Ok-clause-key : goal.along::walk_item-returns-in-Ok-clause-key
+along::walk_item-returns-in-Ok-clause-key t c = λ n.
+    let x = c.args.item.now in
+    let q : Path = item (plain (view x.spot.key)) x.spot.occurrence ∷ trail_view c.args.trail.now in
+    let y : ItemCode = record { spot = x.spot; comment = x.comment; body = c.renew_codes.new.codes } in
+    ap spot_key (item_is n y) ∙ sym (ap spot_key (item_is n x))
+
+pub along::walk_items-loop-item-init : goal.along::walk_items-loop-item-init
+along::walk_items-loop-item-init t c = record {
+  unvisited = search rules;
+  trail = search rules;
+  calm = c.requires.calm;
+  walks = items_begin c.args.app.now c.args.cells.now c.args.left (trail_view c.args.trail.now) c.args.items.now.items c.deref_mut-item-items.result.now c.args.vm.now c.deref_mut-item-items.ensures.value;
+  moved = along_begin c.args.moved.now c.args.items.now.items c.deref_mut-item-items.result.now;
+}
+
+pub along::walk_items-loop-item-preserved : goal.along::walk_items-loop-item-preserved
+along::walk_items-loop-item-preserved t c = record {
+  unvisited = (
+    length-set c.loop-item.item-items c.loop-item.item-index c.walk_item.new.item ∙ c.loop-item.invariant.unvisited.0,
+    λ k d le. let ne : k ≢ c.loop-item.item-index = omega (arith, le) in get_or-set_other c.loop-item.item-items c.loop-item.item-index k c.walk_item.new.item d ne ∙ c.loop-item.invariant.unvisited.1 k d (omega (arith, le)),
+  );
+  trail = c.in-Ok.ensures.trail ∙ c.loop-item.invariant.trail;
+  calm = c.in-Ok.ensures.calm;
+  walks = items_next c.args.app.now c.args.cells.now c.args.left (trail_view c.args.trail.now) c.loop-item.item-items c.loop-item.item-index c.item-item.result (let lt = c.loop-item-test.true in let e = c.loop-item.invariant.unvisited.0 in omega (arith, lt, e)) c.item-item.is c.args.items.now.items c.args.vm.now c.loop-item.vm c.walk_item.new.vm c.walk_item.new.item c.loop-item.invariant.walks
+      (subst (λ w. Renews c.args.app.now c.args.cells.now (AlongItem c.args.left (trail_view w) (λ n. seen_item_code n c.item-item.result)) c.loop-item.vm (λ n. seen_item_code n c.walk_item.new.item) c.walk_item.new.vm) c.loop-item.invariant.trail
+      (subst (λ z. Renews c.args.app.now c.args.cells.now (AlongItem c.args.left (trail_view c.loop-item.trail) (λ n. seen_item_code n z)) c.loop-item.vm (λ n. seen_item_code n c.walk_item.new.item) c.walk_item.new.vm) (sym c.item-item.is) c.in-Ok.ensures.ok));
+  moved = along_next c.args.moved.now c.loop-item.moved c.walk_item.new.moved c.args.items.now.items c.loop-item.item-items c.loop-item.item-index c.item-item.result c.walk_item.new.item (let lt = c.loop-item-test.true in let e = c.loop-item.invariant.unvisited.0 in omega (arith, lt, e))
+      (c.loop-item.invariant.unvisited.0 ∙ ap length c.deref_mut-item-items.ensures.value)
+      (c.item-item.is ∙ (c.loop-item.invariant.unvisited.1 c.loop-item.item-index c.item-item.result (omega arith) ∙ ap (λ xs. get_or xs c.loop-item.item-index c.item-item.result) c.deref_mut-item-items.ensures.value)) c.loop-item.invariant.moved
+      (subst (λ z. KeptMoved c.loop-item.moved c.walk_item.new.moved false (λ n. seen_item_code n z) (λ n. seen_item_code n c.walk_item.new.item)) (sym c.item-item.is) c.in-Ok.ensures.moved)
+      (subst (λ z. (n : Tables) → spot_key (seen_item_code n c.walk_item.new.item) ≡ spot_key (seen_item_code n z)) (sym c.item-item.is) c.in-Ok.ensures.key);
+}
+
+pub along::walk_items-returns-in-Err-clause-fails : goal.along::walk_items-returns-in-Err-clause-fails
+along::walk_items-returns-in-Err-clause-fails t c =
+    items_fail c.args.app.now c.args.cells.now c.args.left (trail_view c.args.trail.now) c.loop-item.item-items c.loop-item.item-index c.item-item.result (let lt = c.loop-item-test.true in let e = c.loop-item.invariant.unvisited.0 in omega (arith, lt, e)) c.item-item.is c.args.items.now.items c.args.vm.now c.loop-item.vm c.in-Err.fault c.loop-item.invariant.walks
+    (subst (λ w. RenewFails {A = Item} c.args.app.now c.args.cells.now (AlongItem c.args.left (trail_view w) (λ n. seen_item_code n c.item-item.result)) c.loop-item.vm c.in-Err.fault) c.loop-item.invariant.trail
+    (subst (λ z. RenewFails {A = Item} c.args.app.now c.args.cells.now (AlongItem c.args.left (trail_view c.loop-item.trail) (λ n. seen_item_code n z)) c.loop-item.vm c.in-Err.fault) (sym c.item-item.is) c.in-Err.ensures.fails))
+
+pub along::walk_items-returns-clause-ok : goal.along::walk_items-returns-clause-ok
+along::walk_items-returns-clause-ok t c =
+    items_end c.args.app.now c.args.cells.now c.args.left (trail_view c.args.trail.now) c.args.items.now.items _ c.args.vm.now c.loop-item.vm c.loop-item.item-items c.loop-item.item-index (let le = c.loop-item-test.false in let e = c.loop-item.invariant.unvisited.0 in omega (arith, le, e)) c.loop-item.invariant.walks
+    (written c.loop-item.item-items (drop (length c.loop-item.item-items) c.args.items.now.items) c.args.items.now.len
+    (c.args.items.now.ok.0 ∙ (ap length (sym c.deref_mut-item-items.ensures.value) ∙ sym c.loop-item.invariant.unvisited.0)))
+
+pub along::walk_items-returns-clause-moved : goal.along::walk_items-returns-clause-moved
+along::walk_items-returns-clause-moved t c =
+    along_end c.args.moved.now c.loop-item.moved c.args.items.now.items _ c.loop-item.item-items c.loop-item.item-index (c.loop-item.invariant.unvisited.0 ∙ ap length c.deref_mut-item-items.ensures.value) (let le = c.loop-item-test.false in let e = c.loop-item.invariant.unvisited.0 in omega (arith, le, e))
+    (written c.loop-item.item-items (drop (length c.loop-item.item-items) c.args.items.now.items) c.args.items.now.len
+    (c.args.items.now.ok.0 ∙ (ap length (sym c.deref_mut-item-items.ensures.value) ∙ sym c.loop-item.invariant.unvisited.0))) c.loop-item.invariant.moved
 
 pub lists::renew_unlisted-returns-in_ok-without_items-in-Ok-clause-moved : goal.lists::renew_unlisted-returns-in_ok-without_items-in-Ok-clause-moved
 lists::renew_unlisted-returns-in_ok-without_items-in-Ok-clause-moved t c =
@@ -547,7 +707,7 @@ lists::renew_unlisted-returns-in_ok-without_items-in-Ok-clause-ok t c =
     renews_as c.args.app.now c.args.cells.now (Unlisting c.args.app.now c.args.cells.now z c.args.list.value.listing.key (λ n. refl) s c.args.left p k cs) (λ n. unlisted_code (z n) s k (ds n)) (λ n. seen_code n c.in_ok-without_items-in-Ok.field-0.value) c.args.vm.now c.renew_else.new.vm (λ n. sym (mid n))
     (unlisted_stays c.args.app.now c.args.cells.now z c.args.list.value.listing.key (λ n. refl) s c.args.left p k cs c.args.vm.now c.read_unlisted.new.vm c.renew_else.new.vm ds c.in_ok-read.ensures.step
     (λ n u. sym (ap seen_left none) ∙ c.in_ok-read.ensures.entries n u)
-    (subst (λ (x : Unlisted). Renews c.args.app.now c.args.cells.now (λ n run. renew_codes_as by_number run c.args.left (otherwise ∷ p) 0 (seen_codes n x.body)) c.read_unlisted.new.vm ds c.renew_else.new.vm) d c.in-Ok.ensures.ok))
+    (subst (λ (x : Unlisted). Renews c.args.app.now c.args.cells.now (λ n run. along_codes_as by_number run c.args.left (otherwise ∷ p) 0 (seen_codes n x.body)) c.read_unlisted.new.vm ds c.renew_else.new.vm) d c.in-Ok.ensures.ok))
 
 pub lists::renew_unlisted-returns-in-Err-clause-fails : goal.lists::renew_unlisted-returns-in-Err-clause-fails
 lists::renew_unlisted-returns-in-Err-clause-fails t c =
@@ -563,7 +723,7 @@ lists::renew_unlisted-returns-in-Err-clause-fails t c =
     subst (RenewFails {A = PlainCode} c.args.app.now c.args.cells.now (Unlisting c.args.app.now c.args.cells.now z c.args.list.value.listing.key (λ n. refl) s c.args.left p k cs) c.args.vm.now) (sym c.lost_list.ensures)
     (unlisted_stays_fails c.args.app.now c.args.cells.now z c.args.list.value.listing.key (λ n. refl) s c.args.left p k cs c.args.vm.now c.read_unlisted.new.vm c.in-Err.fault c.in_ok-read.ensures.step
     (λ n u. sym (ap seen_left none) ∙ c.in_ok-read.ensures.entries n u)
-    (subst (λ (x : Unlisted). RenewFails {A = PlainCodes} c.args.app.now c.args.cells.now (λ n run. renew_codes_as by_number run c.args.left (otherwise ∷ p) 0 (seen_codes n x.body)) c.read_unlisted.new.vm c.in-Err.fault) d c.in-Err.ensures.fails))
+    (subst (λ (x : Unlisted). RenewFails {A = PlainCodes} c.args.app.now c.args.cells.now (λ n run. along_codes_as by_number run c.args.left (otherwise ∷ p) 0 (seen_codes n x.body)) c.read_unlisted.new.vm c.in-Err.fault) d c.in-Err.ensures.fails))
 
 pub lists::renew_unlisted-returns-else-is_empty-clause-ok : goal.lists::renew_unlisted-returns-else-is_empty-clause-ok
 lists::renew_unlisted-returns-else-is_empty-clause-ok t c =
@@ -615,8 +775,8 @@ syncing::kept_item-returns-in_ok-settled-in-Ok-clause-ok t c =
     subst (λ (w : ItemCode). Renews c.args.app.now c.args.cells.now (KeptItem c.args.left q (seen_entry e) (λ n. seen_item_code n w)) c.args.vm.now (λ n. seen_item_code n r) c.settled.new.vm) is
     (kept_renews c.args.app.now c.args.cells.now c.args.left q e x.spot x.comment x.body (λ n. seen_item_code n x) c.args.vm.now c.begin_item.new.vm
     (λ n. item_is n x) given c.renew_codes.new.codes (λ n. seen_item_code n r) c.settled.new.vm new
-    (renews_on c.args.app.now c.args.cells.now (λ n run. renew_codes_as by_number run c.args.left q 0 (seen_codes n x.body)) (λ n. seen_codes n c.renew_codes.new.codes) c.begin_item.new.vm c.renew_codes.new.vm c.settled.new.vm
-    (subst (λ w. Renews c.args.app.now c.args.cells.now (λ n run. renew_codes_as by_number run c.args.left w 0 (seen_codes n x.body)) c.begin_item.new.vm (λ n. seen_codes n c.renew_codes.new.codes) c.renew_codes.new.vm) c.in_ok-kept.ensures.view c.in-Ok.ensures.ok)
+    (renews_on c.args.app.now c.args.cells.now (λ n run. along_codes_as by_number run c.args.left q 0 (seen_codes n x.body)) (λ n. seen_codes n c.renew_codes.new.codes) c.begin_item.new.vm c.renew_codes.new.vm c.settled.new.vm
+    (subst (λ w. Renews c.args.app.now c.args.cells.now (λ n run. along_codes_as by_number run c.args.left w 0 (seen_codes n x.body)) c.begin_item.new.vm (λ n. seen_codes n c.renew_codes.new.codes) c.renew_codes.new.vm) c.in_ok-kept.ensures.view c.in-Ok.ensures.ok)
     c.in_ok-settled-in-Ok.ensures.step))
 
 pub syncing::kept_item-returns-in-Err-clause-fails : goal.syncing::kept_item-returns-in-Err-clause-fails
@@ -631,7 +791,7 @@ syncing::kept_item-returns-in-Err-clause-fails t c =
     (subst (λ (w : ItemCode). RenewFails {A = Item} c.args.app.now c.args.cells.now (KeptItem c.args.left q (seen_entry e) (λ n. seen_item_code n w)) c.args.vm.now c.in-Err.fault) is
     (kept_fails c.args.app.now c.args.cells.now c.args.left q e x.spot x.comment x.body (λ n. seen_item_code n x) c.args.vm.now c.begin_item.new.vm
     (λ n. item_is n x) given c.in-Err.fault
-    (subst (λ w. RenewFails {A = p.Codes} c.args.app.now c.args.cells.now (λ n run. renew_codes_as by_number run c.args.left w 0 (seen_codes n x.body)) c.begin_item.new.vm c.in-Err.fault) c.in_ok-kept.ensures.view c.in-Err.ensures.fails)))
+    (subst (λ w. RenewFails {A = p.Codes} c.args.app.now c.args.cells.now (λ n run. along_codes_as by_number run c.args.left w 0 (seen_codes n x.body)) c.begin_item.new.vm c.in-Err.fault) c.in_ok-kept.ensures.view c.in-Err.ensures.fails)))
 
 pub syncing::kept_item-returns-in_ok-settled-in-Ok-clause-moved : goal.syncing::kept_item-returns-in_ok-settled-in-Ok-clause-moved
 syncing::kept_item-returns-in_ok-settled-in-Ok-clause-moved t c =

@@ -9,6 +9,8 @@ use Rattle.gl_update.proofs.SyncItems.{All, Left}
 use Rattle.gl_update.proofs.MovedCodes.{Walked}
 use Rattle.gl_update.proofs.SyncCounts.{Syncing}
 use Rattle.gl_update.proofs.Walking.{Walks}
+use Rattle.gl_update.proofs.AlongCounts.{Along}
+use Rattle.gl_update.proofs.AlongItems.{WalksItems}
 use Rattle.gl_update.proofs.+renewing.Given as goal
 
 -- The trail grows, and no list is longer than that; where it begins anew, one level of nesting less is left.
@@ -16,7 +18,7 @@ abbrev room : ℕ → ℕ → ℕ → ℕ
 room left steps rank = 16 * (left * (2 ^ 64 + 1) + (2 ^ 64 - steps)) + rank
 
 abbrev pub decreases-codes::renew_code : goal.decreases-codes::renew_code
-decreases-codes::renew_code l = room l.left (length l.trail.now.path.steps) 8
+decreases-codes::renew_code l = room l.left (length l.trail.now.path.steps) 10
 
 abbrev pub decreases-codes::renew_component : goal.decreases-codes::renew_component
 decreases-codes::renew_component l = 16 * (l.left * (2 ^ 64 + 1)) + 7
@@ -43,10 +45,22 @@ abbrev pub decreases-branches::renew_branch : goal.decreases-branches::renew_bra
 decreases-branches::renew_branch l = room l.left (length l.trail.now.path.steps) 2
 
 abbrev pub decreases-lists::renew_list : goal.decreases-lists::renew_list
-decreases-lists::renew_list l = room l.left (length l.trail.now.path.steps) 7
+decreases-lists::renew_list l = room l.left (length l.trail.now.path.steps) 9
 
 abbrev pub decreases-lists::renew_listed : goal.decreases-lists::renew_listed
-decreases-lists::renew_listed l = room l.left (length l.trail.now.path.steps) 6
+decreases-lists::renew_listed l = room l.left (length l.trail.now.path.steps) 8
+
+abbrev pub decreases-lists::relist : goal.decreases-lists::relist
+decreases-lists::relist l = room l.left (length l.trail.now.path.steps) 7
+
+abbrev pub decreases-along::walk_list : goal.decreases-along::walk_list
+decreases-along::walk_list l = room l.left (length l.trail.now.path.steps) 5
+
+abbrev pub decreases-along::walk_items : goal.decreases-along::walk_items
+decreases-along::walk_items l = room l.left (length l.trail.now.path.steps) 4
+
+abbrev pub decreases-along::walk_item : goal.decreases-along::walk_item
+decreases-along::walk_item l = room l.left (length l.trail.now.path.steps) 3
 
 abbrev pub decreases-lists::renew_unlisted : goal.decreases-lists::renew_unlisted
 decreases-lists::renew_unlisted l = room l.left (length l.trail.now.path.steps) 6
@@ -71,6 +85,15 @@ invariant-codes::renew_codes-loop-place l = record {
   calm : Calm l.vm;
   walks : Walks l.app l.cells l.left (trail_view l.fn.trail) l.fn.codes l.fn.vm l.code-items l.place l.vm;
   moved : Walked l.fn.moved l.moved l.fn.codes.list.items l.code-items l.place;
+}
+
+abbrev pub invariant-along::walk_items-loop-item : goal.invariant-along::walk_items-loop-item
+invariant-along::walk_items-loop-item l = record {
+  unvisited : goal.unvisited-along::walk_items-loop-item l;
+  trail : l.trail ≡ l.fn.trail;
+  calm : Calm l.vm;
+  walks : WalksItems l.app l.cells l.left (trail_view l.fn.trail) l.fn.items.items l.fn.vm l.item-items l.item-index l.vm;
+  moved : Along l.fn.moved l.moved l.fn.items.items l.item-items l.item-index;
 }
 
 abbrev pub invariant-syncing::sync_items-loop-done : goal.invariant-syncing::sync_items-loop-done

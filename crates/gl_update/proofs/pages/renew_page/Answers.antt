@@ -2,7 +2,7 @@ use Rattle.std.proofs.Common.{rules, [], None, ◌≡◌, ◌-◌, suc, reverse,
 use Rattle.gl_meaning.specs.declared.manifest.Manifest.{Manifest}
 use Rattle.gl_plain.specs.Naming.{by_number}
 use Rattle.gl_machine.specs.Code.{Code as PlainCode, Codes as PlainCodes}
-use Rattle.gl_machine.specs.RenewCode.{renew_codes_as}
+use Rattle.gl_guards.specs.Along.{along_codes_as}
 use Rattle.gl_append.specs.CodeView.{seen_code, seen_codes, component_seen}
 use Rattle.gl_append.specs.declared.code.Code.{the_lemmas}
 use Rattle.gl_append.specs.declared.code.Codes.{Codes}
@@ -24,7 +24,7 @@ returns-in-Ok-clause-ok c =
     let new = c.renew_codes.new.vm in
     page_renews a c.args.cells.now a.manifest.limit m (ap (λ (x : Manifest). x.limit) (sym c.manifest.ensures) ∙ one) c.in-Root.owner.value c.args.page.now.code _ c.in-Root.body c.renew_codes.new.codes (trail_view c.of-trail.result) old new (c.of-trail.ensures ∙ ap reverse c.new.ensures)
     (λ n. ap (seen_code n) c.in-Root.is ∙ root_is n c.in-Root.owner c.in-Root.body) (λ n. search (rules, the_lemmas))
-    (subst (λ (b : Codes). Renews a c.args.cells.now (λ n run. renew_codes_as by_number run m (trail_view c.of-trail.result) 0 (seen_codes n b)) old (λ n. seen_codes n c.renew_codes.new.codes) new) c.in-Root.body-is c.in-Ok.ensures.ok)
+    (subst (λ (b : Codes). Renews a c.args.cells.now (λ n run. along_codes_as by_number run m (trail_view c.of-trail.result) 0 (seen_codes n b)) old (λ n. seen_codes n c.renew_codes.new.codes) new) c.in-Root.body-is c.in-Ok.ensures.ok)
 
 pub returns-in-Ok-clause-moved : goal.returns-in-Ok-clause-moved
 returns-in-Ok-clause-moved c =
@@ -44,4 +44,4 @@ returns-in-Root-clause-fails c =
     let old = c.args.page.now.vm in
     page_fails a c.args.cells.now a.manifest.limit m (ap (λ (x : Manifest). x.limit) (sym c.manifest.ensures) ∙ one) c.in-Root.owner.value c.args.page.now.code c.in-Root.body (trail_view c.of-trail.result) old c.in-Err.fault (c.of-trail.ensures ∙ ap reverse c.new.ensures)
     (λ n. ap (seen_code n) c.in-Root.is ∙ root_is n c.in-Root.owner c.in-Root.body)
-    (subst (λ (b : Codes). RenewFails {A = PlainCodes} a c.args.cells.now (λ n run. renew_codes_as by_number run m (trail_view c.of-trail.result) 0 (seen_codes n b)) old c.in-Err.fault) c.in-Root.body-is c.in-Err.ensures.fails)
+    (subst (λ (b : Codes). RenewFails {A = PlainCodes} a c.args.cells.now (λ n run. along_codes_as by_number run m (trail_view c.of-trail.result) 0 (seen_codes n b)) old c.in-Err.fault) c.in-Root.body-is c.in-Err.ensures.fails)

@@ -1,0 +1,184 @@
+// The items of a list that wasn't touched are walked along in order, each in its place.
+ghost use Rattle.std.specs.Prelude.{◌≡◌, ◌∷◌, ◌++◌, ◌<◌, ◌^◌, [], length, map, false, IfOk, OnOk, IfErr};
+ghost use Rattle.gl_value.specs.Value.{plain};
+ghost use Rattle.gl_value.specs.View.{view};
+ghost use Rattle.gl_meaning.specs.Laws.{NoRepeat};
+ghost use Rattle.gl_meaning.specs.Path.{item};
+ghost use Rattle.gl_machine.specs.Code as c;
+ghost use Rattle.gl_machine.specs.Code.{Code as PlainCode, ItemCodes};
+ghost use Rattle.gl_vm.specs.View.{Calm};
+ghost use Rattle.gl_append.specs.CodeView.{seen_code, seen_listing, seen_spot, seen_item_code, all_items};
+ghost use Rattle.gl_update.specs.View.{trail_view};
+ghost use Rattle.gl_update.specs.Counted.{CodeMoved, ItemsAlong, KeptMoved};
+ghost use Rattle.gl_update.specs.ListItems.{Item, AlongItem, AlongItems, GoesAlong, spot_key};
+ghost use Rattle.gl_update.specs.OldItems.{code_key};
+ghost use Rattle.gl_update.specs.Renewing.{Renews, RenewFails};
+
+use crate::codes::renew_codes;
+use crate::counting::Moved;
+use crate::old_items::keys_of_items;
+use crate::taken::{Listed, boxed_code};
+use crate::trail::Trail;
+use gl_append::{Cells, Code, ItemCode, ItemSpot, VmFault};
+use gl_meaning::PathStep;
+use gl_nodes::NodeId;
+use gl_opc::App;
+use gl_vm::Vm;
+use std::alloc::{AllocError, Global};
+
+// The trail goes to an item.
+#[inline(never)]
+fn enter_item(trail: &mut Trail<'_>, spot: &ItemSpot) -> Result<(), AllocError>
+    ensures base { OnOk result (trail.new.base ≡ trail.old.base) }
+    ensures steps { OnOk result (trail.new.path.steps ≡ trail.old.path.steps ++ item (plain (view spot.now.key)) spot.now.occurrence ∷ []) }
+    ensures view { OnOk result (trail_view trail.new ≡ item (plain (view spot.now.key)) spot.now.occurrence ∷ trail_view trail.old) }
+    ensures room { OnOk result (length trail.old.path.steps < 2 ^ 64) }
+{
+    trail.push(PathStep::Item {
+        key: spot.key.copy()?,
+        occurrence: spot.occurrence,
+    })
+}
+
+// An item. The trail is that of the items of the list.
+#[cycle(renewing)]
+#[inline(never)]
+fn walk_item(
+    vm: &mut Vm,
+    alloc: Global,
+    app: &App,
+    cells: &Cells,
+    trail: &mut Trail<'_>,
+    left: u32,
+    item: &mut ItemCode,
+    parent: &Option<NodeId>,
+    moved: &mut Moved,
+) -> Result<(), VmFault>
+    requires calm { Calm vm.old }
+    ensures ok { OnOk result (Renews app.now cells.now (AlongItem left (trail_view trail.old) (λ n. seen_item_code n item.old)) vm.old (λ n. seen_item_code n item.new) vm.new) }
+    ensures fails { IfErr result (RenewFails {A = Item} app.now cells.now (AlongItem left (trail_view trail.old) (λ n. seen_item_code n item.old)) vm.old) }
+    ensures moved { OnOk result (KeptMoved moved.old moved.new false (λ n. seen_item_code n item.old) (λ n. seen_item_code n item.new)) }
+    ensures key { OnOk result ((n : _) → spot_key (seen_item_code n item.new) ≡ spot_key (seen_item_code n item.old)) }
+    ensures trail { OnOk result (trail.new ≡ trail.old) }
+    ensures calm { Calm vm.new }
+{
+    enter_item(trail, &item.spot)?;
+    match renew_codes(
+        vm,
+        alloc,
+        app,
+        cells,
+        trail,
+        left,
+        &mut item.body,
+        parent,
+        moved,
+    ) {
+        Ok(()) => {
+            trail.pop(alloc);
+            Ok(())
+        }
+        Err(fault) => Err(fault),
+    }
+}
+
+// The items, one after another. The trail is theirs.
+#[cycle(renewing)]
+#[inline(never)]
+fn walk_items(
+    vm: &mut Vm,
+    alloc: Global,
+    app: &App,
+    cells: &Cells,
+    trail: &mut Trail<'_>,
+    left: u32,
+    items: &mut Vec<ItemCode>,
+    parent: &Option<NodeId>,
+    moved: &mut Moved,
+) -> Result<(), VmFault>
+    requires calm { Calm vm.old }
+    ensures ok { OnOk result (Renews app.now cells.now (AlongItems left (trail_view trail.old) (λ n. map (seen_item_code n) items.old.items)) vm.old (λ n. all_items (map (seen_item_code n) items.new.items)) vm.new) }
+    ensures fails { IfErr result (RenewFails {A = ItemCodes} app.now cells.now (AlongItems left (trail_view trail.old) (λ n. map (seen_item_code n) items.old.items)) vm.old) }
+    ensures moved { OnOk result (ItemsAlong moved.old moved.new items.old.items items.new.items) }
+    ensures trail { OnOk result (trail.new ≡ trail.old) }
+    ensures calm { Calm vm.new }
+{
+    for item in items.iter_mut() {
+        match walk_item(vm, alloc, app, cells, trail, left, item, parent, moved) {
+            Ok(()) => {}
+            Err(fault) => return Err(fault),
+        }
+    }
+    Ok(())
+}
+
+// A list of which no key stands twice. Of another one, as there is none, it answers as for want of memory.
+#[inline(never)]
+fn keyed_once(alloc: Global, list: Box<Listed>) -> Result<Box<Listed>, AllocError>
+    ensures list { IfOk result (λ b. b ≡ list) }
+    ensures once { OnOk result (NoRepeat (map code_key list.value.items.items)) }
+{
+    let keys = keys_of_items(alloc, list.items.as_slice())?;
+    drop(keys);
+    Ok(list)
+}
+
+// The list with its items.
+#[inline(never)]
+fn with_items(alloc: Global, list: Box<Listed>) -> Result<Box<Code>, AllocError>
+    ensures { IfOk result (λ r. (n : _) → seen_code n r.value ≡ c.listed_code (seen_listing n list.value.listing) (seen_spot list.value.spot) (all_items (map (seen_item_code n) list.value.items.items))) }
+{
+    let list = Box::into_inner(list);
+    boxed_code(alloc, Code::listed(list.listing, list.spot, list.items))
+}
+
+// A list is lost, where its items could not be updated. It is dropped here, so that the walk takes less stack.
+#[inline(never)]
+fn lost_items(list: Box<Listed>, fault: VmFault) -> VmFault
+    ensures { result ≡ fault }
+{
+    drop(list);
+    fault
+}
+
+/// The items of a list are walked along.
+#[cycle(renewing)]
+#[inline(never)]
+pub(crate) fn walk_list(
+    vm: &mut Vm,
+    alloc: Global,
+    app: &App,
+    cells: &Cells,
+    trail: &mut Trail<'_>,
+    left: u32,
+    list: Box<Listed>,
+    parent: &Option<NodeId>,
+    moved: &mut Moved,
+) -> Result<Box<Code>, VmFault>
+    requires calm { Calm vm.old }
+    ensures ok { IfOk result (λ r. Renews app.now cells.now (GoesAlong (λ n. seen_listing n list.value.listing) (seen_spot list.value.spot) left (trail_view trail.old) (λ n. map (seen_item_code n) list.value.items.items)) vm.old (λ n. seen_code n r.value) vm.new) }
+    ensures fails { IfErr result (RenewFails {A = PlainCode} app.now cells.now (GoesAlong (λ n. seen_listing n list.value.listing) (seen_spot list.value.spot) left (trail_view trail.old) (λ n. map (seen_item_code n) list.value.items.items)) vm.old) }
+    ensures moved { IfOk result (λ r. CodeMoved moved.old moved.new (λ n. c.listed_code (seen_listing n list.value.listing) (seen_spot list.value.spot) (all_items (map (seen_item_code n) list.value.items.items))) (λ n. seen_code n r.value)) }
+    ensures trail { OnOk result (trail.new ≡ trail.old) }
+    ensures calm { Calm vm.new }
+{
+    let mut once = keyed_once(alloc, list)?;
+    trail.push(PathStep::Items)?;
+    match walk_items(
+        vm,
+        alloc,
+        app,
+        cells,
+        trail,
+        left,
+        &mut once.items,
+        parent,
+        moved,
+    ) {
+        Ok(()) => {
+            trail.pop(alloc);
+            Ok(with_items(alloc, once)?)
+        }
+        Err(fault) => Err(lost_items(once, fault)),
+    }
+}
