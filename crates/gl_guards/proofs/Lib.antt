@@ -13,3 +13,5 @@ pub mod Outcomes
 pub mod Asks
 pub mod Rising
 pub mod TurnAsks
+pub mod Itself
+pub mod Once

@@ -1,6 +1,6 @@
 -- In each turn of a session an update by numbers may pass over what is fresh.
 use Rattle.std.proofs.Common.{◌≡◌, ℕ, zero, suc, max, List, [], Bool, true, false, true≢false, Some, None, refl, sym, ◌∙◌, ap, ap₂, subst, arith}
-use Rattle.std.specs.Prelude.{if◌then◌else◌, not}
+use Rattle.std.specs.Prelude.{if◌then◌else◌, not, length, ◌||◌, nat_lt}
 use Rattle.gl_meaning.specs.App.{App}
 use Rattle.gl_meaning.specs.Scope.{scope, nothing_passed}
 use Rattle.gl_meaning.specs.Eval.{Store, class_at}
@@ -44,7 +44,7 @@ use Rattle.gl_follows.proofs.Plain.{sets_plain}
 use Rattle.gl_follows.proofs.Setting.{sets_by}
 use Rattle.gl_follows.proofs.Turning.{next_paths}
 use Rattle.gl_guards.specs.Guarded.{any_stale, entered_root_code_as}
-use Rattle.gl_guards.specs.Along.{always}
+use Rattle.gl_guards.specs.Along.{few, enters_few}
 use Rattle.gl_guards.specs.Settled.{PassesFresh, MayPass, AtRoot}
 use Rattle.gl_guards.specs.Laws.{TurnMayPass, TurnIsRenew, PutsAreEntered, PutsAreRenew, PutsGoAlong}
 use Rattle.gl_guards.proofs.Told.{Seen, seen_named}
@@ -145,9 +145,13 @@ pub puts_are_renew : PutsAreRenew
 puts_are_renew env lowered differ s e reached k st placed follows xs own same n =
     puts_are_entered any_stale fresh_alone any_stale fresh_alone true env lowered differ s e reached k st placed follows xs own same n
 
-always_enters : PassesFresh always
-always_enters st rs e = absurd (true≢false e)
+-- a question that enters more regions passes over fresh ones alone
+few_enters : PassesFresh enters_few
+few_enters st rs e = by (nat_lt few (length rs)) e where
+  by : (b : Bool) → (b || any_stale st rs) ≡ false → any_stale st rs ≡ false
+  by true e = absurd (true≢false e)
+  by false e = e
 
 pub puts_go_along : PutsGoAlong
 puts_go_along env lowered differ s e reached k st placed follows xs own same n =
-    puts_are_entered always always_enters always always_enters false env lowered differ s e reached k st placed follows xs own same n
+    puts_are_entered enters_few few_enters enters_few few_enters false env lowered differ s e reached k st placed follows xs own same n

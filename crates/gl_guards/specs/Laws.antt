@@ -1,6 +1,6 @@
 -- The laws of an update that passes over what is fresh.
 use Rattle.std.specs.Prelude.{◌≡◌, ◌≤◌, ℕ, List, [], ◌∷◌, map, Bool, false, Some}
-use Rattle.gl_meaning.specs.App.{Event}
+use Rattle.gl_meaning.specs.App.{App, Event}
 use Rattle.gl_meaning.specs.Laws.{Reached}
 use Rattle.gl_meaning.specs.Session as session
 use Rattle.gl_meaning.specs.Session.{Turn, applied, step}
@@ -8,6 +8,7 @@ use Rattle.gl_meaning.specs.Path.{items, Path}
 use Rattle.gl_meaning.specs.Render.{Entry}
 use Rattle.gl_plain.specs.Ids.{Id}
 use Rattle.gl_plain.specs.State.{State}
+use Rattle.gl_plain.specs.Live.{Live}
 use Rattle.gl_plain.specs.Naming.{Naming, by_path, by_number}
 use Rattle.gl_plain.specs.Binding.{Spot}
 use Rattle.gl_plain.specs.Counts.{positions_of, positions_in, positions_items}
@@ -23,6 +24,7 @@ use Rattle.gl_plain.specs.Turns.{begin}
 use Rattle.gl_naming.specs.Exist.{FieldsDiffer}
 use Rattle.gl_follows.specs.Sets.{set_all_by, AreThere, Put, put_all, held_of, AreOwn}
 use Rattle.gl_follows.specs.Turns.{FollowsBy}
+use Rattle.gl_guards.specs.Once.{KeysOnce}
 use Rattle.gl_guards.specs.Guarded.{any_stale, entered_code_as, entered_root_code_as, guarded_code_as, guarded_codes_as, guarded_items_as, renew_items_as, guarded_root_code_as}
 use Rattle.gl_guards.specs.Along.{along_root_code_as}
 use Rattle.gl_guards.specs.Questions.{root_asks_as}
@@ -133,7 +135,7 @@ PutsAreEntered =
     → (n : ℕ) → let now = put_all xs (begin st) in
     entered_root_code_as by_number first enters once env.app.limit (run_for_as by_number env [] n) k now ≡ renew_root_code_as by_number env.app.limit (run_for_as by_number env [] n) k now
 
--- So is one that goes along the items of each list whose position isn't stale.
+-- So is one that goes along the items of each list whose position isn't stale, and asks small regions alone.
 abbrev pub PutsGoAlong : Type 0
 PutsGoAlong =
     (env : Env) → AllLowered env → FieldsDiffer env.app → (s : session.State) (e : Event) → Reached env.app s → (k : Code) (st : State) → PlacedRoot env k → (f : FollowsBy env.app s st (live_of k))
@@ -164,3 +166,7 @@ PutsAsk =
     → (xs : List Put) → AreOwn env.app f.named.owner (live_of k) xs → (applied env.app s (Some e)).sets ≡ map (held_of f.named.owner) xs
     → (n : ℕ) (x : Code × State) → let now = put_all xs (begin st) in let run = run_for_as by_number env [] n in
     guarded_root_code_as by_number env.app.limit run k now ≡ ok x → root_asks_as by_number env.app.limit run k now ≤ t.asked
+
+-- In a tree that follows a state of a session no key of a list stands twice.
+abbrev pub KeysAreOnce : Type 0
+KeysAreOnce = (app : App) (s : session.State) (st : State) (l : Live) → FollowsBy app s st l → KeysOnce l

@@ -1,5 +1,6 @@
 pub mod Guarded
 pub mod Along
+pub mod Once
 pub mod Questions
 pub mod Settled
 pub mod Laws

@@ -1,6 +1,6 @@
 //! The laws of an update that passes over what is fresh. Each function does nothing: its contract is the law.
 
-ghost use Rattle.gl_guards.specs.Laws.{NamingsApart, FreshStays, FreshStaysIn, FreshStaysItems, FreshStaysRoot, ListGoesAlong, GuardedIsRenew, GuardedIsRenewIn, GuardedIsRenewItems, GuardedIsRenewRoot, EnteredIsRenew, EnteredIsRenewRoot, TurnMayPass, TurnIsRenew, PutsAreRenew, PutsAreEntered, PutsGoAlong, FreshAsksOne, TurnAsks, PutsAsk};
+ghost use Rattle.gl_guards.specs.Laws.{NamingsApart, FreshStays, FreshStaysIn, FreshStaysItems, FreshStaysRoot, ListGoesAlong, GuardedIsRenew, GuardedIsRenewIn, GuardedIsRenewItems, GuardedIsRenewRoot, EnteredIsRenew, EnteredIsRenewRoot, TurnMayPass, TurnIsRenew, PutsAreRenew, PutsAreEntered, PutsGoAlong, KeysAreOnce, FreshAsksOne, TurnAsks, PutsAsk};
 
 /// What is noted of what comes and goes leaves all things.
 pub fn notes()
@@ -41,6 +41,11 @@ pub fn turns()
     ensures puts { PutsAreRenew }
     ensures entered { PutsAreEntered }
     ensures along { PutsGoAlong }
+{}
+
+/// In the updating program of a page no key of a list stands twice.
+pub fn lists_once()
+    ensures { KeysAreOnce }
 {}
 
 /// Where no position of a page is stale, one question is asked; and in each turn of a session at most as many as the turn says.

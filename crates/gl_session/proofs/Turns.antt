@@ -21,6 +21,8 @@ use Rattle.gl_naming.specs.Exist.{FieldsDiffer}
 use Rattle.gl_naming.proofs.Rules.{entries_differ}
 use Rattle.gl_machine.specs.Code.{Code as PlainCode, live_of}
 use Rattle.gl_guards.specs.Along.{along_root_code_as}
+use Rattle.gl_guards.specs.Once.{KeysOnce}
+use Rattle.gl_guards.proofs.Once.{keys_are_once}
 use Rattle.gl_machine.specs.Shape.{nest}
 use Rattle.gl_vm.specs.View.{Tables, state_of}
 use Rattle.gl_vm.specs.Steps.{Follows, Does}
@@ -91,7 +93,7 @@ module _ (a : App) (templates : List Body) (rises : NamesRise (manifest_view a.m
       → (before : List Ending) → Lists page before → (d : Text) → Logs a before page' d
       → (state : State) (turn : ℕ) (missing : List ℕ) (made : Turn) → turn ≡ s.turn → missing ≡ (applied (env_of a templates).app s (Some e)).missing
       → made.text ≡ written a templates page' s (Some e) d state (head_line turn (Some e)) (missing_lines missing)
-      → (count : ℕ) → ((n : Tables) → count ≡ moved_between (live_of (seen_code n page.code)) (live_of (seen_code n page'.code)))
+      → (count : ℕ) → ((n : Tables) → KeysOnce (live_of (seen_code n page.code)) → count ≡ moved_between (live_of (seen_code n page.code)) (live_of (seen_code n page'.code)))
       → Did page' page.vm.tree.nodes.made count made.work → Goes a templates s (Some e) (record page' { vm = committed page'.vm }) made
   next_goes page' h nested flat sound before old d logs state turn missing made t q w count moves did' =
       let r = renewed a templates rises lowered (fields_differ a templates rises) page s x e sets givens same owned found mid begun page' h in
@@ -99,10 +101,11 @@ module _ (a : App) (templates : List Body) (rises : NamesRise (manifest_view a.m
       let told : d ≡ ended_lines (env_of a templates).app (state_of (tables_of (manifest_view a.manifest)) page.vm x.touched) (live_of (seen_code (tables_of (manifest_view a.manifest)) page.code)) l' =
       logs page old templates x.touched r.0.touched (r.3 ∙ ap (destroyed_lines (env_of a templates).app (state_of (tables_of (manifest_view a.manifest)) page.vm x.touched) (live_of (seen_code (tables_of (manifest_view a.manifest)) page.code))) (sym r.1.state)) in
       let first : page.vm.tree.nodes.made ≡ s.numbers.next = ap (λ (ns : Numbers). ns.next) x.follows.numbers in
+      let once = keys_are_once (env_of a templates).app s (state_of (tables_of (manifest_view a.manifest)) page.vm x.touched) (live_of (seen_code (tables_of (manifest_view a.manifest)) page.code)) x.follows in
       goes a templates page' s (Some e) (ended_lines (env_of a templates).app (state_of (tables_of (manifest_view a.manifest)) page.vm x.touched) (live_of (seen_code (tables_of (manifest_view a.manifest)) page.code)) l')
       r.0 (moved_between (live_of (seen_code (tables_of (manifest_view a.manifest)) page.code)) l') r.2 r.1 (nested (tables_of (manifest_view a.manifest))) flat sound (stepped e x.reached r.2.is) (head_line turn (Some e)) (missing_lines missing) made
       (ap (λ k. head_line k (Some e)) t) (ap missing_lines q) (w ∙ ap (λ z. written a templates page' s (Some e) z r.0 (head_line turn (Some e)) (missing_lines missing)) told)
-      (record { evaluated = did'.evaluated; made = did'.made ∙ ap (λ k. page'.vm.tree.nodes.made - k) first; moved = did'.moved ∙ moves (tables_of (manifest_view a.manifest)) })
+      (record { evaluated = did'.evaluated; made = did'.made ∙ ap (λ k. page'.vm.tree.nodes.made - k) first; moved = did'.moved ∙ moves (tables_of (manifest_view a.manifest)) once })
 
   pub next_is_deep : RenewsDeep {A = PlainCode} a [] (λ n run. along_root_code_as by_number a.manifest.limit run (seen_code n page.code)) mid → step (app_with a templates) s (Some e) ≡ None
   next_is_deep h = too_deep a templates rises lowered (fields_differ a templates rises) page s x e sets givens same owned found mid begun h

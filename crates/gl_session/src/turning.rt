@@ -10,6 +10,7 @@ ghost use Rattle.gl_opc.specs.IsApp.{IsAppWith};
 ghost use Rattle.gl_plain.specs.Naming.{by_number};
 ghost use Rattle.gl_machine.specs.Code.{Code as PlainCode, live_of};
 ghost use Rattle.gl_guards.specs.Along.{along_root_code_as};
+ghost use Rattle.gl_guards.specs.Once.{KeysOnce};
 ghost use Rattle.gl_machine.specs.Shape.{nest};
 ghost use Rattle.gl_kept.specs.Between.{moved_between};
 ghost use Rattle.gl_vm.specs.View.{Calm};
@@ -77,13 +78,14 @@ fn first_made(alloc: Global, app: &App, page: Page) -> Result<(Page, Turn), Allo
     Ok((page, Turn { text, work }))
 }
 
-/// A page that is updated, and whose nodes stand in the tree as they were rendered then. It answers how many items were moved.
+/// A page that is updated, and whose nodes stand in the tree as they were rendered then. It answers how many items were moved, where no key of
+/// a list stood twice.
 fn renew(alloc: Global, app: &App, page: &mut Page) -> Result<u128, VmFault>
     requires calm { Calm page.old.vm }
     ensures ok { OnOk result (Renews app.now [] (λ n run. along_root_code_as by_number app.now.manifest.limit run (seen_code n page.old.code)) page.old.vm (λ n. seen_code n page.new.code) page.new.vm) }
     ensures nodes { OnOk result ((n : _) → nest_of page.new.vm.tree.forest ≡ nest (live_of (seen_code n page.new.code))) }
     ensures fails { IfErr result (RenewFails {A = PlainCode} app.now [] (λ n run. along_root_code_as by_number app.now.manifest.limit run (seen_code n page.old.code)) page.old.vm) }
-    ensures moved { IfOk result (λ m. (n : _) → m ≡ moved_between (live_of (seen_code n page.old.code)) (live_of (seen_code n page.new.code))) }
+    ensures moved { IfOk result (λ m. (n : _) → KeysOnce (live_of (seen_code n page.old.code)) → m ≡ moved_between (live_of (seen_code n page.old.code)) (live_of (seen_code n page.new.code))) }
     ensures calm { Calm page.new.vm }
 {
     let cells = Cells::new(alloc);

@@ -1,6 +1,5 @@
 -- What was moved of the items of a list that are walked along, each in its place.
-use Rattle.std.proofs.Common.{◌≡◌, ◌≢◌, ◌≤◌, ◌<◌, ℕ, zero, suc, ◌+◌, Bool, true, false, ◌||◌, List, [], ◌∷◌, ◌++◌, map, take, set, length, get_or, Some, None, slice_get, refl, sym, ◌∙◌, ap, ap₂, subst, arith, inl, inr, ltb-true}
-use Rattle.std.specs.Prelude.{nat_lt}
+use Rattle.std.proofs.Common.{◌≡◌, ◌≢◌, ◌≤◌, ◌<◌, ℕ, zero, suc, ◌+◌, true, false, List, [], ◌∷◌, ◌++◌, map, take, set, length, get_or, Some, None, slice_get, refl, sym, ◌∙◌, ap, ap₂, subst, arith, inl, inr}
 use Rattle.std.proofs.lemmas.List.{map-append, length-map, length-take-le, take_all, take_more, take_more_set}
 use Rattle.gl_meaning.specs.Known.{Among}
 use Rattle.gl_meaning.specs.Laws.{NoRepeat}
@@ -8,71 +7,17 @@ use Rattle.gl_plain.specs.Binding.{Spot}
 use Rattle.gl_machine.specs.Code.{Listing, Code as PlainCode, listed_code, live_of, lives_of, items_of}
 use Rattle.gl_each.specs.Key.{Key}
 use Rattle.gl_each.specs.SameKeys.{same_key-Decides}
-use Rattle.gl_each.specs.Sync.{Step, retain, is_passed, AreSteps}
-use Rattle.gl_each.specs.Moved.{moves}
 use Rattle.gl_kept.specs.Between.{moves_between, lives_with, kept_with, moved_between, moved_items, moved_bodies}
 use Rattle.gl_kept.specs.Listed.{spot_keys}
-use Rattle.gl_kept.proofs.Between.{moves_are_planned}
+use Rattle.gl_guards.specs.Once.{KeysOnceItems, KeysOnceIn}
+use Rattle.gl_guards.proofs.Itself.{none_passed, none_moved}
 use Rattle.gl_vm.specs.View.{Tables}
 use Rattle.gl_append.specs.CodeView.{seen_item_code, all_items}
 use Rattle.gl_append.specs.declared.code.ItemCode.{ItemCode}
 use Rattle.gl_update.specs.Counted.{CodeMoved, KeptMoved, ItemsAlong, along_moved}
 use Rattle.gl_update.specs.ListItems.{Item, spot_key}
-use Rattle.gl_update.specs.OldItems.{code_key}
 use Rattle.gl_update.specs.declared.counting.Moved.{Moved}
 use Rattle.gl_update.proofs.Counts.{keys_are, first_or, apart_keys}
-use Rattle.gl_update.proofs.SyncCounts.{keys_seen}
-
--- Keys in their places
-
--- none of the places is behind this one, or one that comes after it
-abbrev Below : ℕ → List ℕ → Type 0
-Below i places = (j : ℕ) → i ≤ j → is_passed places j ≡ false
-
-not_below : (i j : ℕ) → i ≤ j → nat_lt j i ≡ false
-not_below i j le = by (nat_lt j i) refl where
-  by : (b : Bool) → nat_lt j i ≡ b → b ≡ false
-  by true e = let lt : j < i = ltb-true j i e in absurd (omega (arith, le, lt))
-  by false e = refl
-
-one_more_below : (places : List ℕ) (i j : ℕ) → i ≤ j → is_passed places j ≡ false → is_passed (places ++ i ∷ []) j ≡ false
-one_more_below [] i j le none = ap (λ b. b || false) (not_below i j le)
-one_more_below (k ∷ ks) i j le none = by (nat_lt j k) none (one_more_below ks i j le) where
-  by : (b : Bool) → (b || is_passed ks j) ≡ false → (is_passed ks j ≡ false → is_passed (ks ++ i ∷ []) j ≡ false) → (b || is_passed (ks ++ i ∷ []) j) ≡ false
-  by true e more = e
-  by false e more = more e
-
--- each key is kept, from a place on
-abbrev retains : ℕ → List Key → List Step
-retains i [] = []
-retains i (k ∷ ks) = retain i ∷ retains (suc i) ks
-
-none_moves : (i : ℕ) (ks : List Key) → moves (retains i ks) ≡ 0
-none_moves i [] = refl
-none_moves i (k ∷ ks) = none_moves (suc i) ks
-
--- the keys stand in the list from a place on
-abbrev StandsFrom : List Key → ℕ → List Key → Type 0
-StandsFrom old i [] = Unit {0}
-StandsFrom old i (k ∷ ks) = (slice_get old i ≡ Some k) × StandsFrom old (suc i) ks
-
-further : (x : Key) (old : List Key) (i : ℕ) (ks : List Key) → StandsFrom old i ks → StandsFrom (x ∷ old) (suc i) ks
-further x old i [] h = tt
-further x old i (k ∷ ks) h = (h.0, further x old (suc i) ks h.1)
-
-stands_in_itself : (ks : List Key) → StandsFrom ks 0 ks
-stands_in_itself [] = tt
-stands_in_itself (k ∷ ks) = (refl, further k ks 0 ks (stands_in_itself ks))
-
-are_retained : (old : List Key) (i : ℕ) (before : List ℕ) (ks : List Key) → StandsFrom old i ks → Below i before → AreSteps old before ks (retains i ks)
-are_retained old i before [] h below = tt
-are_retained old i before (k ∷ ks) h below =
-    ((h.0, below i (omega arith)), are_retained old (suc i) (before ++ i ∷ []) ks h.1 (λ j le. one_more_below before i j (omega (arith, le)) (below j (omega (arith, le)))))
-
--- no key moves
-none_passed : (ks : List Key) → NoRepeat ks → moves_between ks ks ≡ 0
-none_passed ks once =
-    sym (moves_are_planned ks ks [] (retains 0 ks) once (are_retained ks 0 [] ks (stands_in_itself ks) (λ j le. refl))) ∙ none_moves 0 ks
 
 -- Items in their places
 
@@ -125,26 +70,39 @@ each_found all once i (x ∷ xs) (y ∷ ys) h e =
     (each_found all once (suc i) xs ys h.1 rest)
 
 -- The list
-pub list_along : (m m' : Moved) (z : Tables → Listing) (s : Spot) (olds news : List ItemCode) (y : Tables → PlainCode) → NoRepeat (map code_key olds) → ItemsAlong m m' olds news
+pub list_along : (m m' : Moved) (z : Tables → Listing) (s : Spot) (olds news : List ItemCode) (y : Tables → PlainCode) → ItemsAlong m m' olds news
     → ((n : Tables) → y n ≡ listed_code (z n) s (all_items (map (seen_item_code n) news))) → CodeMoved m m' (λ n. listed_code (z n) s (all_items (map (seen_item_code n) olds))) y
-list_along m m' z s olds news y once h is = λ n.
+list_along m m' z s olds news y h is = λ n once.
     let xs = map (seen_item_code n) olds in
     let ys = map (seen_item_code n) news in
-    let own : NoRepeat (map spot_key xs) = subst NoRepeat (sym (keys_seen n olds)) once in
+    let own : NoRepeat (map spot_key xs) = subst NoRepeat (keys_are xs) once.0 in
     let none : moves_between (spot_keys (items_of (all_items xs))) (spot_keys (items_of (all_items ys))) ≡ 0 = ap₂ moves_between (keys_are xs) (keys_are ys ∙ (h n).0) ∙ none_passed (map spot_key xs) own in
     let inner : moved_items (items_of (all_items xs)) (items_of (all_items ys)) ≡ along_moved xs ys = each_found xs own 0 xs ys (items_in_themselves xs) (h n).0 in
     let both : moves_between (spot_keys (items_of (all_items xs))) (spot_keys (items_of (all_items ys))) + moved_items (items_of (all_items xs)) (items_of (all_items ys)) ≡ along_moved xs ys =
     let moved = moves_between (spot_keys (items_of (all_items xs))) (spot_keys (items_of (all_items ys))) in let within = moved_items (items_of (all_items xs)) (items_of (all_items ys)) in omega (arith, none, inner) in
     let all : moved_between (live_of (listed_code (z n) s (all_items xs))) (live_of (y n)) ≡ along_moved xs ys = ap (λ c. moved_between (live_of (listed_code (z n) s (all_items xs))) (live_of c)) (is n) ∙ both in
-    (h n).1 ∙ ap (λ c. m.items + c) (sym all)
+    (h n).1 once.1 ∙ ap (λ c. m.items + c) (sym all)
+
+-- a list that stays
+pub list_stays : (m : Moved) (z : Tables → Listing) (s : Spot) (xs : List ItemCode) (y : Tables → PlainCode) → ((n : Tables) → y n ≡ listed_code (z n) s (all_items (map (seen_item_code n) xs)))
+    → CodeMoved m m (λ n. listed_code (z n) s (all_items (map (seen_item_code n) xs))) y
+list_stays m z s xs y is = λ n once.
+    let x = live_of (listed_code (z n) s (all_items (map (seen_item_code n) xs))) in
+    let none : moved_between x (live_of (y n)) ≡ 0 = ap (λ c. moved_between x (live_of c)) (is n) ∙ none_moved x once in
+    omega (arith, none)
 
 -- The items before a place
+
+-- in items and one more
+once_split : (xs : List Item) (x : Item) → KeysOnceItems (items_of (all_items (xs ++ x ∷ []))) → KeysOnceItems (items_of (all_items xs)) × KeysOnceIn (lives_of x.1.1)
+once_split [] x h = (tt, h.0)
+once_split (y ∷ ys) x h = let rest = once_split ys x h.1 in ((h.0, rest.0), rest.1)
 
 abbrev pub Along : Moved → Moved → List ItemCode → List ItemCode → ℕ → Type 0
 Along m0 m olds items i = ItemsAlong m0 m (take i olds) (take i items)
 
 pub along_begin : (m : Moved) (olds items : List ItemCode) → Along m m olds items 0
-along_begin m olds items = λ n. (refl, omega arith)
+along_begin m olds items = λ n. (refl, λ once. omega arith)
 
 moved_more : (xs ys : List Item) (x y : Item) → length xs ≡ length ys → along_moved (xs ++ x ∷ []) (ys ++ y ∷ []) ≡ along_moved xs ys + moved_bodies (lives_of x.1.1) (lives_of y.1.1)
 moved_more [] [] x y e = omega arith
@@ -168,13 +126,15 @@ along_next m0 m m' olds items i x y lt long is w h key = λ n.
     length-map (take i olds) seen ∙ (length-take-le i olds (omega (arith, less)) ∙ sym (length-map (take i items) seen ∙ length-take-le i items (omega (arith, lt)))) in
     let so_far = along_moved (map seen (take i olds)) (map seen (take i items)) in
     let one = moved_bodies (lives_of (seen x).1.1) (lives_of (seen y).1.1) in
-    let more : along_moved (map seen (take (i + 1) olds)) (map seen (take (i + 1) (set items i y))) ≡ so_far + one = ap₂ along_moved front behind ∙ moved_more (map seen (take i olds)) (map seen (take i items)) (seen x) (seen y) even in
-    let a = (w n).1 in
-    let b = h n in (
+    let more : along_moved (map seen (take (i + 1) olds)) (map seen (take (i + 1) (set items i y))) ≡ so_far + one = ap₂ along_moved front behind ∙ moved_more (map seen (take i olds)) (map seen (take i items)) (seen x) (seen y) even in (
       ap (map spot_key) behind
           ∙ (map-append spot_key (map seen (take i items)) (seen y ∷ [])
           ∙ (ap₂ (λ ks (k : Key). ks ++ k ∷ []) (w n).0 (key n) ∙ sym (ap (map spot_key) front ∙ map-append spot_key (map seen (take i olds)) (seen x ∷ [])))),
-      omega (arith, a, b, more),
+      (λ once.
+          let parts = once_split (map seen (take i olds)) (seen x) (subst (λ zs. KeysOnceItems (items_of (all_items zs))) front once) in
+          let a = (w n).1 parts.0 in
+          let b = h n parts.1 in
+          omega (arith, a, b, more)),
     )
 
 pub along_end : (m0 m : Moved) (olds news items : List ItemCode) (i : ℕ) → length items ≡ length olds → length items ≤ i → items ≡ news → Along m0 m olds items i → ItemsAlong m0 m olds news

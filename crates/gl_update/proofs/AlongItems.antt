@@ -1,5 +1,6 @@
 -- The items of a list that wasn't touched, one after another.
-use Rattle.std.proofs.Common.{◌≡◌, ◌≤◌, ◌<◌, ℕ, ◌+◌, Bool, List, [], ◌∷◌, ◌++◌, map, take, drop, set, length, get_or, Option, refl, sym, ◌∙◌, ap, subst, append-nil, append_assoc, arith}
+use Rattle.std.proofs.Common.{◌≡◌, ◌≤◌, ◌<◌, ℕ, ◌+◌, Bool, true, false, List, [], ◌∷◌, ◌++◌, map, take, drop, set, length, get_or, Option, refl, sym, ◌∙◌, ap, subst, append-nil, append_assoc, arith}
+use Rattle.std.specs.Prelude.{if◌then◌else◌}
 use Rattle.std.proofs.lemmas.List.{drop_all, drop-set-lt, take_all, take_more_set}
 use Rattle.gl_base.proofs.Lists.{drop_item}
 use Rattle.gl_arena.specs.Id.{Id}
@@ -9,13 +10,15 @@ use Rattle.gl_meaning.specs.Path.{item, items, Path}
 use Rattle.gl_meaning.specs.Scope.{Source}
 use Rattle.gl_opc.specs.declared.app.App.{App}
 use Rattle.gl_plain.specs.Binding.{Spot as PlainSpot}
+use Rattle.gl_plain.specs.Counts.{positions_items}
 use Rattle.gl_plain.specs.Naming.{by_number}
 use Rattle.gl_plain.specs.State.{State}
-use Rattle.gl_machine.specs.Code.{Listing as PlainListing, Code as PlainCode, Codes as PlainCodes, ItemCodes, no_item_codes, item_code, listed_code}
+use Rattle.gl_machine.specs.Code.{Listing as PlainListing, Code as PlainCode, Codes as PlainCodes, ItemCodes, no_item_codes, item_code, items_of, listed_code}
 use Rattle.gl_machine.specs.Outcome.{Outcome, ok, deep, lost, on_ok}
 use Rattle.gl_machine.specs.RenewCode.{Runs}
-use Rattle.gl_guards.specs.Along.{along_codes_as}
-use Rattle.gl_vm.specs.View.{Tables, state_of}
+use Rattle.gl_guards.specs.Along.{enters_few, along_body_as}
+use Rattle.gl_vm.specs.View.{Tables, state_of, Agrees}
+use Rattle.gl_vm.specs.Steps.{Does}
 use Rattle.gl_vm.specs.declared.vm.Vm.{Vm}
 use Rattle.gl_append.specs.Cells.{CellList}
 use Rattle.gl_append.specs.CodeView.{seen_codes, seen_item_spot, stamp_of, seen_item_code, all_items}
@@ -24,8 +27,9 @@ use Rattle.gl_append.specs.declared.code.ItemCode.{ItemCode}
 use Rattle.gl_append.specs.declared.code.ItemSpot.{ItemSpot}
 use Rattle.gl_append.specs.declared.fault.VmFault.{VmFault}
 use Rattle.gl_update.specs.Renewing.{Renewal, Renews, RenewFails}
-use Rattle.gl_update.specs.ListItems.{Item, AlongItem, AlongItems, GoesAlong}
-use Rattle.gl_update.proofs.Renewing.{renews_same, renews_as, renews_then, renews_still, renews_in, fails_same, fails_first, fails_then, fails_in}
+use Rattle.gl_update.specs.ListItems.{Item, AlongItem, AlongItems, EntersList, GoesAlong}
+use Rattle.gl_update.proofs.Onward.{renews_agreed, fails_agreed}
+use Rattle.gl_update.proofs.Renewing.{renews_same, renews_as, renews_by, renews_then, renews_still, renews_in, does_renews, fails_same, fails_first, fails_then, fails_in, does_fails}
 
 -- An item
 
@@ -33,7 +37,7 @@ module _ (a : App) (cells : CellList) (left : ℕ) (p q : Path) (sp : ItemSpot) 
     (old : (n : Tables) → x n ≡ (seen_item_spot sp, (stamp_of k, seen_codes n b)))
     (here : q ≡ item (plain (view sp.key)) sp.occurrence ∷ p) where
   abbrev Walked : Renewal PlainCodes
-  Walked = λ n run. along_codes_as by_number run left q 0 (seen_codes n b)
+  Walked = λ n run. along_body_as by_number run left q (seen_codes n b)
 
   abbrev in_item : Tables → PlainCodes → Item
   in_item n cs = (seen_item_spot sp, (stamp_of k, cs))
@@ -41,8 +45,8 @@ module _ (a : App) (cells : CellList) (left : ℕ) (p q : Path) (sp : ItemSpot) 
   along_is : (n : Tables) (run : Runs) (u : Source → Bool) → on_ok (Walked n run (state_of n vm u)) (λ r. ok (in_item n r.0, r.1)) ≡ AlongItem left p x n run (state_of n vm u)
   along_is n run u =
       let st : State = state_of n vm u in
-      ap (λ w. on_ok (along_codes_as by_number run left w 0 (seen_codes n b) st) (λ r. ok (in_item n r.0, r.1))) here
-      ∙ ap (λ (y : Item). on_ok (along_codes_as by_number run left (item y.0.key y.0.occurrence ∷ p) 0 y.1.1 st) (λ r. ok ((y.0, (y.1.0, r.0)), r.1))) (sym (old n))
+      ap (λ w. on_ok (along_body_as by_number run left w (seen_codes n b) st) (λ r. ok (in_item n r.0, r.1))) here
+      ∙ ap (λ (y : Item). on_ok (along_body_as by_number run left (item y.0.key y.0.occurrence ∷ p) y.1.1 st) (λ r. ok ((y.0, (y.1.0, r.0)), r.1))) (sym (old n))
 
   pub along_renews : (b' : Codes) (y : Tables → Item) (new : Vm) → ((n : Tables) → y n ≡ (seen_item_spot sp, (stamp_of k, seen_codes n b'))) → Renews a cells Walked vm (λ n. seen_codes n b') new → Renews a cells (AlongItem left p x) vm y new
   along_renews b' y new is r =
@@ -92,7 +96,7 @@ module _ (a : App) (cells : CellList) (left : ℕ) (p : Path) where
     both_is : (vm : Vm) (n : Tables) (run : Runs) (u : Source → Bool) → on_ok (One x n run (state_of n vm u)) (λ r. onward n r.0 n run r.1) ≡ Rest (x ∷ more) n run (state_of n vm u)
     both_is vm n run u =
         let y = seen_item_code n x in
-        item_on y (along_codes_as by_number run left (item y.0.key y.0.occurrence ∷ p) 0 y.1.1 (state_of n vm u)) (λ r. onward n r.0 n run r.1)
+        item_on y (along_body_as by_number run left (item y.0.key y.0.occurrence ∷ p) y.1.1 (state_of n vm u)) (λ r. onward n r.0 n run r.1)
 
     rest_is : (y : ItemCode) → drop (i + 1) (set held i y) ≡ more
     rest_is y = drop-set-lt (i + 1) held i y (omega arith)
@@ -143,7 +147,7 @@ module _ (a : App) (cells : CellList) (z : Tables → PlainListing) (s : PlainSp
   Inner = AlongItems left q (seen_all xs')
 
   abbrev Outer : Renewal PlainCode
-  Outer = GoesAlong z s left p (seen_all xs)
+  Outer = EntersList z s left p (seen_all xs)
 
   inner_is : (vm : Vm) (n : Tables) (run : Runs) (u : Source → Bool) → on_ok (Inner n run (state_of n vm u)) (λ r. ok (listed_code (z n) s r.0, r.1)) ≡ Outer n run (state_of n vm u)
   inner_is vm n run u =
@@ -158,3 +162,33 @@ module _ (a : App) (cells : CellList) (z : Tables → PlainListing) (s : PlainSp
   pub list_goes_fails : (old : Vm) (h : VmFault) → RenewFails {A = ItemCodes} a cells Inner old h → RenewFails {A = PlainCode} a cells Outer old h
   list_goes_fails old h r =
       fails_same a cells (λ n run st. on_ok (Inner n run st) (λ r. ok (listed_code (z n) s r.0, r.1))) Outer old h (inner_is old) (fails_in a cells Inner (λ n x. listed_code (z n) s x) (λ n st. st) old h r)
+
+-- where it is entered, or passed over
+module _ (a : App) (cells : CellList) (z : Tables → PlainListing) (s : PlainSpot) (left : ℕ) (p : Path) (xs : Tables → List Item) where
+  abbrev inside : Renewal ItemCodes
+  inside = AlongItems left (items ∷ p) xs
+
+  abbrev positions : Tables → List ℕ
+  positions n = positions_items (items_of (all_items (xs n)))
+
+  abbrev pub ListAsked : Bool → Vm → Type 0
+  ListAsked b vm = (n : Tables) (u : Source → Bool) → Agrees u vm → enters_few (state_of n vm u) (positions n) ≡ b
+
+  goes_is : (b : Bool) (vm : Vm) → ListAsked b vm → (n : Tables) (run : Runs) (u : Source → Bool) → Agrees u vm
+      → on_ok (if b then inside n run (state_of n vm u) else ok (all_items (xs n), state_of n vm u)) (λ r. ok (listed_code (z n) s r.0, r.1)) ≡ GoesAlong z s left p xs n run (state_of n vm u)
+  goes_is b vm h n run u agrees =
+      let st : State = state_of n vm u in sym (ap (λ e. on_ok (if e then inside n run st else ok (all_items (xs n), st)) (λ r. ok (listed_code (z n) s r.0, r.1))) (h n u agrees))
+
+  pub list_entered : (old mid new : Vm) (y : Tables → PlainCode) → ListAsked true old → Does (λ n st. st) old mid → Renews a cells (EntersList z s left p xs) mid y new → Renews a cells (GoesAlong z s left p xs) old y new
+  list_entered old mid new y h d r =
+      renews_agreed a cells (EntersList z s left p xs) (GoesAlong z s left p xs) y old new (goes_is true old h) (does_renews a cells (λ n st. st) (EntersList z s left p xs) y old mid new d r)
+
+  pub list_fails : (old mid : Vm) (e : VmFault) → ListAsked true old → Does (λ n st. st) old mid → RenewFails {A = PlainCode} a cells (EntersList z s left p xs) mid e → RenewFails {A = PlainCode} a cells (GoesAlong z s left p xs) old e
+  list_fails old mid e h d r =
+      fails_agreed a cells (EntersList z s left p xs) (GoesAlong z s left p xs) old e (goes_is true old h) (does_fails a cells (λ n st. st) (EntersList z s left p xs) old mid e d r)
+
+  pub list_passed : (old new : Vm) (y : Tables → PlainCode) → ((n : Tables) → y n ≡ listed_code (z n) s (all_items (xs n))) → ListAsked false old → Does (λ n st. st) old new → Renews a cells (GoesAlong z s left p xs) old y new
+  list_passed old new y e h d =
+      renews_as a cells (GoesAlong z s left p xs) (λ n. listed_code (z n) s (all_items (xs n))) y old new (λ n. sym (e n))
+      (renews_agreed a cells (λ n run st. ok (listed_code (z n) s (all_items (xs n)), st)) (GoesAlong z s left p xs) (λ n. listed_code (z n) s (all_items (xs n))) old new (goes_is false old h)
+      (renews_by a cells (λ n st. st) (λ n. listed_code (z n) s (all_items (xs n))) old new d))

@@ -15,7 +15,7 @@ use Rattle.gl_plain.specs.State.{State}
 use Rattle.gl_machine.specs.Code.{Choice, Code as PlainCode, Codes as PlainCodes, branch_code, lives_of}
 use Rattle.gl_machine.specs.Outcome.{Outcome, ok, on_ok}
 use Rattle.gl_machine.specs.RenewCode.{CodeArm, Start, start, Runs, commented, branch_with, fresh_branch}
-use Rattle.gl_guards.specs.Along.{along_code_as, along_codes_as}
+use Rattle.gl_guards.specs.Along.{along_code_as, along_body_as}
 use Rattle.gl_vm.specs.View.{Tables, state_of, Agrees}
 use Rattle.gl_vm.specs.Steps.{Does}
 use Rattle.gl_vm.specs.declared.vm.Vm.{Vm}
@@ -50,7 +50,7 @@ module _ (a : App) (cells : CellList) (left : ℕ) (p : Path) (z : Tables → Ch
   Fresh b = λ n run st. fresh_branch run (z n) s b p left (dropped_as by_number (standing k (cs n)) st)
 
   abbrev pub Same : Bool → Renewal PlainCodes
-  Same b = λ n run. along_codes_as by_number run left (side_of b p) 0 (cs n)
+  Same b = λ n run. along_body_as by_number run left (side_of b p) (cs n)
 
   abbrev pub Whole : Bool → Renewal PlainCode
   Whole b = λ n run. along_code_as by_number run left p (branch_code (z n) s b k (cs n))

@@ -10,7 +10,7 @@ use Rattle.gl_plain.specs.Renew.{give}
 use Rattle.gl_machine.specs.Code.{Codes, ItemCodes, no_item_codes, item_code}
 use Rattle.gl_machine.specs.Outcome.{Outcome, ok, deep, lost, on_ok}
 use Rattle.gl_machine.specs.RenewCode.{Runs, CodeHandle, ItemDone, item_done, item_with, commented, with_left, renew_item_code_as}
-use Rattle.gl_guards.specs.Along.{along_codes_as, along_handles_as}
+use Rattle.gl_guards.specs.Along.{along_body_as, along_handles_as}
 use Rattle.gl_append.specs.CodeView.{all_items}
 use Rattle.gl_update.specs.ListItems.{Item, item_kept, one_item, items_before, onto, handle, handles}
 
@@ -64,6 +64,6 @@ renewed_by x lost = refl
 
 pub item_renewed : (run : Runs) (m : ℕ) (q : Path) (e : Entry) (x : Item) (st : State)
     → one_item (renew_item_code_as by_number q e (handle run m x) st)
-    ≡ on_ok (along_codes_as by_number run m q 0 x.1.1 (give x.0.index (by_number.index_source x.0.index q) (count_value e.index) (give x.0.value (by_number.value_source x.0.value q) e.value st))) (λ r. ok ((x.0, (x.1.0, r.0)), r.1))
+    ≡ on_ok (along_body_as by_number run m q x.1.1 (give x.0.index (by_number.index_source x.0.index q) (count_value e.index) (give x.0.value (by_number.value_source x.0.value q) e.value st))) (λ r. ok ((x.0, (x.1.0, r.0)), r.1))
 item_renewed run m q e x st =
-    renewed_by x (along_codes_as by_number run m q 0 x.1.1 (give x.0.index (by_number.index_source x.0.index q) (count_value e.index) (give x.0.value (by_number.value_source x.0.value q) e.value st)))
+    renewed_by x (along_body_as by_number run m q x.1.1 (give x.0.index (by_number.index_source x.0.index q) (count_value e.index) (give x.0.value (by_number.value_source x.0.value q) e.value st)))

@@ -20,7 +20,7 @@ use Rattle.gl_machine.specs.Code as c
 use Rattle.gl_machine.specs.Code.{Listing as PlainListing, Code as PlainCode, Codes as PlainCodes, ItemCodes, listed_code, unlisted_code, lives_of, items_of}
 use Rattle.gl_machine.specs.Outcome.{Outcome, ok, on_ok}
 use Rattle.gl_machine.specs.RenewCode.{Start, start, Runs, by_values, commented, kept, unlisted_with, fresh_item_as, fresh_codes, fresh_other, sync_codes_as}
-use Rattle.gl_guards.specs.Along.{along_code_as, along_codes_as, along_handles_as}
+use Rattle.gl_guards.specs.Along.{along_code_as, along_body_as, along_handles_as}
 use Rattle.gl_vm.specs.View.{Tables, state_of, Agrees}
 use Rattle.gl_vm.specs.Steps.{Does}
 use Rattle.gl_vm.specs.declared.vm.Vm.{Vm}
@@ -76,7 +76,7 @@ module _ (a : App) (cells : CellList) (z : Tables → PlainListing) (key : Text)
     unlisting = λ n run st.
         by_values (values_listed (first_value (spot_pairs st s.ref)))
         (λ vs. on_ok (fresh_codes (fresh_item_as by_number run (z n) left) (items ∷ p) (entries (z n).key 0 [] vs) (dropped_as by_number (gone n) st)) (λ r. ok (listed_code (z n) s r.0, r.1)))
-        (on_ok (along_codes_as by_number run left (otherwise ∷ p) 0 (cs n) st) (λ r. ok (unlisted_with (z n) s (kept k r))))
+        (on_ok (along_body_as by_number run left (otherwise ∷ p) (cs n) st) (λ r. ok (unlisted_with (z n) s (kept k r))))
 
     stays_is : (vm : Vm) → Gives [] vm → (n : Tables) (run : Runs) (u : Source → Bool) → StaysNone z s left p k cs n run (state_of n vm u) ≡ unlisting n run (state_of n vm u)
     stays_is vm g n run u =
@@ -94,19 +94,19 @@ module _ (a : App) (cells : CellList) (z : Tables → PlainListing) (key : Text)
         (StaysNone z s left p k cs n run st) (λ none. some (sym (gives_at es vm g n u) ∙ none)))
 
     -- nothing comes: the body is walked along
-    pub unlisted_stays : (old mid new : Vm) (ds : Tables → PlainCodes) → Does (λ n. reread s.ref) old mid → Gives [] mid → Renews a cells (λ n run. along_codes_as by_number run left (otherwise ∷ p) 0 (cs n)) mid ds new
+    pub unlisted_stays : (old mid new : Vm) (ds : Tables → PlainCodes) → Does (λ n. reread s.ref) old mid → Gives [] mid → Renews a cells (λ n run. along_body_as by_number run left (otherwise ∷ p) (cs n)) mid ds new
         → Renews a cells Unlisting old (λ n. unlisted_code (z n) s k (ds n)) new
     unlisted_stays old mid new ds d g r =
         does_renews a cells (λ n. reread s.ref) unlisting (λ n. unlisted_code (z n) s k (ds n)) old mid new d
         (renews_same a cells (StaysNone z s left p k cs) unlisting (λ n. unlisted_code (z n) s k (ds n)) mid new (stays_is mid g)
-        (renews_in a cells (λ n run. along_codes_as by_number run left (otherwise ∷ p) 0 (cs n)) (λ n x. unlisted_code (z n) s k x) ds mid new r))
+        (renews_in a cells (λ n run. along_body_as by_number run left (otherwise ∷ p) (cs n)) (λ n x. unlisted_code (z n) s k x) ds mid new r))
 
-    pub unlisted_stays_fails : (old mid : Vm) (h : VmFault) → Does (λ n. reread s.ref) old mid → Gives [] mid → RenewFails {A = PlainCodes} a cells (λ n run. along_codes_as by_number run left (otherwise ∷ p) 0 (cs n)) mid h
+    pub unlisted_stays_fails : (old mid : Vm) (h : VmFault) → Does (λ n. reread s.ref) old mid → Gives [] mid → RenewFails {A = PlainCodes} a cells (λ n run. along_body_as by_number run left (otherwise ∷ p) (cs n)) mid h
         → RenewFails {A = PlainCode} a cells Unlisting old h
     unlisted_stays_fails old mid h d g r =
         does_fails a cells (λ n. reread s.ref) unlisting old mid h d
         (fails_same a cells (StaysNone z s left p k cs) unlisting mid h (stays_is mid g)
-        (fails_in a cells (λ n run. along_codes_as by_number run left (otherwise ∷ p) 0 (cs n)) (λ n x. unlisted_code (z n) s k x) (λ n st. st) mid h r))
+        (fails_in a cells (λ n run. along_body_as by_number run left (otherwise ∷ p) (cs n)) (λ n x. unlisted_code (z n) s k x) (λ n st. st) mid h r))
 
     -- items come
     pub unlisted_lists : (es : List PlainEntry) (old mid new : Vm) (x : Tables → PlainCode) → (es ≡ [] → ⊥) → Does (λ n. reread s.ref) old mid → Gives es mid → Renews a cells (ListsFresh z s left p es gone) mid x new → Renews a cells Unlisting old x new

@@ -19,7 +19,7 @@ use Rattle.gl_plain.specs.State.{State}
 use Rattle.gl_machine.specs.Code.{Code as PlainCode, Codes as PlainCodes, listed_code, ItemCodes, lives_of, items_of}
 use Rattle.gl_machine.specs.Outcome.{Outcome, ok, on_ok}
 use Rattle.gl_machine.specs.RenewCode.{Runs, CodeHandle, ItemDone, item_with, fresh_item_as, renew_item_code_as, sync_one_code_as, sync_codes_as, taken_code, times_code_handles}
-use Rattle.gl_guards.specs.Along.{along_codes_as}
+use Rattle.gl_guards.specs.Along.{along_body_as}
 use Rattle.gl_each.specs.Key.{Key, entry_key, entry_keys}
 use Rattle.gl_each.specs.Sync.{Step, retain, move, insert}
 use Rattle.gl_each.specs.View.{seen_steps}
@@ -248,7 +248,7 @@ module _ (a : App) (cells : CellList) (left : ℕ) (q : Path) (e : Entry) (sp : 
     (old : (n : Tables) → x n ≡ (seen_item_spot sp, (stamp_of k, seen_codes n b)))
     (d : Does (given_item sp e) vm vm2) where
   abbrev Walked : Renewal PlainCodes
-  Walked = λ n run. along_codes_as by_number run left q 0 (seen_codes n b)
+  Walked = λ n run. along_body_as by_number run left q (seen_codes n b)
 
   abbrev in_item : Tables → PlainCodes → Item
   in_item n cs = (seen_item_spot sp, (stamp_of k, cs))

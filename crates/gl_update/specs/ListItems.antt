@@ -12,7 +12,7 @@ use Rattle.gl_plain.specs.Naming.{by_number, dropped_as}
 use Rattle.gl_machine.specs.Code.{Listing, Code, listed_code, Codes, ItemCodes, item_code, items_of}
 use Rattle.gl_machine.specs.Outcome.{Outcome, ok, on_ok}
 use Rattle.gl_machine.specs.RenewCode.{Start, Runs, CodeHandle, ItemDone, item_done, commented, kept, unlisted_with, fresh_item_as, fresh_codes, fresh_other, by_values, sync_codes_as, renew_item_code_as}
-use Rattle.gl_guards.specs.Along.{along_codes_as, along_items_as, along_handles_as}
+use Rattle.gl_guards.specs.Along.{along_body_as, along_items_as, along_list_as, along_handles_as}
 use Rattle.gl_each.specs.Key.{Key}
 use Rattle.gl_vm.specs.View.{Tables}
 use Rattle.gl_append.specs.CodeView.{all_items}
@@ -41,7 +41,7 @@ onto ys o = on_ok o (λ r. ok (items_before ys r.0, r.1))
 -- how each of them is updated
 module _ (run : Runs) (m : ℕ) where
   abbrev pub handle : Item → CodeHandle
-  handle x = record { spot = x.0; comment = x.1.0; codes = x.1.1; go = λ q st. along_codes_as by_number run m q 0 x.1.1 st }
+  handle x = record { spot = x.0; comment = x.1.0; codes = x.1.1; go = λ q st. along_body_as by_number run m q x.1.1 st }
 
   abbrev pub handles : List Item → List CodeHandle
   handles [] = []
@@ -77,7 +77,7 @@ KeptItem m p e x = λ n run st. one_item (renew_item_code_as by_number p e (hand
 
 -- an item is walked along, with the value and the index that it has
 abbrev pub AlongItem : ℕ → Path → (Tables → Item) → Renewal Item
-AlongItem m p x = λ n run st. on_ok (along_codes_as by_number run m (item (x n).0.key (x n).0.occurrence ∷ p) 0 (x n).1.1 st) (λ r. ok (((x n).0, ((x n).1.0, r.0)), r.1))
+AlongItem m p x = λ n run st. on_ok (along_body_as by_number run m (item (x n).0.key (x n).0.occurrence ∷ p) (x n).1.1 st) (λ r. ok (((x n).0, ((x n).1.0, r.0)), r.1))
 
 -- all items are
 abbrev pub AlongItems : ℕ → Path → (Tables → List Item) → Renewal ItemCodes
@@ -105,7 +105,7 @@ module _ (z : Tables → Listing) (s : Spot) (m : ℕ) (p : Path) where
   ListsNone gone = λ n run st. fresh_other run (z n) s p m (dropped_as by_number (gone n) st)
 
   abbrev pub StaysNone : Option ℕ → (Tables → Codes) → Renewal Code
-  StaysNone k cs = λ n run st. on_ok (along_codes_as by_number run m (otherwise ∷ p) 0 (cs n) st) (λ r. ok (unlisted_with (z n) s (kept k r)))
+  StaysNone k cs = λ n run st. on_ok (along_body_as by_number run m (otherwise ∷ p) (cs n) st) (λ r. ok (unlisted_with (z n) s (kept k r)))
 
   abbrev pub Syncs : List Entry → (Tables → List Item) → Renewal Code
   Syncs es xs = λ n run st. on_ok (sync_codes_as by_number (fresh_item_as by_number run (z n) m) (items ∷ p) es (handles run m (xs n)) st) (λ r. ok (listed_code (z n) s r.0, r.1))
@@ -119,5 +119,9 @@ module _ (z : Tables → Listing) (s : Spot) (m : ℕ) (p : Path) where
       (fresh_other run (z n) s p m (dropped_as by_number (λ q. times_items q (items_of (all_items (xs n)))) st1))
 
   -- its items are walked along in order
+  abbrev pub EntersList : (Tables → List Item) → Renewal Code
+  EntersList xs = λ n run st. on_ok (AlongItems m (items ∷ p) xs n run st) (λ r. ok (listed_code (z n) s r.0, r.1))
+
+  -- they are, where the list is entered
   abbrev pub GoesAlong : (Tables → List Item) → Renewal Code
-  GoesAlong xs = λ n run st. on_ok (AlongItems m (items ∷ p) xs n run st) (λ r. ok (listed_code (z n) s r.0, r.1))
+  GoesAlong xs = λ n run st. on_ok (along_list_as by_number run m (items ∷ p) (all_items (xs n)) st) (λ r. ok (listed_code (z n) s r.0, r.1))

@@ -1,8 +1,7 @@
-// The items of a list that wasn't touched are walked along in order, each in its place.
+// The items of a list that wasn't touched are walked along in order, each in its place, where they are entered.
 ghost use Rattle.std.specs.Prelude.{◌≡◌, ◌∷◌, ◌++◌, ◌<◌, ◌^◌, [], length, map, false, IfOk, OnOk, IfErr};
 ghost use Rattle.gl_value.specs.Value.{plain};
 ghost use Rattle.gl_value.specs.View.{view};
-ghost use Rattle.gl_meaning.specs.Laws.{NoRepeat};
 ghost use Rattle.gl_meaning.specs.Path.{item};
 ghost use Rattle.gl_machine.specs.Code as c;
 ghost use Rattle.gl_machine.specs.Code.{Code as PlainCode, ItemCodes};
@@ -10,16 +9,15 @@ ghost use Rattle.gl_vm.specs.View.{Calm};
 ghost use Rattle.gl_append.specs.CodeView.{seen_code, seen_listing, seen_spot, seen_item_code, all_items};
 ghost use Rattle.gl_update.specs.View.{trail_view};
 ghost use Rattle.gl_update.specs.Counted.{CodeMoved, ItemsAlong, KeptMoved};
-ghost use Rattle.gl_update.specs.ListItems.{Item, AlongItem, AlongItems, GoesAlong, spot_key};
-ghost use Rattle.gl_update.specs.OldItems.{code_key};
+ghost use Rattle.gl_update.specs.ListItems.{Item, AlongItem, AlongItems, EntersList, GoesAlong, spot_key};
 ghost use Rattle.gl_update.specs.Renewing.{Renews, RenewFails};
 
 use crate::codes::renew_codes;
 use crate::counting::Moved;
-use crate::old_items::keys_of_items;
-use crate::taken::{Listed, boxed_code};
+use crate::taken::{Listed, ask_items, boxed_code};
 use crate::trail::Trail;
 use gl_append::{Cells, Code, ItemCode, ItemSpot, VmFault};
+use gl_asks::enters_body;
 use gl_meaning::PathStep;
 use gl_nodes::NodeId;
 use gl_opc::App;
@@ -40,7 +38,7 @@ fn enter_item(trail: &mut Trail<'_>, spot: &ItemSpot) -> Result<(), AllocError>
     })
 }
 
-// An item. The trail is that of the items of the list.
+// An item, where it is entered. The trail is that of the items of the list.
 #[cycle(renewing)]
 #[inline(never)]
 fn walk_item(
@@ -62,23 +60,27 @@ fn walk_item(
     ensures trail { OnOk result (trail.new ≡ trail.old) }
     ensures calm { Calm vm.new }
 {
-    enter_item(trail, &item.spot)?;
-    match renew_codes(
-        vm,
-        alloc,
-        app,
-        cells,
-        trail,
-        left,
-        &mut item.body,
-        parent,
-        moved,
-    ) {
-        Ok(()) => {
-            trail.pop(alloc);
-            Ok(())
+    if enters_body(vm, &item.body)? {
+        enter_item(trail, &item.spot)?;
+        match renew_codes(
+            vm,
+            alloc,
+            app,
+            cells,
+            trail,
+            left,
+            &mut item.body,
+            parent,
+            moved,
+        ) {
+            Ok(()) => {
+                trail.pop(alloc);
+                Ok(())
+            }
+            Err(fault) => Err(fault),
         }
-        Err(fault) => Err(fault),
+    } else {
+        Ok(())
     }
 }
 
@@ -112,17 +114,6 @@ fn walk_items(
     Ok(())
 }
 
-// A list of which no key stands twice. Of another one, as there is none, it answers as for want of memory.
-#[inline(never)]
-fn keyed_once(alloc: Global, list: Box<Listed>) -> Result<Box<Listed>, AllocError>
-    ensures list { IfOk result (λ b. b ≡ list) }
-    ensures once { OnOk result (NoRepeat (map code_key list.value.items.items)) }
-{
-    let keys = keys_of_items(alloc, list.items.as_slice())?;
-    drop(keys);
-    Ok(list)
-}
-
 // The list with its items.
 #[inline(never)]
 fn with_items(alloc: Global, list: Box<Listed>) -> Result<Box<Code>, AllocError>
@@ -141,7 +132,49 @@ fn lost_items(list: Box<Listed>, fault: VmFault) -> VmFault
     fault
 }
 
-/// The items of a list are walked along.
+// The items of a list that are entered. It stands in the frame of its caller.
+#[cycle(renewing)]
+#[inline(always)]
+fn walk_entered(
+    vm: &mut Vm,
+    alloc: Global,
+    app: &App,
+    cells: &Cells,
+    trail: &mut Trail<'_>,
+    left: u32,
+    list: Box<Listed>,
+    parent: &Option<NodeId>,
+    moved: &mut Moved,
+) -> Result<Box<Code>, VmFault>
+    requires calm { Calm vm.old }
+    ensures ok { IfOk result (λ r. Renews app.now cells.now (EntersList (λ n. seen_listing n list.value.listing) (seen_spot list.value.spot) left (trail_view trail.old) (λ n. map (seen_item_code n) list.value.items.items)) vm.old (λ n. seen_code n r.value) vm.new) }
+    ensures fails { IfErr result (RenewFails {A = PlainCode} app.now cells.now (EntersList (λ n. seen_listing n list.value.listing) (seen_spot list.value.spot) left (trail_view trail.old) (λ n. map (seen_item_code n) list.value.items.items)) vm.old) }
+    ensures moved { IfOk result (λ r. CodeMoved moved.old moved.new (λ n. c.listed_code (seen_listing n list.value.listing) (seen_spot list.value.spot) (all_items (map (seen_item_code n) list.value.items.items))) (λ n. seen_code n r.value)) }
+    ensures trail { OnOk result (trail.new ≡ trail.old) }
+    ensures calm { Calm vm.new }
+{
+    let mut list = list;
+    trail.push(PathStep::Items)?;
+    match walk_items(
+        vm,
+        alloc,
+        app,
+        cells,
+        trail,
+        left,
+        &mut list.items,
+        parent,
+        moved,
+    ) {
+        Ok(()) => {
+            trail.pop(alloc);
+            Ok(with_items(alloc, list)?)
+        }
+        Err(fault) => Err(lost_items(list, fault)),
+    }
+}
+
+/// The items of a list are walked along, where they are entered.
 #[cycle(renewing)]
 #[inline(never)]
 pub(crate) fn walk_list(
@@ -162,23 +195,11 @@ pub(crate) fn walk_list(
     ensures trail { OnOk result (trail.new ≡ trail.old) }
     ensures calm { Calm vm.new }
 {
-    let mut once = keyed_once(alloc, list)?;
-    trail.push(PathStep::Items)?;
-    match walk_items(
-        vm,
-        alloc,
-        app,
-        cells,
-        trail,
-        left,
-        &mut once.items,
-        parent,
-        moved,
-    ) {
-        Ok(()) => {
-            trail.pop(alloc);
-            Ok(with_items(alloc, once)?)
-        }
-        Err(fault) => Err(lost_items(once, fault)),
+    let asked = ask_items(vm, list)?;
+    let enters = asked.1;
+    if enters {
+        walk_entered(vm, alloc, app, cells, trail, left, asked.0, parent, moved)
+    } else {
+        Ok(with_items(alloc, asked.0)?)
     }
 }

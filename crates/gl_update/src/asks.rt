@@ -1,22 +1,10 @@
 // What an update asks before it changes something.
-ghost use Rattle.std.specs.Prelude.{◌≡◌, true, IsTrue};
-ghost use Rattle.gl_refs.specs.State.{is_position};
-ghost use Rattle.gl_refs.specs.Refs.{rows_of, forms_of};
-ghost use Rattle.gl_vm.specs.View.{is_all};
+ghost use Rattle.std.specs.Prelude.{◌≡◌, IsTrue};
 ghost use Rattle.gl_vm.specs.Steps.{times_named};
 ghost use Rattle.gl_update.specs.Asked.{IsText, HasOnce};
 
 use gl_nodes::{Attr, Node, NodeId, NodeTree};
-use gl_refs::{RefId, Refs};
 use gl_value::Text;
-
-/// Whether it is a live position that was evaluated.
-#[inline(never)]
-pub(crate) fn position(refs: &Refs, id: RefId) -> bool
-    ensures { IsTrue result → ((is_all (forms_of refs.now id) ≡ true) × (is_position (rows_of refs.now id) ≡ true)) }
-{
-    refs.position(id)
-}
 
 /// Whether it is a text that was made.
 #[inline(never)]

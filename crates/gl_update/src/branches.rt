@@ -14,7 +14,7 @@ ghost use Rattle.gl_update.specs.View.{trail_view};
 ghost use Rattle.gl_update.specs.Renewing.{Renews, RenewFails};
 
 use crate::appending::append_body;
-use crate::codes::renew_below;
+use crate::codes::renew_side;
 use crate::counting::Moved;
 use crate::ending::end_branch;
 use crate::positions::condition;
@@ -53,7 +53,7 @@ pub(crate) fn renew_branch(
 {
     let shows = condition(vm, choice.unless, spot.id)?;
     if shows == *main {
-        renew_below(
+        renew_side(
             vm,
             alloc,
             app,

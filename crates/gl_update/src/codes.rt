@@ -5,7 +5,7 @@ ghost use Rattle.gl_meaning.specs.View.{path_view, path_step_view};
 ghost use Rattle.gl_plain.specs.Naming.{by_number};
 ghost use Rattle.gl_machine.specs.Code as c;
 ghost use Rattle.gl_machine.specs.Code.{Code as PlainCode, Codes as PlainCodes};
-ghost use Rattle.gl_guards.specs.Along.{along_code_as, along_codes_as};
+ghost use Rattle.gl_guards.specs.Along.{along_code_as, along_codes_as, along_body_as};
 ghost use Rattle.gl_vm.specs.View.{Calm};
 ghost use Rattle.gl_append.specs.CodeView.{seen_attr_spot, seen_code, seen_codes, seen_mod_spot};
 ghost use Rattle.gl_update.specs.Counted.{CodeMoved, CodesMoved};
@@ -19,6 +19,7 @@ use crate::modifiers::renew_mods;
 use crate::nodes::{renew_attrs, renew_text};
 use crate::trail::Trail;
 use gl_append::{AttrSpot, Cells, Code, Codes, ModSpot, VmFault};
+use gl_asks::enters_body;
 use gl_meaning::{Path, PathStep};
 use gl_nodes::NodeId;
 use gl_opc::App;
@@ -55,6 +56,35 @@ pub(crate) fn renew_codes(
         }
     }
     Ok(())
+}
+
+/// A body that is a region, of which the path is the trail: it is passed over where its few positions are fresh. It stands in the frame
+/// of its caller, so that a level takes no more stack.
+#[cycle(renewing)]
+#[inline(always)]
+pub(crate) fn renew_body(
+    vm: &mut Vm,
+    alloc: Global,
+    app: &App,
+    cells: &Cells,
+    trail: &mut Trail<'_>,
+    left: u32,
+    codes: &mut Codes,
+    parent: &Option<NodeId>,
+    moved: &mut Moved,
+) -> Result<(), VmFault>
+    requires calm { Calm vm.old }
+    ensures ok { OnOk result (Renews app.now cells.now (λ n run. along_body_as by_number run left (trail_view trail.old) (seen_codes n codes.old)) vm.old (λ n. seen_codes n codes.new) vm.new) }
+    ensures fails { IfErr result (RenewFails {A = PlainCodes} app.now cells.now (λ n run. along_body_as by_number run left (trail_view trail.old) (seen_codes n codes.old)) vm.old) }
+    ensures moved { OnOk result (CodesMoved moved.old moved.new (λ n. seen_codes n codes.old) (λ n. seen_codes n codes.new)) }
+    ensures trail { OnOk result (trail.new ≡ trail.old) }
+    ensures calm { Calm vm.new }
+{
+    if enters_body(vm, codes)? {
+        renew_codes(vm, alloc, app, cells, trail, left, codes, parent, moved)
+    } else {
+        Ok(())
+    }
 }
 
 /// What was rendered of a statement, of which the path is the trail.
@@ -194,6 +224,37 @@ pub(crate) fn renew_below(
     }
 }
 
+/// A body that is a region, of which the path is one step below the trail.
+#[cycle(renewing)]
+#[inline(always)]
+pub(crate) fn renew_side(
+    vm: &mut Vm,
+    alloc: Global,
+    app: &App,
+    cells: &Cells,
+    trail: &mut Trail<'_>,
+    step: PathStep,
+    left: u32,
+    body: &mut Codes,
+    parent: &Option<NodeId>,
+    moved: &mut Moved,
+) -> Result<(), VmFault>
+    requires calm { Calm vm.old }
+    ensures ok { OnOk result (Renews app.now cells.now (λ n run. along_body_as by_number run left (path_step_view step ∷ trail_view trail.old) (seen_codes n body.old)) vm.old (λ n. seen_codes n body.new) vm.new) }
+    ensures fails { IfErr result (RenewFails {A = PlainCodes} app.now cells.now (λ n run. along_body_as by_number run left (path_step_view step ∷ trail_view trail.old) (seen_codes n body.old)) vm.old) }
+    ensures moved { OnOk result (CodesMoved moved.old moved.new (λ n. seen_codes n body.old) (λ n. seen_codes n body.new)) }
+    ensures trail { OnOk result (trail.new ≡ trail.old) }
+    ensures calm { Calm vm.new }
+{
+    if enters_body(vm, body)? {
+        renew_below(
+            vm, alloc, app, cells, trail, step, left, body, parent, moved,
+        )
+    } else {
+        Ok(())
+    }
+}
+
 /// The body of a `let`.
 #[cycle(renewing)]
 #[inline(never)]
@@ -236,14 +297,14 @@ pub(crate) fn renew_else(
     moved: &mut Moved,
 ) -> Result<(), VmFault>
     requires calm { Calm vm.old }
-    ensures ok { OnOk result (Renews app.now cells.now (λ n run. along_codes_as by_number run left (otherwise ∷ trail_view trail.old) 0 (seen_codes n body.old)) vm.old (λ n. seen_codes n body.new) vm.new) }
-    ensures fails { IfErr result (RenewFails {A = PlainCodes} app.now cells.now (λ n run. along_codes_as by_number run left (otherwise ∷ trail_view trail.old) 0 (seen_codes n body.old)) vm.old) }
+    ensures ok { OnOk result (Renews app.now cells.now (λ n run. along_body_as by_number run left (otherwise ∷ trail_view trail.old) (seen_codes n body.old)) vm.old (λ n. seen_codes n body.new) vm.new) }
+    ensures fails { IfErr result (RenewFails {A = PlainCodes} app.now cells.now (λ n run. along_body_as by_number run left (otherwise ∷ trail_view trail.old) (seen_codes n body.old)) vm.old) }
     ensures moved { OnOk result (CodesMoved moved.old moved.new (λ n. seen_codes n body.old) (λ n. seen_codes n body.new)) }
     ensures trail { OnOk result (trail.new ≡ trail.old) }
     ensures calm { Calm vm.new }
 {
     let step = PathStep::Else;
-    renew_below(
+    renew_side(
         vm, alloc, app, cells, trail, step, left, body, parent, moved,
     )
 }
@@ -300,7 +361,7 @@ fn renew_component(
         return Err(VmFault::Memory);
     }
     let mut trail = Trail::of(alloc, path);
-    renew_codes(
+    renew_body(
         vm,
         alloc,
         app,

@@ -10,8 +10,8 @@ ghost use Rattle.gl_vm.specs.View.{Calm, stamps, state_of};
 ghost use Rattle.gl_vm.specs.Steps.{Does};
 ghost use Rattle.gl_append.specs.CodeView.{seen_mod_spot};
 
-use crate::positions::is_stale;
 use gl_append::{ModSpot, value_of, values_of};
+use gl_asks::is_stale;
 use gl_refs::RefId;
 use gl_value::{List, NamedValues, Text};
 use gl_vm::Vm;

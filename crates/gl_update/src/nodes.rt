@@ -8,8 +8,9 @@ ghost use Rattle.gl_vm.specs.Steps.{Does, put_attr};
 ghost use Rattle.gl_append.specs.CodeView.{seen_attr_spot};
 
 use crate::asks::{has_once, is_text};
-use crate::positions::{attribute, is_stale, shown};
+use crate::positions::{attribute, shown};
 use gl_append::AttrSpot;
+use gl_asks::is_stale;
 use gl_nodes::NodeId;
 use gl_refs::RefId;
 use gl_value::Text;

@@ -4,13 +4,14 @@ ghost use Rattle.gl_plain.specs.Naming.{by_number};
 ghost use Rattle.gl_machine.specs.Code.{Code as PlainCode, live_of};
 ghost use Rattle.gl_machine.specs.Shape.{nest};
 ghost use Rattle.gl_guards.specs.Along.{along_root_code_as};
+ghost use Rattle.gl_guards.specs.Once.{KeysOnce};
 ghost use Rattle.gl_kept.specs.Between.{moved_between};
 ghost use Rattle.gl_vm.specs.View.{Calm};
 ghost use Rattle.gl_append.specs.CodeView.{seen_code};
 ghost use Rattle.gl_append.specs.Hung.{nest_of};
 ghost use Rattle.gl_update.specs.Renewing.{Renews, RenewFails};
 
-use crate::codes::renew_codes;
+use crate::codes::renew_body;
 use crate::counting::Moved;
 use crate::trail::Trail;
 use gl_append::{Cells, Code, Page, VmFault};
@@ -22,13 +23,14 @@ use std::alloc::Global;
 /// Changes a page so that it shows the cells of now: what a touched source reached is evaluated again, branches of which the
 /// condition flipped are ended and the other ones appended, items are kept by their keys. New instances have the initial
 /// values of their fields. The nodes of the page then stand in its tree as they were rendered, in their order, and no others.
-/// It answers how many items were moved, each by one move of nodes. After a fault the page is not to be used.
+/// What has few positions, none of them stale, is passed over. It answers how many items were moved, each by one move of nodes; that they are
+/// those between the two updating programs is said of one in which no key of a list stands twice. After a fault the page is not to be used.
 pub fn update(alloc: Global, app: &App, cells: &Cells, page: &mut Page) -> Result<Moved, VmFault>
     requires calm { Calm page.old.vm }
     ensures ok { OnOk result (Renews app.now cells.now (λ n run. along_root_code_as by_number app.now.manifest.limit run (seen_code n page.old.code)) page.old.vm (λ n. seen_code n page.new.code) page.new.vm) }
     ensures fails { IfErr result (RenewFails {A = PlainCode} app.now cells.now (λ n run. along_root_code_as by_number app.now.manifest.limit run (seen_code n page.old.code)) page.old.vm) }
     ensures nodes { OnOk result ((n : _) → nest_of page.new.vm.tree.forest ≡ nest (live_of (seen_code n page.new.code))) }
-    ensures moved { IfOk result (λ m. (n : _) → m.items ≡ moved_between (live_of (seen_code n page.old.code)) (live_of (seen_code n page.new.code))) }
+    ensures moved { IfOk result (λ m. (n : _) → KeysOnce (live_of (seen_code n page.old.code)) → m.items ≡ moved_between (live_of (seen_code n page.old.code)) (live_of (seen_code n page.new.code))) }
     ensures moves { IfOk result (λ m. page.new.vm.tree.moves ≡ page.old.vm.tree.moves + m.items) }
     ensures calm { Calm page.new.vm }
 {
@@ -55,7 +57,7 @@ fn renew_page(alloc: Global, app: &App, cells: &Cells, page: &mut Page) -> Resul
     requires calm { Calm page.old.vm }
     ensures ok { OnOk result (Renews app.now cells.now (λ n run. along_root_code_as by_number app.now.manifest.limit run (seen_code n page.old.code)) page.old.vm (λ n. seen_code n page.new.code) page.new.vm) }
     ensures fails { IfErr result (RenewFails {A = PlainCode} app.now cells.now (λ n run. along_root_code_as by_number app.now.manifest.limit run (seen_code n page.old.code)) page.old.vm) }
-    ensures moved { IfOk result (λ m. (n : _) → m.items ≡ moved_between (live_of (seen_code n page.old.code)) (live_of (seen_code n page.new.code))) }
+    ensures moved { IfOk result (λ m. (n : _) → KeysOnce (live_of (seen_code n page.old.code)) → m.items ≡ moved_between (live_of (seen_code n page.old.code)) (live_of (seen_code n page.new.code))) }
     ensures calm { Calm page.new.vm }
 {
     let limit = app.manifest().limit;
@@ -68,7 +70,7 @@ fn renew_page(alloc: Global, app: &App, cells: &Cells, page: &mut Page) -> Resul
     let mut trail = Trail::of(alloc, &root);
     let mut moved = Moved::none();
     match &mut page.code {
-        Code::Root { body, .. } => match renew_codes(
+        Code::Root { body, .. } => match renew_body(
             &mut page.vm,
             alloc,
             app,

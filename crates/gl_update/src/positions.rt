@@ -1,43 +1,21 @@
 // Positions that are evaluated again where they are stale. What does not fit the machine is told as want of memory.
-ghost use Rattle.std.specs.Prelude.{◌≡◌, true, IfOk, OnOk};
+ghost use Rattle.std.specs.Prelude.{◌≡◌, IfOk, OnOk};
 ghost use Rattle.gl_value.specs.View.{view};
-ghost use Rattle.gl_refs.specs.Refs.{forms_of};
 ghost use Rattle.gl_meaning.specs.Eval.{takes_first};
 ghost use Rattle.gl_meaning.specs.Parts.{attribute_value};
 ghost use Rattle.gl_plain.specs.Binding.{first_value};
 ghost use Rattle.gl_plain.specs.Renew as r;
 ghost use Rattle.gl_plain.specs.Renew.{spot_pairs};
 ghost use Rattle.gl_vm.specs.Labels.{labelled};
-ghost use Rattle.gl_vm.specs.View.{Calm, Agrees, is_all, state_of};
+ghost use Rattle.gl_vm.specs.View.{Calm, Agrees, state_of};
 ghost use Rattle.gl_vm.specs.Steps.{Does};
 
-use crate::asks::position;
 use gl_append::{attribute_over, takes, value_of};
+use gl_asks::is_stale;
 use gl_refs::RefId;
 use gl_value::{Text, Value};
 use gl_vm::Vm;
 use std::alloc::{AllocError, Global};
-
-/// Whether a position is stale: a source that it read at its last evaluation was touched.
-#[inline(never)]
-pub(crate) fn is_stale(vm: &mut Vm, id: RefId) -> Result<bool, AllocError>
-    requires calm { Calm vm.old }
-    ensures exact { IfOk result (λ b. (n : _) (touched : _) → Agrees touched vm.old → r.is_stale (state_of n vm.old touched) id.1 ≡ b) }
-    ensures position { IfOk result (λ b. is_all (forms_of vm.new.refs id) ≡ true) }
-    ensures still { Does (λ n st. st) vm.old vm.new }
-    ensures calm { Calm vm.new }
-{
-    if !vm.refs.room() {
-        return Err(AllocError);
-    }
-    if vm.refs.now() == 0 {
-        return Err(AllocError);
-    }
-    if !position(&vm.refs, id) {
-        return Err(AllocError);
-    }
-    Ok(vm.stale(id))
-}
 
 /// Evaluates a position again where it is stale, and tells whether it was.
 #[inline(never)]

@@ -24,7 +24,7 @@ ghost use Rattle.gl_update.specs.Counted.{CodeMoved, HasKey, ItemMoved, ItemsMov
 ghost use Rattle.gl_update.specs.OldItems.{IsReady, OneItem, unboxed};
 ghost use Rattle.gl_update.specs.Renewing.{Renews, RenewFails};
 
-use crate::codes::renew_codes;
+use crate::codes::renew_body;
 use crate::counting::Moved;
 use crate::ending_items::end_items;
 use crate::items::{add, fresh_item, item_path};
@@ -138,7 +138,7 @@ fn kept_item(
     ensures calm { Calm vm.new }
 {
     let mut kept = begin_item(vm, trail, old, entry)?;
-    match renew_codes(
+    match renew_body(
         vm,
         alloc,
         app,

@@ -10,7 +10,10 @@ ghost use Rattle.gl_nodes.specs.Flat.{stamp_of};
 ghost use Rattle.gl_plain.specs.Binding.{first_value};
 ghost use Rattle.gl_plain.specs.Renew.{spot_pairs};
 ghost use Rattle.gl_plain.specs.Renew as r;
+ghost use Rattle.gl_plain.specs.Counts.{positions_items};
 ghost use Rattle.gl_machine.specs.Code as c;
+ghost use Rattle.gl_machine.specs.Code.{items_of};
+ghost use Rattle.gl_guards.specs.Along.{enters_few};
 ghost use Rattle.gl_vm.specs.Labels.{labelled};
 ghost use Rattle.gl_vm.specs.View.{Agrees, Calm, state_of};
 ghost use Rattle.gl_vm.specs.Steps.{Does};
@@ -24,11 +27,12 @@ ghost use Rattle.gl_meaning.specs.View.{path_view};
 ghost use Rattle.gl_update.specs.View.{trail_view};
 
 use crate::old_items::Work;
-use crate::positions::{is_stale, reread, shown};
+use crate::positions::{reread, shown};
 use crate::seating::Seat;
 use crate::standing::before_items;
 use crate::trail::Trail;
 use gl_append::{Code, Codes, Entry, ItemCode, Listing, Spot, VmFault, keyed_items_of};
+use gl_asks::{enters_items, is_stale};
 use gl_each::Keys;
 use gl_meaning::Path;
 use gl_nodes::NodeId;
@@ -202,6 +206,19 @@ pub(crate) fn ask_list(vm: &mut Vm, list: Box<Listed>) -> Result<(Box<Listed>, b
 {
     let stale = is_stale(vm, list.spot.id)?;
     Ok((list, stale))
+}
+
+/// Whether the items of a list are entered. The list is handed through likewise.
+#[inline(never)]
+pub(crate) fn ask_items(vm: &mut Vm, list: Box<Listed>) -> Result<(Box<Listed>, bool), AllocError>
+    requires calm { Calm vm.old }
+    ensures list { IfOk result (λ x. x.0 ≡ list) }
+    ensures asked { IfOk result (λ x. (n : _) (touched : _) → Agrees touched vm.old → enters_few (state_of n vm.old touched) (positions_items (items_of (all_items (map (seen_item_code n) list.value.items.items)))) ≡ x.1) }
+    ensures still { Does (λ n st. st) vm.old vm.new }
+    ensures calm { Calm vm.new }
+{
+    let enters = enters_items(vm, &list.items)?;
+    Ok((list, enters))
 }
 
 /// What a list with items has now.

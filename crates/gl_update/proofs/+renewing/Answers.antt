@@ -4,7 +4,7 @@ use Rattle.std.proofs.lemmas.List.{length-set}
 use Rattle.std.proofs.lemmas.Result.{on_ok_weaker, IfOk-weaker, IfErr-weaker}
 use Rattle.std.specs.Cmp.{booleans_Decides}
 use Rattle.gl_meaning.specs.Path.{at, main, otherwise, slot, Path, item, items}
-use Rattle.gl_meaning.specs.View.{path_view}
+use Rattle.gl_meaning.specs.View.{path_view, path_step_view}
 use Rattle.gl_nodes.specs.Flat.{stamp_of}
 use Rattle.gl_plain.specs.Ids as ids
 use Rattle.gl_plain.specs.Naming.{by_number}
@@ -39,10 +39,12 @@ use Rattle.gl_value.specs.Value.{plain}
 use Rattle.gl_value.specs.View.{view}
 use Rattle.gl_plain.specs.Live.{times_items, times_in, times_comment}
 use Rattle.gl_machine.specs.Code.{Listing, Code as PlainCode, Codes as PlainCodes, ItemCodes, listed_code, unlisted_code, items_of, lives_of, live_of}
-use Rattle.gl_guards.specs.Along.{along_code_as, along_codes_as}
+use Rattle.gl_plain.specs.Counts.{positions_in}
+use Rattle.gl_guards.specs.Along.{along_code_as, along_codes_as, along_body_as}
+use Rattle.gl_update.proofs.Regions.{region_entered, region_fails, region_passed}
 use Rattle.gl_append.specs.MachineView.{seen_entry, seen_left}
 use Rattle.gl_append.proofs.ListEnds.{none_counted, some_counted, none_left}
-use Rattle.gl_update.specs.ListItems.{Item, there, FreshItem, ListsFresh, ListsNone, Syncs, Relists, AlongItem, GoesAlong, KeptItem, SyncItems, spot_key}
+use Rattle.gl_update.specs.ListItems.{Item, there, FreshItem, ListsFresh, ListsNone, Syncs, Relists, AlongItem, EntersList, GoesAlong, KeptItem, SyncItems, spot_key}
 use Rattle.gl_update.specs.OldItems.{OneItem, unboxed, code_key}
 use Rattle.gl_update.specs.NextItem.{Follows, Taking}
 use Rattle.gl_update.specs.TakenLists.{TakenOut}
@@ -61,9 +63,9 @@ use Rattle.gl_update.proofs.ListUpdates.{unlisted_stays, unlisted_stays_fails, u
 use Rattle.gl_update.proofs.Still.{renews_on}
 use Rattle.gl_each.specs.Key.{entry_key}
 use Rattle.gl_update.specs.Counted.{CodeMoved, CodesMoved, HasKey, IsListed, IsUnlisted, ItemMoved, ItemsAlong, KeptMoved}
-use Rattle.gl_update.proofs.MovedCodes.{none_moved, code_moved, arm_moved, walked_begin, walked_next, walked_end, same_moved, flip_moved, ended_moved, begun_moved, kept_moved}
-use Rattle.gl_update.proofs.AlongCounts.{along_begin, along_next, along_end, list_along}
-use Rattle.gl_update.proofs.AlongItems.{along_renews, along_fails, items_begin, items_next, items_fail, items_end, list_goes, list_goes_fails}
+use Rattle.gl_update.proofs.MovedCodes.{none_moved, code_moved, arm_moved, walked_begin, walked_next, walked_end, same_moved, flip_moved, stays_moved, ended_moved, begun_moved, kept_moved}
+use Rattle.gl_update.proofs.AlongCounts.{along_begin, along_next, along_end, list_along, list_stays}
+use Rattle.gl_update.proofs.AlongItems.{along_renews, along_fails, items_begin, items_next, items_fail, items_end, list_goes, list_goes_fails, list_entered, list_fails, list_passed}
 use Rattle.gl_update.proofs.SyncCounts.{syncing_begin, syncing_next, syncing_end, list_moved}
 use Rattle.gl_update.proofs.+renewing.Goals as goal
 
@@ -94,17 +96,101 @@ codes::renew_element-returns-in-Err-clause-fails t c = λ made.
     element_fails c.args.app.now c.args.cells.now c.args.left (trail_view c.args.trail.now) c.args.node.1 made (map seen_attr_spot c.args.attrs.now.items) (map seen_mod_spot c.args.mods.now.items) c.args.body.now c.args.vm.now c.renew_attrs.new.vm c.in-Err.fault
     (subst (λ xs. Does (λ n. renew_attrs c.args.node.1 (map seen_attr_spot xs)) c.args.vm.now c.renew_attrs.new.vm) c.as_slice.ensures.value c.in_ok-renew_attrs.ensures.step) c.in-Err.ensures.fails
 
+pub codes::renew_body-returns-then-branch-clause-ok : goal.codes::renew_body-returns-then-branch-clause-ok
+codes::renew_body-returns-then-branch-clause-ok t c =
+    on_ok_weaker c.renew_codes.result
+    (region_entered c.args.app.now c.args.cells.now p.Codes (λ n. positions_in (lives_of (seen_codes n c.args.codes.now))) (λ n. seen_codes n c.args.codes.now) (Below c.args.app.now c.args.cells.now c.args.left (trail_view c.args.trail.now) (trail_view c.args.trail.now) c.args.codes.now)
+    c.args.vm.now c.enters_body.new.vm c.renew_codes.new.vm (λ n. seen_codes n c.renew_codes.new.codes) (λ n u agrees. c.in_ok-enters_body.ensures.asked n u agrees ∙ c.if-branch.true) c.enters_body.ensures.still)
+    c.renew_codes.ensures.ok
+
+pub codes::renew_body-returns-then-branch-clause-fails : goal.codes::renew_body-returns-then-branch-clause-fails
+codes::renew_body-returns-then-branch-clause-fails t c =
+    if_err c.renew_codes.result
+    (λ f r. region_fails c.args.app.now c.args.cells.now p.Codes (λ n. positions_in (lives_of (seen_codes n c.args.codes.now))) (λ n. seen_codes n c.args.codes.now) (Below c.args.app.now c.args.cells.now c.args.left (trail_view c.args.trail.now) (trail_view c.args.trail.now) c.args.codes.now)
+    c.args.vm.now c.enters_body.new.vm f (λ n u agrees. c.in_ok-enters_body.ensures.asked n u agrees ∙ c.if-branch.true) c.enters_body.ensures.still r)
+    c.renew_codes.ensures.fails
+
+pub codes::renew_body-returns-else-branch-clause-ok : goal.codes::renew_body-returns-else-branch-clause-ok
+codes::renew_body-returns-else-branch-clause-ok t c =
+    region_passed c.args.app.now c.args.cells.now p.Codes (λ n. positions_in (lives_of (seen_codes n c.args.codes.now))) (λ n. seen_codes n c.args.codes.now) (Below c.args.app.now c.args.cells.now c.args.left (trail_view c.args.trail.now) (trail_view c.args.trail.now) c.args.codes.now)
+    c.args.vm.now c.enters_body.new.vm (λ n u agrees. c.in_ok-enters_body.ensures.asked n u agrees ∙ c.if-branch.false) c.enters_body.ensures.still
+
+pub codes::renew_body-returns-else-branch-clause-moved : goal.codes::renew_body-returns-else-branch-clause-moved
+codes::renew_body-returns-else-branch-clause-moved t c = stays_moved c.args.moved.now (λ n. seen_codes n c.args.codes.now)
+
+pub codes::renew_side-returns-then-branch-clause-ok : goal.codes::renew_side-returns-then-branch-clause-ok
+codes::renew_side-returns-then-branch-clause-ok t c =
+    on_ok_weaker c.renew_below.result
+    (region_entered c.args.app.now c.args.cells.now p.Codes (λ n. positions_in (lives_of (seen_codes n c.args.body.now))) (λ n. seen_codes n c.args.body.now) (Below c.args.app.now c.args.cells.now c.args.left (path_step_view c.args.step ∷ trail_view c.args.trail.now) (path_step_view c.args.step ∷ trail_view c.args.trail.now) c.args.body.now)
+    c.args.vm.now c.enters_body.new.vm c.renew_below.new.vm (λ n. seen_codes n c.renew_below.new.body) (λ n u agrees. c.in_ok-enters_body.ensures.asked n u agrees ∙ c.if-branch.true) c.enters_body.ensures.still)
+    c.renew_below.ensures.ok
+
+pub codes::renew_side-returns-then-branch-clause-fails : goal.codes::renew_side-returns-then-branch-clause-fails
+codes::renew_side-returns-then-branch-clause-fails t c =
+    if_err c.renew_below.result
+    (λ f r. region_fails c.args.app.now c.args.cells.now p.Codes (λ n. positions_in (lives_of (seen_codes n c.args.body.now))) (λ n. seen_codes n c.args.body.now) (Below c.args.app.now c.args.cells.now c.args.left (path_step_view c.args.step ∷ trail_view c.args.trail.now) (path_step_view c.args.step ∷ trail_view c.args.trail.now) c.args.body.now)
+    c.args.vm.now c.enters_body.new.vm f (λ n u agrees. c.in_ok-enters_body.ensures.asked n u agrees ∙ c.if-branch.true) c.enters_body.ensures.still r)
+    c.renew_below.ensures.fails
+
+pub codes::renew_side-returns-else-branch-clause-ok : goal.codes::renew_side-returns-else-branch-clause-ok
+codes::renew_side-returns-else-branch-clause-ok t c =
+    region_passed c.args.app.now c.args.cells.now p.Codes (λ n. positions_in (lives_of (seen_codes n c.args.body.now))) (λ n. seen_codes n c.args.body.now) (Below c.args.app.now c.args.cells.now c.args.left (path_step_view c.args.step ∷ trail_view c.args.trail.now) (path_step_view c.args.step ∷ trail_view c.args.trail.now) c.args.body.now)
+    c.args.vm.now c.enters_body.new.vm (λ n u agrees. c.in_ok-enters_body.ensures.asked n u agrees ∙ c.if-branch.false) c.enters_body.ensures.still
+
+pub codes::renew_side-returns-else-branch-clause-moved : goal.codes::renew_side-returns-else-branch-clause-moved
+codes::renew_side-returns-else-branch-clause-moved t c = stays_moved c.args.moved.now (λ n. seen_codes n c.args.body.now)
+
+pub along::walk_list-returns-then-enters-clause-ok : goal.along::walk_list-returns-then-enters-clause-ok
+along::walk_list-returns-then-enters-clause-ok t c =
+    let z : Tables → Listing = λ n. seen_listing n c.args.list.value.listing in
+    let s = seen_spot c.args.list.value.spot in
+    let p = trail_view c.args.trail.now in
+    let xs : Tables → List Item = λ n. map (seen_item_code n) c.args.list.value.items.items in
+    IfOk-weaker c.walk_entered.result (λ r. Renews c.args.app.now c.args.cells.now (EntersList z s c.args.left p xs) c.ask_items.new.vm (λ n. seen_code n r.value) c.walk_entered.new.vm)
+    (λ r. Renews c.args.app.now c.args.cells.now (GoesAlong z s c.args.left p xs) c.args.vm.now (λ n. seen_code n r.value) c.walk_entered.new.vm)
+    (λ r h. list_entered c.args.app.now c.args.cells.now z s c.args.left p xs c.args.vm.now c.ask_items.new.vm c.walk_entered.new.vm (λ n. seen_code n r.value) (λ n u agrees. c.in_ok-asked.ensures.asked n u agrees ∙ c.if-enters.true) c.ask_items.ensures.still h)
+    (subst (λ (b : Box Listed Global). IfOk c.walk_entered.result (λ r. Renews c.args.app.now c.args.cells.now (EntersList (λ n. seen_listing n b.value.listing) (seen_spot b.value.spot) c.args.left p (λ n. map (seen_item_code n) b.value.items.items)) c.ask_items.new.vm (λ n. seen_code n r.value) c.walk_entered.new.vm)) c.in_ok-asked.ensures.list c.walk_entered.ensures.ok)
+
+pub along::walk_list-returns-then-enters-clause-fails : goal.along::walk_list-returns-then-enters-clause-fails
+along::walk_list-returns-then-enters-clause-fails t c =
+    let z : Tables → Listing = λ n. seen_listing n c.args.list.value.listing in
+    let s = seen_spot c.args.list.value.spot in
+    let p = trail_view c.args.trail.now in
+    let xs : Tables → List Item = λ n. map (seen_item_code n) c.args.list.value.items.items in
+    IfErr-weaker c.walk_entered.result (RenewFails {A = PlainCode} c.args.app.now c.args.cells.now (EntersList z s c.args.left p xs) c.ask_items.new.vm) (RenewFails {A = PlainCode} c.args.app.now c.args.cells.now (GoesAlong z s c.args.left p xs) c.args.vm.now)
+    (λ f h. list_fails c.args.app.now c.args.cells.now z s c.args.left p xs c.args.vm.now c.ask_items.new.vm f (λ n u agrees. c.in_ok-asked.ensures.asked n u agrees ∙ c.if-enters.true) c.ask_items.ensures.still h)
+    (subst (λ (b : Box Listed Global). IfErr c.walk_entered.result (RenewFails {A = PlainCode} c.args.app.now c.args.cells.now (EntersList (λ n. seen_listing n b.value.listing) (seen_spot b.value.spot) c.args.left p (λ n. map (seen_item_code n) b.value.items.items)) c.ask_items.new.vm)) c.in_ok-asked.ensures.list c.walk_entered.ensures.fails)
+
+pub along::walk_list-returns-then-enters-clause-moved : goal.along::walk_list-returns-then-enters-clause-moved
+along::walk_list-returns-then-enters-clause-moved t c =
+    subst (λ (b : Box Listed Global). IfOk c.walk_entered.result (λ r. CodeMoved c.args.moved.now c.walk_entered.new.moved (λ n. listed_code (seen_listing n b.value.listing) (seen_spot b.value.spot) (all_items (map (seen_item_code n) b.value.items.items))) (λ n. seen_code n r.value))) c.in_ok-asked.ensures.list c.walk_entered.ensures.moved
+
+pub along::walk_list-returns-in_ok-with_items-clause-ok : goal.along::walk_list-returns-in_ok-with_items-clause-ok
+along::walk_list-returns-in_ok-with_items-clause-ok t c =
+    let l = c.args.list.value in
+    let made : (n : Tables) → seen_code n c.in_ok-with_items.field-0.value ≡ listed_code (seen_listing n l.listing) (seen_spot l.spot) (all_items (map (seen_item_code n) l.items.items)) =
+    λ n. c.in_ok-with_items.ensures n ∙ ap (λ (b : Box Listed Global). listed_code (seen_listing n b.value.listing) (seen_spot b.value.spot) (all_items (map (seen_item_code n) b.value.items.items))) c.in_ok-asked.ensures.list in
+    list_passed c.args.app.now c.args.cells.now (λ n. seen_listing n l.listing) (seen_spot l.spot) c.args.left (trail_view c.args.trail.now) (λ n. map (seen_item_code n) l.items.items) c.args.vm.now c.ask_items.new.vm (λ n. seen_code n c.in_ok-with_items.field-0.value) made
+    (λ n u agrees. c.in_ok-asked.ensures.asked n u agrees ∙ c.if-enters.false) c.ask_items.ensures.still
+
+pub along::walk_list-returns-in_ok-with_items-clause-moved : goal.along::walk_list-returns-in_ok-with_items-clause-moved
+along::walk_list-returns-in_ok-with_items-clause-moved t c =
+    let l = c.args.list.value in
+    let made : (n : Tables) → seen_code n c.in_ok-with_items.field-0.value ≡ listed_code (seen_listing n l.listing) (seen_spot l.spot) (all_items (map (seen_item_code n) l.items.items)) =
+    λ n. c.in_ok-with_items.ensures n ∙ ap (λ (b : Box Listed Global). listed_code (seen_listing n b.value.listing) (seen_spot b.value.spot) (all_items (map (seen_item_code n) b.value.items.items))) c.in_ok-asked.ensures.list in
+    list_stays c.args.moved.now (λ n. seen_listing n l.listing) (seen_spot l.spot) l.items.items (λ n. seen_code n c.in_ok-with_items.field-0.value) made
+
 pub codes::renew_component-returns-clause-ok : goal.codes::renew_component-returns-clause-ok
 codes::renew_component-returns-clause-ok t c =
-    on_ok_weaker c.renew_codes.result
-    (λ r i made gm args k q e. component_renews c.args.app.now c.args.cells.now c.args.left q i made gm args k (c.args.left - 1) (omega arith) (trail_view c.of-trail.result) (e ∙ sym c.of-trail.ensures) c.args.body.now c.renew_codes.new.codes c.args.vm.now c.renew_codes.new.vm r)
-    c.renew_codes.ensures.ok
+    on_ok_weaker c.renew_body.result
+    (λ r i made gm args k q e. component_renews c.args.app.now c.args.cells.now c.args.left q i made gm args k (c.args.left - 1) (omega arith) (trail_view c.of-trail.result) (e ∙ sym c.of-trail.ensures) c.args.body.now c.renew_body.new.codes c.args.vm.now c.renew_body.new.vm r)
+    c.renew_body.ensures.ok
 
 pub codes::renew_component-returns-clause-fails : goal.codes::renew_component-returns-clause-fails
 codes::renew_component-returns-clause-fails t c = λ i made gm args k q e.
-    if_err c.renew_codes.result
+    if_err c.renew_body.result
     (λ f r. component_fails c.args.app.now c.args.cells.now c.args.left q i made gm args k (c.args.left - 1) (omega arith) (trail_view c.of-trail.result) (e ∙ sym c.of-trail.ensures) c.args.body.now c.args.vm.now f r)
-    c.renew_codes.ensures.fails
+    c.renew_body.ensures.fails
 
 pub codes::renew_codes-loop-place-init : goal.codes::renew_codes-loop-place-init
 codes::renew_codes-loop-place-init t c = record {
@@ -161,9 +247,9 @@ codes::renew_codes-returns-clause-moved t c =
 pub branches::renew_branch-returns-then-shows-main-clause-moved : goal.branches::renew_branch-returns-then-shows-main-clause-moved
 branches::renew_branch-returns-then-shows-main-clause-moved t c =
     let z : Tables → p.Choice = λ n. seen_choice n c.args.choice.now in
-    on_ok_weaker c.renew_below.result
-    (λ r. same_moved c.args.moved.now c.renew_below.new.moved z z (seen_spot c.args.spot.now) c.args.main.now (stamp_of c.args.comment.now) (stamp_of c.args.comment.now) (λ n. seen_codes n c.args.body.now) (λ n. seen_codes n c.renew_below.new.body) r)
-    c.renew_below.ensures.moved
+    on_ok_weaker c.renew_side.result
+    (λ r. same_moved c.args.moved.now c.renew_side.new.moved z z (seen_spot c.args.spot.now) c.args.main.now (stamp_of c.args.comment.now) (stamp_of c.args.comment.now) (λ n. seen_codes n c.args.body.now) (λ n. seen_codes n c.renew_side.new.body) r)
+    c.renew_side.ensures.moved
 
 pub branches::renew_branch-returns-else-shows-main-clause-moved : goal.branches::renew_branch-returns-else-shows-main-clause-moved
 branches::renew_branch-returns-else-shows-main-clause-moved t c =
@@ -177,23 +263,23 @@ pub branches::renew_branch-returns-then-shows-main-clause-ok : goal.branches::re
 branches::renew_branch-returns-then-shows-main-clause-ok t c =
     let b = c.args.main.now in
     let e : c.in_ok-shows.shows ≡ b = (booleans_Decides c.in_ok-shows.shows b).0 c.if-shows-main.true in
-    on_ok_weaker c.renew_below.result
-    (λ r. branch_kept c.args.app.now c.args.cells.now c.args.left (trail_view c.args.trail.now) (λ n. seen_choice n c.args.choice.now) (seen_spot c.args.spot.now) (stamp_of c.args.comment.now) (λ n. seen_codes n c.args.body.now) b c.args.vm.now c.condition.new.vm c.renew_below.new.vm (λ n. seen_codes n c.renew_below.new.body)
+    on_ok_weaker c.renew_side.result
+    (λ r. branch_kept c.args.app.now c.args.cells.now c.args.left (trail_view c.args.trail.now) (λ n. seen_choice n c.args.choice.now) (seen_spot c.args.spot.now) (stamp_of c.args.comment.now) (λ n. seen_codes n c.args.body.now) b c.args.vm.now c.condition.new.vm c.renew_side.new.vm (λ n. seen_codes n c.renew_side.new.body)
     c.in_ok-shows.ensures.step (λ n u. c.in_ok-shows.ensures.shows n u ∙ e)
-    (subst (λ q. Renews c.args.app.now c.args.cells.now (λ n run. along_codes_as by_number run c.args.left (q ∷ trail_view c.args.trail.now) 0 (seen_codes n c.args.body.now)) c.condition.new.vm (λ n. seen_codes n c.renew_below.new.body) c.renew_below.new.vm)
+    (subst (λ q. Renews c.args.app.now c.args.cells.now (λ n run. along_body_as by_number run c.args.left (q ∷ trail_view c.args.trail.now) (seen_codes n c.args.body.now)) c.condition.new.vm (λ n. seen_codes n c.renew_side.new.body) c.renew_side.new.vm)
     (c.side.ensures ∙ ap (λ z. if z then main else otherwise) e) r))
-    c.renew_below.ensures.ok
+    c.renew_side.ensures.ok
 
 pub branches::renew_branch-returns-then-shows-main-clause-fails : goal.branches::renew_branch-returns-then-shows-main-clause-fails
 branches::renew_branch-returns-then-shows-main-clause-fails t c =
     let b = c.args.main.now in
     let e : c.in_ok-shows.shows ≡ b = (booleans_Decides c.in_ok-shows.shows b).0 c.if-shows-main.true in
-    if_err c.renew_below.result
+    if_err c.renew_side.result
     (λ f r. branch_kept_fails c.args.app.now c.args.cells.now c.args.left (trail_view c.args.trail.now) (λ n. seen_choice n c.args.choice.now) (seen_spot c.args.spot.now) (stamp_of c.args.comment.now) (λ n. seen_codes n c.args.body.now) b c.args.vm.now c.condition.new.vm f
     c.in_ok-shows.ensures.step (λ n u. c.in_ok-shows.ensures.shows n u ∙ e)
-    (subst (λ q. RenewFails {A = p.Codes} c.args.app.now c.args.cells.now (λ n run. along_codes_as by_number run c.args.left (q ∷ trail_view c.args.trail.now) 0 (seen_codes n c.args.body.now)) c.condition.new.vm f)
+    (subst (λ q. RenewFails {A = p.Codes} c.args.app.now c.args.cells.now (λ n run. along_body_as by_number run c.args.left (q ∷ trail_view c.args.trail.now) (seen_codes n c.args.body.now)) c.condition.new.vm f)
     (c.side.ensures ∙ ap (λ z. if z then main else otherwise) e) r))
-    c.renew_below.ensures.fails
+    c.renew_side.ensures.fails
 
 pub branches::renew_branch-returns-else-shows-main-clause-ok : goal.branches::renew_branch-returns-else-shows-main-clause-ok
 branches::renew_branch-returns-else-shows-main-clause-ok t c =
@@ -560,52 +646,56 @@ lists::renew_listed-returns-else-stale-clause-moved t c =
 
 -- a list that wasn't touched
 
-pub along::walk_list-returns-in_ok-with_items-in-Ok-clause-ok : goal.along::walk_list-returns-in_ok-with_items-in-Ok-clause-ok
-along::walk_list-returns-in_ok-with_items-in-Ok-clause-ok t c =
+pub along::walk_entered-returns-in_ok-with_items-in-Ok-clause-ok : goal.along::walk_entered-returns-in_ok-with_items-in-Ok-clause-ok
+along::walk_entered-returns-in_ok-with_items-in-Ok-clause-ok t c =
     let l = c.args.list.value in
-    let d : c.deref_mut.result.now ≡ l = c.deref_mut.ensures.value ∙ ap (λ (b : Box Listed Global). b.value) c.in_ok-once.ensures.list in
+    let d : c.deref_mut.result.now ≡ l = c.deref_mut.ensures.value in
     let made : (n : Tables) → seen_code n c.in_ok-with_items-in-Ok.field-0.value ≡ listed_code (seen_listing n l.listing) (seen_spot l.spot) (all_items (map (seen_item_code n) c.walk_items.new.items.items)) =
     λ n. c.in_ok-with_items-in-Ok.ensures n ∙ ap (λ (x : Listed). listed_code (seen_listing n x.listing) (seen_spot x.spot) (all_items (map (seen_item_code n) c.walk_items.new.items.items))) d in
     list_goes c.args.app.now c.args.cells.now (λ n. seen_listing n l.listing) (seen_spot l.spot) c.args.left (trail_view c.args.trail.now) (trail_view c.push.new.self) c.in_ok-push.ensures.view l.items.items c.deref_mut.result.now.items.items (ap (λ (x : Listed). x.items.items) d)
     (λ n. all_items (map (seen_item_code n) c.walk_items.new.items.items)) (λ n. seen_code n c.in_ok-with_items-in-Ok.field-0.value) c.args.vm.now c.walk_items.new.vm made c.in-Ok.ensures.ok
 
-pub along::walk_list-returns-in-Err-clause-fails : goal.along::walk_list-returns-in-Err-clause-fails
-along::walk_list-returns-in-Err-clause-fails t c =
+pub along::walk_entered-returns-in-Err-clause-fails : goal.along::walk_entered-returns-in-Err-clause-fails
+along::walk_entered-returns-in-Err-clause-fails t c =
     let l = c.args.list.value in
-    let d : c.deref_mut.result.now ≡ l = c.deref_mut.ensures.value ∙ ap (λ (b : Box Listed Global). b.value) c.in_ok-once.ensures.list in
-    subst (RenewFails {A = PlainCode} c.args.app.now c.args.cells.now (GoesAlong (λ n. seen_listing n l.listing) (seen_spot l.spot) c.args.left (trail_view c.args.trail.now) (λ n. map (seen_item_code n) l.items.items)) c.args.vm.now) (sym c.lost_items.ensures)
+    let d : c.deref_mut.result.now ≡ l = c.deref_mut.ensures.value in
+    subst (RenewFails {A = PlainCode} c.args.app.now c.args.cells.now (EntersList (λ n. seen_listing n l.listing) (seen_spot l.spot) c.args.left (trail_view c.args.trail.now) (λ n. map (seen_item_code n) l.items.items)) c.args.vm.now) (sym c.lost_items.ensures)
     (list_goes_fails c.args.app.now c.args.cells.now (λ n. seen_listing n l.listing) (seen_spot l.spot) c.args.left (trail_view c.args.trail.now) (trail_view c.push.new.self) c.in_ok-push.ensures.view l.items.items c.deref_mut.result.now.items.items (ap (λ (x : Listed). x.items.items) d)
     c.args.vm.now c.in-Err.fault c.in-Err.ensures.fails)
 
-pub along::walk_list-returns-in_ok-with_items-in-Ok-clause-moved : goal.along::walk_list-returns-in_ok-with_items-in-Ok-clause-moved
-along::walk_list-returns-in_ok-with_items-in-Ok-clause-moved t c =
+pub along::walk_entered-returns-in_ok-with_items-in-Ok-clause-moved : goal.along::walk_entered-returns-in_ok-with_items-in-Ok-clause-moved
+along::walk_entered-returns-in_ok-with_items-in-Ok-clause-moved t c =
     let l = c.args.list.value in
-    let d : c.deref_mut.result.now ≡ l = c.deref_mut.ensures.value ∙ ap (λ (b : Box Listed Global). b.value) c.in_ok-once.ensures.list in
+    let d : c.deref_mut.result.now ≡ l = c.deref_mut.ensures.value in
     let made : (n : Tables) → seen_code n c.in_ok-with_items-in-Ok.field-0.value ≡ listed_code (seen_listing n l.listing) (seen_spot l.spot) (all_items (map (seen_item_code n) c.walk_items.new.items.items)) =
     λ n. c.in_ok-with_items-in-Ok.ensures n ∙ ap (λ (x : Listed). listed_code (seen_listing n x.listing) (seen_spot x.spot) (all_items (map (seen_item_code n) c.walk_items.new.items.items))) d in
-    list_along c.args.moved.now c.walk_items.new.moved (λ n. seen_listing n l.listing) (seen_spot l.spot) l.items.items c.walk_items.new.items.items (λ n. seen_code n c.in_ok-with_items-in-Ok.field-0.value) c.in_ok-once.ensures.once
+    list_along c.args.moved.now c.walk_items.new.moved (λ n. seen_listing n l.listing) (seen_spot l.spot) l.items.items c.walk_items.new.items.items (λ n. seen_code n c.in_ok-with_items-in-Ok.field-0.value)
     (subst (λ (x : Listed). ItemsAlong c.args.moved.now c.walk_items.new.moved x.items.items c.walk_items.new.items.items) d c.in-Ok.ensures.moved) made
 
 pub along::walk_item-returns-in-Ok-clause-ok : goal.along::walk_item-returns-in-Ok-clause-ok
 along::walk_item-returns-in-Ok-clause-ok t c =
     let x = c.args.item.now in
+    let a = c.args.app.now in
     let q : Path = item (plain (view x.spot.key)) x.spot.occurrence ∷ trail_view c.args.trail.now in
     let y : ItemCode = record { spot = x.spot; comment = x.comment; body = c.renew_codes.new.codes } in
-    along_renews c.args.app.now c.args.cells.now c.args.left (trail_view c.args.trail.now) q x.spot x.comment x.body (λ n. seen_item_code n x) c.args.vm.now (λ n. item_is n x) refl c.renew_codes.new.codes (λ n. seen_item_code n y) c.renew_codes.new.vm (λ n. item_is n y)
-    (subst (λ w. Renews c.args.app.now c.args.cells.now (λ n run. along_codes_as by_number run c.args.left w 0 (seen_codes n x.body)) c.args.vm.now (λ n. seen_codes n c.renew_codes.new.codes) c.renew_codes.new.vm) c.in_ok-enter_item.ensures.view c.in-Ok.ensures.ok)
+    along_renews a c.args.cells.now c.args.left (trail_view c.args.trail.now) q x.spot x.comment x.body (λ n. seen_item_code n x) c.args.vm.now (λ n. item_is n x) refl c.renew_codes.new.codes (λ n. seen_item_code n y) c.renew_codes.new.vm (λ n. item_is n y)
+    (region_entered a c.args.cells.now p.Codes (λ n. positions_in (lives_of (seen_codes n x.body))) (λ n. seen_codes n x.body) (Below a c.args.cells.now c.args.left q q x.body)
+    c.args.vm.now c.enters_body.new.vm c.renew_codes.new.vm (λ n. seen_codes n c.renew_codes.new.codes) (λ n u agrees. c.in_ok-enters_body.ensures.asked n u agrees ∙ c.if-branch.true) c.enters_body.ensures.still
+    (subst (λ w. Renews a c.args.cells.now (λ n run. along_codes_as by_number run c.args.left w 0 (seen_codes n x.body)) c.enters_body.new.vm (λ n. seen_codes n c.renew_codes.new.codes) c.renew_codes.new.vm) c.in_ok-enter_item.ensures.view c.in-Ok.ensures.ok))
 
 pub along::walk_item-returns-in-Err-clause-fails : goal.along::walk_item-returns-in-Err-clause-fails
 along::walk_item-returns-in-Err-clause-fails t c =
     let x = c.args.item.now in
+    let a = c.args.app.now in
     let q : Path = item (plain (view x.spot.key)) x.spot.occurrence ∷ trail_view c.args.trail.now in
-    let y : ItemCode = record { spot = x.spot; comment = x.comment; body = c.renew_codes.new.codes } in
-    along_fails c.args.app.now c.args.cells.now c.args.left (trail_view c.args.trail.now) q x.spot x.comment x.body (λ n. seen_item_code n x) c.args.vm.now (λ n. item_is n x) refl c.in-Err.fault
-    (subst (λ w. RenewFails {A = PlainCodes} c.args.app.now c.args.cells.now (λ n run. along_codes_as by_number run c.args.left w 0 (seen_codes n x.body)) c.args.vm.now c.in-Err.fault) c.in_ok-enter_item.ensures.view c.in-Err.ensures.fails)
+    along_fails a c.args.cells.now c.args.left (trail_view c.args.trail.now) q x.spot x.comment x.body (λ n. seen_item_code n x) c.args.vm.now (λ n. item_is n x) refl c.in-Err.fault
+    (region_fails a c.args.cells.now p.Codes (λ n. positions_in (lives_of (seen_codes n x.body))) (λ n. seen_codes n x.body) (Below a c.args.cells.now c.args.left q q x.body)
+    c.args.vm.now c.enters_body.new.vm c.in-Err.fault (λ n u agrees. c.in_ok-enters_body.ensures.asked n u agrees ∙ c.if-branch.true) c.enters_body.ensures.still
+    (subst (λ w. RenewFails {A = PlainCodes} a c.args.cells.now (λ n run. along_codes_as by_number run c.args.left w 0 (seen_codes n x.body)) c.enters_body.new.vm c.in-Err.fault) c.in_ok-enter_item.ensures.view c.in-Err.ensures.fails))
 
 pub along::walk_item-returns-in-Ok-clause-moved : goal.along::walk_item-returns-in-Ok-clause-moved
 along::walk_item-returns-in-Ok-clause-moved t c =
     let x = c.args.item.now in
-    let q : Path = item (plain (view x.spot.key)) x.spot.occurrence ∷ trail_view c.args.trail.now in
     let y : ItemCode = record { spot = x.spot; comment = x.comment; body = c.renew_codes.new.codes } in
     kept_moved c.args.moved.now c.renew_codes.new.moved c.renew_codes.new.moved false (λ n. seen_item_code n x) (λ n. seen_item_code n y) (λ n. seen_codes n x.body) (λ n. seen_codes n c.renew_codes.new.codes)
     (λ n. ap (λ (z : Item). z.1.1) (item_is n x)) (λ n. ap (λ (z : Item). z.1.1) (item_is n y)) c.in-Ok.ensures.moved (omega arith)
@@ -613,9 +703,24 @@ along::walk_item-returns-in-Ok-clause-moved t c =
 pub along::walk_item-returns-in-Ok-clause-key : goal.along::walk_item-returns-in-Ok-clause-key
 along::walk_item-returns-in-Ok-clause-key t c = λ n.
     let x = c.args.item.now in
-    let q : Path = item (plain (view x.spot.key)) x.spot.occurrence ∷ trail_view c.args.trail.now in
     let y : ItemCode = record { spot = x.spot; comment = x.comment; body = c.renew_codes.new.codes } in
     ap spot_key (item_is n y) ∙ sym (ap spot_key (item_is n x))
+
+pub along::walk_item-returns-else-branch-clause-ok : goal.along::walk_item-returns-else-branch-clause-ok
+along::walk_item-returns-else-branch-clause-ok t c =
+    let x = c.args.item.now in
+    let a = c.args.app.now in
+    let q : Path = item (plain (view x.spot.key)) x.spot.occurrence ∷ trail_view c.args.trail.now in
+    along_renews a c.args.cells.now c.args.left (trail_view c.args.trail.now) q x.spot x.comment x.body (λ n. seen_item_code n x) c.args.vm.now (λ n. item_is n x) refl x.body (λ n. seen_item_code n x) c.enters_body.new.vm (λ n. item_is n x)
+    (region_passed a c.args.cells.now p.Codes (λ n. positions_in (lives_of (seen_codes n x.body))) (λ n. seen_codes n x.body) (Below a c.args.cells.now c.args.left q q x.body)
+    c.args.vm.now c.enters_body.new.vm (λ n u agrees. c.in_ok-enters_body.ensures.asked n u agrees ∙ c.if-branch.false) c.enters_body.ensures.still)
+
+pub along::walk_item-returns-else-branch-clause-moved : goal.along::walk_item-returns-else-branch-clause-moved
+along::walk_item-returns-else-branch-clause-moved t c =
+    let x = c.args.item.now in
+    let m = c.args.moved.now in
+    kept_moved m m m false (λ n. seen_item_code n x) (λ n. seen_item_code n x) (λ n. seen_codes n x.body) (λ n. seen_codes n x.body)
+    (λ n. ap (λ (z : Item). z.1.1) (item_is n x)) (λ n. ap (λ (z : Item). z.1.1) (item_is n x)) (stays_moved m (λ n. seen_codes n x.body)) (omega arith)
 
 pub along::walk_items-loop-item-init : goal.along::walk_items-loop-item-init
 along::walk_items-loop-item-init t c = record {
@@ -707,7 +812,7 @@ lists::renew_unlisted-returns-in_ok-without_items-in-Ok-clause-ok t c =
     renews_as c.args.app.now c.args.cells.now (Unlisting c.args.app.now c.args.cells.now z c.args.list.value.listing.key (λ n. refl) s c.args.left p k cs) (λ n. unlisted_code (z n) s k (ds n)) (λ n. seen_code n c.in_ok-without_items-in-Ok.field-0.value) c.args.vm.now c.renew_else.new.vm (λ n. sym (mid n))
     (unlisted_stays c.args.app.now c.args.cells.now z c.args.list.value.listing.key (λ n. refl) s c.args.left p k cs c.args.vm.now c.read_unlisted.new.vm c.renew_else.new.vm ds c.in_ok-read.ensures.step
     (λ n u. sym (ap seen_left none) ∙ c.in_ok-read.ensures.entries n u)
-    (subst (λ (x : Unlisted). Renews c.args.app.now c.args.cells.now (λ n run. along_codes_as by_number run c.args.left (otherwise ∷ p) 0 (seen_codes n x.body)) c.read_unlisted.new.vm ds c.renew_else.new.vm) d c.in-Ok.ensures.ok))
+    (subst (λ (x : Unlisted). Renews c.args.app.now c.args.cells.now (λ n run. along_body_as by_number run c.args.left (otherwise ∷ p) (seen_codes n x.body)) c.read_unlisted.new.vm ds c.renew_else.new.vm) d c.in-Ok.ensures.ok))
 
 pub lists::renew_unlisted-returns-in-Err-clause-fails : goal.lists::renew_unlisted-returns-in-Err-clause-fails
 lists::renew_unlisted-returns-in-Err-clause-fails t c =
@@ -723,7 +828,7 @@ lists::renew_unlisted-returns-in-Err-clause-fails t c =
     subst (RenewFails {A = PlainCode} c.args.app.now c.args.cells.now (Unlisting c.args.app.now c.args.cells.now z c.args.list.value.listing.key (λ n. refl) s c.args.left p k cs) c.args.vm.now) (sym c.lost_list.ensures)
     (unlisted_stays_fails c.args.app.now c.args.cells.now z c.args.list.value.listing.key (λ n. refl) s c.args.left p k cs c.args.vm.now c.read_unlisted.new.vm c.in-Err.fault c.in_ok-read.ensures.step
     (λ n u. sym (ap seen_left none) ∙ c.in_ok-read.ensures.entries n u)
-    (subst (λ (x : Unlisted). RenewFails {A = PlainCodes} c.args.app.now c.args.cells.now (λ n run. along_codes_as by_number run c.args.left (otherwise ∷ p) 0 (seen_codes n x.body)) c.read_unlisted.new.vm c.in-Err.fault) d c.in-Err.ensures.fails))
+    (subst (λ (x : Unlisted). RenewFails {A = PlainCodes} c.args.app.now c.args.cells.now (λ n run. along_body_as by_number run c.args.left (otherwise ∷ p) (seen_codes n x.body)) c.read_unlisted.new.vm c.in-Err.fault) d c.in-Err.ensures.fails))
 
 pub lists::renew_unlisted-returns-else-is_empty-clause-ok : goal.lists::renew_unlisted-returns-else-is_empty-clause-ok
 lists::renew_unlisted-returns-else-is_empty-clause-ok t c =
@@ -769,14 +874,14 @@ syncing::kept_item-returns-in_ok-settled-in-Ok-clause-ok t c =
     let x : ItemCode = c.deref_mut.result.now in
     let is : x ≡ o = c.deref_mut.ensures.value ∙ ap (λ (b : Box ItemCode Global). b.value) c.in_ok-kept.ensures.item in
     let given : Does (given_item x.spot e) c.args.vm.now c.begin_item.new.vm = subst (λ (y : ItemCode). Does (given_item y.spot e) c.args.vm.now c.begin_item.new.vm) (sym is) c.in_ok-kept.ensures.step in
-    let y : ItemCode = record { spot = x.spot; comment = x.comment; body = c.renew_codes.new.codes } in
+    let y : ItemCode = record { spot = x.spot; comment = x.comment; body = c.renew_body.new.codes } in
     let r : ItemCode = c.in_ok-settled-in-Ok.field-0.value in
-    let new : (n : Tables) → seen_item_code n r ≡ (seen_item_spot x.spot, (stamp_of x.comment, seen_codes n c.renew_codes.new.codes)) = λ n. ap (λ (b : Box ItemCode Global). seen_item_code n b.value) c.in_ok-settled-in-Ok.ensures.item ∙ item_is n y in
+    let new : (n : Tables) → seen_item_code n r ≡ (seen_item_spot x.spot, (stamp_of x.comment, seen_codes n c.renew_body.new.codes)) = λ n. ap (λ (b : Box ItemCode Global). seen_item_code n b.value) c.in_ok-settled-in-Ok.ensures.item ∙ item_is n y in
     subst (λ (w : ItemCode). Renews c.args.app.now c.args.cells.now (KeptItem c.args.left q (seen_entry e) (λ n. seen_item_code n w)) c.args.vm.now (λ n. seen_item_code n r) c.settled.new.vm) is
     (kept_renews c.args.app.now c.args.cells.now c.args.left q e x.spot x.comment x.body (λ n. seen_item_code n x) c.args.vm.now c.begin_item.new.vm
-    (λ n. item_is n x) given c.renew_codes.new.codes (λ n. seen_item_code n r) c.settled.new.vm new
-    (renews_on c.args.app.now c.args.cells.now (λ n run. along_codes_as by_number run c.args.left q 0 (seen_codes n x.body)) (λ n. seen_codes n c.renew_codes.new.codes) c.begin_item.new.vm c.renew_codes.new.vm c.settled.new.vm
-    (subst (λ w. Renews c.args.app.now c.args.cells.now (λ n run. along_codes_as by_number run c.args.left w 0 (seen_codes n x.body)) c.begin_item.new.vm (λ n. seen_codes n c.renew_codes.new.codes) c.renew_codes.new.vm) c.in_ok-kept.ensures.view c.in-Ok.ensures.ok)
+    (λ n. item_is n x) given c.renew_body.new.codes (λ n. seen_item_code n r) c.settled.new.vm new
+    (renews_on c.args.app.now c.args.cells.now (λ n run. along_body_as by_number run c.args.left q (seen_codes n x.body)) (λ n. seen_codes n c.renew_body.new.codes) c.begin_item.new.vm c.renew_body.new.vm c.settled.new.vm
+    (subst (λ w. Renews c.args.app.now c.args.cells.now (λ n run. along_body_as by_number run c.args.left w (seen_codes n x.body)) c.begin_item.new.vm (λ n. seen_codes n c.renew_body.new.codes) c.renew_body.new.vm) c.in_ok-kept.ensures.view c.in-Ok.ensures.ok)
     c.in_ok-settled-in-Ok.ensures.step))
 
 pub syncing::kept_item-returns-in-Err-clause-fails : goal.syncing::kept_item-returns-in-Err-clause-fails
@@ -791,7 +896,7 @@ syncing::kept_item-returns-in-Err-clause-fails t c =
     (subst (λ (w : ItemCode). RenewFails {A = Item} c.args.app.now c.args.cells.now (KeptItem c.args.left q (seen_entry e) (λ n. seen_item_code n w)) c.args.vm.now c.in-Err.fault) is
     (kept_fails c.args.app.now c.args.cells.now c.args.left q e x.spot x.comment x.body (λ n. seen_item_code n x) c.args.vm.now c.begin_item.new.vm
     (λ n. item_is n x) given c.in-Err.fault
-    (subst (λ w. RenewFails {A = p.Codes} c.args.app.now c.args.cells.now (λ n run. along_codes_as by_number run c.args.left w 0 (seen_codes n x.body)) c.begin_item.new.vm c.in-Err.fault) c.in_ok-kept.ensures.view c.in-Err.ensures.fails)))
+    (subst (λ w. RenewFails {A = p.Codes} c.args.app.now c.args.cells.now (λ n run. along_body_as by_number run c.args.left w (seen_codes n x.body)) c.begin_item.new.vm c.in-Err.fault) c.in_ok-kept.ensures.view c.in-Err.ensures.fails)))
 
 pub syncing::kept_item-returns-in_ok-settled-in-Ok-clause-moved : goal.syncing::kept_item-returns-in_ok-settled-in-Ok-clause-moved
 syncing::kept_item-returns-in_ok-settled-in-Ok-clause-moved t c =
@@ -801,10 +906,10 @@ syncing::kept_item-returns-in_ok-settled-in-Ok-clause-moved t c =
     let x : ItemCode = c.deref_mut.result.now in
     let is : x ≡ o = c.deref_mut.ensures.value ∙ ap (λ (b : Box ItemCode Global). b.value) c.in_ok-kept.ensures.item in
     let given : Does (given_item x.spot e) c.args.vm.now c.begin_item.new.vm = subst (λ (y : ItemCode). Does (given_item y.spot e) c.args.vm.now c.begin_item.new.vm) (sym is) c.in_ok-kept.ensures.step in
-    let y : ItemCode = record { spot = x.spot; comment = x.comment; body = c.renew_codes.new.codes } in
+    let y : ItemCode = record { spot = x.spot; comment = x.comment; body = c.renew_body.new.codes } in
     let r : ItemCode = c.in_ok-settled-in-Ok.field-0.value in
-    let new : (n : Tables) → seen_item_code n r ≡ (seen_item_spot x.spot, (stamp_of x.comment, seen_codes n c.renew_codes.new.codes)) = λ n. ap (λ (b : Box ItemCode Global). seen_item_code n b.value) c.in_ok-settled-in-Ok.ensures.item ∙ item_is n y in
-    kept_moved c.args.moved.now c.renew_codes.new.moved c.settled.new.moved c.args.moves (λ n. seen_item_code n o) (λ n. seen_item_code n r) (λ n. seen_codes n x.body) (λ n. seen_codes n c.renew_codes.new.codes)
+    let new : (n : Tables) → seen_item_code n r ≡ (seen_item_spot x.spot, (stamp_of x.comment, seen_codes n c.renew_body.new.codes)) = λ n. ap (λ (b : Box ItemCode Global). seen_item_code n b.value) c.in_ok-settled-in-Ok.ensures.item ∙ item_is n y in
+    kept_moved c.args.moved.now c.renew_body.new.moved c.settled.new.moved c.args.moves (λ n. seen_item_code n o) (λ n. seen_item_code n r) (λ n. seen_codes n x.body) (λ n. seen_codes n c.renew_body.new.codes)
     (λ n. ap (λ (z : Item). z.1.1) (ap (seen_item_code n) (sym is) ∙ item_is n x)) (λ n. ap (λ (z : Item). z.1.1) (new n)) c.in-Ok.ensures.moved c.in_ok-settled-in-Ok.ensures.moved
 
 pub syncing::kept_item-returns-in_ok-settled-in-Ok-clause-key : goal.syncing::kept_item-returns-in_ok-settled-in-Ok-clause-key
@@ -815,9 +920,9 @@ syncing::kept_item-returns-in_ok-settled-in-Ok-clause-key t c = λ n.
     let x : ItemCode = c.deref_mut.result.now in
     let is : x ≡ o = c.deref_mut.ensures.value ∙ ap (λ (b : Box ItemCode Global). b.value) c.in_ok-kept.ensures.item in
     let given : Does (given_item x.spot e) c.args.vm.now c.begin_item.new.vm = subst (λ (y : ItemCode). Does (given_item y.spot e) c.args.vm.now c.begin_item.new.vm) (sym is) c.in_ok-kept.ensures.step in
-    let y : ItemCode = record { spot = x.spot; comment = x.comment; body = c.renew_codes.new.codes } in
+    let y : ItemCode = record { spot = x.spot; comment = x.comment; body = c.renew_body.new.codes } in
     let r : ItemCode = c.in_ok-settled-in-Ok.field-0.value in
-    let new : (n : Tables) → seen_item_code n r ≡ (seen_item_spot x.spot, (stamp_of x.comment, seen_codes n c.renew_codes.new.codes)) = λ n. ap (λ (b : Box ItemCode Global). seen_item_code n b.value) c.in_ok-settled-in-Ok.ensures.item ∙ item_is n y in
+    let new : (n : Tables) → seen_item_code n r ≡ (seen_item_spot x.spot, (stamp_of x.comment, seen_codes n c.renew_body.new.codes)) = λ n. ap (λ (b : Box ItemCode Global). seen_item_code n b.value) c.in_ok-settled-in-Ok.ensures.item ∙ item_is n y in
     ap spot_key (new n) ∙ sym (ap spot_key (ap (seen_item_code n) (sym is) ∙ item_is n x))
 
 pub syncing::entry_item-returns-in-Some-clause-ok : goal.syncing::entry_item-returns-in-Some-clause-ok

@@ -30,7 +30,7 @@ abbrev pub decreases-codes::renew_let : goal.decreases-codes::renew_let
 decreases-codes::renew_let l = room l.left (length l.trail.now.path.steps) 2
 
 abbrev pub decreases-codes::renew_else : goal.decreases-codes::renew_else
-decreases-codes::renew_else l = room l.left (length l.trail.now.path.steps) 2
+decreases-codes::renew_else l = room l.left (length l.trail.now.path.steps) 3
 
 abbrev pub decreases-codes::renew_yield : goal.decreases-codes::renew_yield
 decreases-codes::renew_yield l = room l.left (length l.trail.now.path.steps) 2
@@ -41,8 +41,14 @@ decreases-codes::renew_below l = room l.left (length l.trail.now.path.steps) 1
 abbrev pub decreases-codes::renew_codes : goal.decreases-codes::renew_codes
 decreases-codes::renew_codes l = room l.left (length l.trail.now.path.steps) 0
 
+abbrev pub decreases-codes::renew_body : goal.decreases-codes::renew_body
+decreases-codes::renew_body l = room l.left (length l.trail.now.path.steps) 1
+
+abbrev pub decreases-codes::renew_side : goal.decreases-codes::renew_side
+decreases-codes::renew_side l = room l.left (length l.trail.now.path.steps) 2
+
 abbrev pub decreases-branches::renew_branch : goal.decreases-branches::renew_branch
-decreases-branches::renew_branch l = room l.left (length l.trail.now.path.steps) 2
+decreases-branches::renew_branch l = room l.left (length l.trail.now.path.steps) 3
 
 abbrev pub decreases-lists::renew_list : goal.decreases-lists::renew_list
 decreases-lists::renew_list l = room l.left (length l.trail.now.path.steps) 9
@@ -54,7 +60,10 @@ abbrev pub decreases-lists::relist : goal.decreases-lists::relist
 decreases-lists::relist l = room l.left (length l.trail.now.path.steps) 7
 
 abbrev pub decreases-along::walk_list : goal.decreases-along::walk_list
-decreases-along::walk_list l = room l.left (length l.trail.now.path.steps) 5
+decreases-along::walk_list l = room l.left (length l.trail.now.path.steps) 6
+
+abbrev pub decreases-along::walk_entered : goal.decreases-along::walk_entered
+decreases-along::walk_entered l = room l.left (length l.trail.now.path.steps) 5
 
 abbrev pub decreases-along::walk_items : goal.decreases-along::walk_items
 decreases-along::walk_items l = room l.left (length l.trail.now.path.steps) 4
