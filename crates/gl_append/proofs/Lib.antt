@@ -42,3 +42,4 @@ pub mod Hanging
 pub mod Calming
 pub mod CodeNests
 pub mod PageHangs
+pub mod Preparing

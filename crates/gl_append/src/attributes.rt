@@ -15,7 +15,7 @@ ghost use Rattle.gl_append.specs.MachineView.{seen_part, seen_parts};
 ghost use Rattle.gl_append.specs.TagSteps.{Leads, seen_given, seen_attribute, seen_attributes, other_names, texts_given, words_of, spaced_after, bound_after, given_after, attr_placed};
 
 use crate::code::{AttrSpot, Spot};
-use crate::kept::position;
+use crate::kept::{position, prepare};
 use crate::machine::Waiting;
 use crate::values::value_of;
 use gl_nodes::Attr;
@@ -360,6 +360,7 @@ impl Attributes {
         ensures calm { Calm vm.new }
     {
         let Taken { ids, made } = references(alloc, vm, taken)?;
+        prepare(vm, ids.as_slice())?;
         let texts = live_texts(alloc, vm, ids.as_slice())?;
         let value = joined(alloc, texts.as_slice())?;
         let id = position(vm, ids)?;

@@ -13,7 +13,7 @@ ghost use Rattle.gl_append.specs.MachineView.{seen_back};
 ghost use Rattle.gl_append.specs.Steps.{Moves, MovesFrame, Changes};
 ghost use Rattle.gl_append.specs.Blocks.{code_added, block_of, seen_written, block_entered};
 
-use crate::bodies::below;
+use crate::bodies::onward;
 use crate::code::{Code, Codes};
 use crate::lets::params_from;
 use crate::machine::{Back, Frame, Kind, Machine};
@@ -163,7 +163,7 @@ impl Machine {
         ensures { OnOk result (Moves (λ n m. s.enter name.now (stamps pending) m (seen_sight n written.sight) written.start) self.old self.new) }
     {
         let path = self.next_path()?;
-        let path = below(self.alloc, &path, PathStep::Slot(name.copy()?))?;
+        let path = onward(path, PathStep::Slot(name.copy()?))?;
         let name = name.copy()?;
         self.begin_block(path, name, pending, written)
     }

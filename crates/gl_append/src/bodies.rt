@@ -34,24 +34,40 @@ fn step_copy(step: &PathStep) -> Result<PathStep, AllocError>
     })
 }
 
-/// The same path.
-pub fn path_copy(alloc: Global, path: &Path) -> Result<Path, AllocError>
+// The same path, with room for so many more steps.
+fn roomy_copy(alloc: Global, path: &Path, more: usize) -> Result<Path, AllocError>
     ensures { IfOk result (λ p. path_view p ≡ path_view path.now) }
 {
-    let mut steps = PathSteps::new(alloc);
+    let room = path.steps.len().saturating_add(more);
+    let mut steps = PathSteps::from_vec(Vec::with_capacity(alloc, room)?);
     for step in path.steps.as_slice() {
         steps.push(step_copy(step)?)?;
     }
     Ok(Path { steps })
 }
 
-/// The path of a step below a path.
+/// The same path.
+pub fn path_copy(alloc: Global, path: &Path) -> Result<Path, AllocError>
+    ensures { IfOk result (λ p. path_view p ≡ path_view path.now) }
+{
+    roomy_copy(alloc, path, 0)
+}
+
+/// The path of a step below a path, which becomes that.
+pub fn onward(path: Path, step: PathStep) -> Result<Path, AllocError>
+    ensures { IfOk result (λ p. path_view p ≡ path_step_view step ∷ path_view path) }
+{
+    let mut path = path;
+    path.steps.push(step)?;
+    Ok(path)
+}
+
+/// The path of a step below a path. It has room for two steps more.
 pub fn below(alloc: Global, path: &Path, step: PathStep) -> Result<Path, AllocError>
     ensures { IfOk result (λ p. path_view p ≡ path_step_view step ∷ path_view path.now) }
 {
-    let mut path = path_copy(alloc, path)?;
-    path.steps.push(step)?;
-    Ok(path)
+    let path = roomy_copy(alloc, path, 3)?;
+    onward(path, step)
 }
 
 impl Machine {

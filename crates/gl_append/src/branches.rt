@@ -11,7 +11,7 @@ ghost use Rattle.gl_append.specs.MachineView.{mach_by, seen_pushed};
 ghost use Rattle.gl_append.specs.Stepping.{Stepped};
 ghost use Rattle.gl_append.specs.Steps.{Changes, Takes, branch_entered};
 
-use crate::bodies::below;
+use crate::bodies::onward;
 use crate::code::{Choice, Spot};
 use crate::kept::position;
 use crate::machine::{Kind, Machine, Pushed};
@@ -86,6 +86,7 @@ impl Machine {
         if !vm.refs.readable(top.id) {
             return Err(AllocError);
         }
+        vm.prepare(top.id)?;
         let value = vm.value(top.id)?;
         let main = takes(unless, &value);
         let mut ids = Ids::new(self.alloc);
@@ -99,7 +100,7 @@ impl Machine {
             sight,
         };
         let path = self.next_path()?;
-        let path = below(self.alloc, &path, side(main))?;
+        let path = onward(path, side(main))?;
         let id = position(vm, ids)?;
         self.enter_branch(choice, id, main, path)
     }

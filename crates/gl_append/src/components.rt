@@ -16,7 +16,7 @@ ghost use Rattle.gl_append.specs.Steps.{Changes, MovesFrame};
 ghost use Rattle.gl_append.specs.Cells.{initial_value, initial_values, cells_at};
 ghost use Rattle.gl_append.specs.Components.{Lays, LaysOne, Invokes, component_entered, program_entered};
 
-use crate::bodies::{below, path_copy};
+use crate::bodies::{onward, path_copy};
 use crate::branches::after;
 use crate::calls::same_ids;
 use crate::cells::Cells;
@@ -219,7 +219,7 @@ impl Machine {
         ensures calm { Calm vm.old → Calm vm.new }
     {
         let path = self.next_path()?;
-        let path = below(self.alloc, &path, PathStep::Into(class.name.copy()?))?;
+        let path = onward(path, PathStep::Into(class.name.copy()?))?;
         let present = self.sight.level.owner.as_ref();
         let block = pass(vm, self.alloc, present.class, present.id)?;
         let ids = lay_cells(vm, self.alloc, cells, &path, class.fields.as_slice())?;

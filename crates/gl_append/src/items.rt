@@ -16,7 +16,7 @@ ghost use Rattle.gl_append.specs.MachineView.{seen_here, seen_kind, seen_left, s
 ghost use Rattle.gl_append.specs.Steps.{Changes, Takes, EndsFrame, EndsCall};
 ghost use Rattle.gl_append.specs.ListSteps.{body_entered, ItemBegins, ItemDone};
 
-use crate::bodies::below;
+use crate::bodies::onward;
 use crate::branches::after;
 use crate::code::{Codes, ItemCode, ItemSpot, Listing};
 use crate::comments::comment_for;
@@ -97,9 +97,9 @@ impl Machine {
         ensures { IfOk result (λ q. (n : _) → path_view q ≡ p.item (plain (view key.now)) occurrence ∷ p.items ∷ m.next_at (seen_here n self.now.here)) }
     {
         let path = self.next_path()?;
-        let path = below(self.alloc, &path, PathStep::Items)?;
+        let path = onward(path, PathStep::Items)?;
         let key = key.copy()?;
-        let path = below(self.alloc, &path, PathStep::Item { key, occurrence })?;
+        let path = onward(path, PathStep::Item { key, occurrence })?;
         Ok(path)
     }
 

@@ -1,6 +1,6 @@
 // References that are made where their parts may be read. No program of a loaded application names one that may not; here that is want of
 // memory.
-ghost use Rattle.std.specs.Prelude.{◌≡◌, [], ◌++◌, IfOk, IsTrue, true, is_some};
+ghost use Rattle.std.specs.Prelude.{◌≡◌, [], ◌++◌, IfOk, OnOk, IsTrue, true, is_some};
 ghost use Rattle.gl_value.specs.Helpers.{helper_numbered};
 ghost use Rattle.gl_refs.specs.Forms.{Each, parts, ids_of, is_known};
 ghost use Rattle.gl_refs.specs.State.{is_readable};
@@ -8,7 +8,7 @@ ghost use Rattle.gl_refs.specs.Refs.{forms_of};
 ghost use Rattle.gl_refs.specs.View.{seen_form as code_form};
 ghost use Rattle.gl_plain.specs.Binding.{made_row, place};
 ghost use Rattle.gl_vm.specs.View.{stamps, seen_form, Calm};
-ghost use Rattle.gl_vm.specs.Steps.{Does, Numbers};
+ghost use Rattle.gl_vm.specs.Steps.{Does, Numbers, Prepares};
 
 use gl_refs::{Form, Ids, RefId, Refs};
 use gl_vm::Vm;
@@ -74,6 +74,21 @@ pub fn bind(vm: &mut Vm, form: Form) -> Result<RefId, AllocError>
         return Err(AllocError);
     }
     vm.bind(form)
+}
+
+/// Has what these references give be kept, where each may be read, so that their values are copied. The state is as it was.
+pub fn prepare(vm: &mut Vm, ids: &[RefId]) -> Result<(), AllocError>
+    requires calm { Calm vm.old }
+    ensures step { OnOk result (Prepares vm.old vm.new) }
+    ensures calm { Calm vm.new }
+{
+    for id in ids {
+        if !vm.refs.readable(*id) {
+            return Err(AllocError);
+        }
+        vm.prepare(*id)?;
+    }
+    Ok(())
 }
 
 /// Makes a position over these references and evaluates it, where each may be read.

@@ -14,7 +14,7 @@ ghost use Rattle.gl_append.specs.CodeView.{seen_code, seen_codes};
 ghost use Rattle.gl_append.specs.MachineView.{seen_here, seen_kind};
 ghost use Rattle.gl_append.specs.Steps.{Moves, Changes, Takes, TakesFirst, KeepsMade, let_entered};
 
-use crate::bodies::below;
+use crate::bodies::onward;
 use crate::calls::same_ids;
 use crate::code::{Code, Codes};
 use crate::machine::{Frame, Kind, Machine};
@@ -85,7 +85,7 @@ impl Machine {
         let pending = positional(self.alloc, taken.as_slice())?;
         let sight = self.sight.copy()?;
         let path = self.next_path()?;
-        let path = below(self.alloc, &path, PathStep::Then)?;
+        let path = onward(path, PathStep::Then)?;
         self.begin_let(path, sight, pending)
     }
 

@@ -36,7 +36,7 @@ mod values;
 mod words;
 
 pub use attributes::attribute_over;
-pub use bodies::{below, path_copy};
+pub use bodies::{below, onward, path_copy};
 pub use branches::{chosen, side, takes};
 pub use cells::Cells;
 pub use code::{AttrSpot, Choice, Code, Codes, ItemCode, ItemSpot, Listing, ModSpot, Spot};

@@ -12,7 +12,7 @@ ghost use Rattle.gl_append.specs.MachineView.{seen_here, seen_pushed, seen_left,
 ghost use Rattle.gl_append.specs.Steps.{Moves, Changes, Takes, EndsFrame, EndsCall};
 ghost use Rattle.gl_append.specs.ListSteps.{each_at, list_waiting};
 
-use crate::bodies::below;
+use crate::bodies::onward;
 use crate::branches::after;
 use crate::code::{Code, Codes, ItemCode, Listing, Spot};
 use crate::comments::comment_for;
@@ -68,7 +68,7 @@ impl Machine {
         ensures { IfOk result (λ q. (n : _) → path_view q ≡ p.otherwise ∷ m.next_at (seen_here n self.now.here)) }
     {
         let path = self.next_path()?;
-        let path = below(self.alloc, &path, PathStep::Else)?;
+        let path = onward(path, PathStep::Else)?;
         Ok(path)
     }
 
@@ -127,6 +127,7 @@ impl Machine {
         if !vm.refs.readable(top.id) {
             return Err(AllocError);
         }
+        vm.prepare(top.id)?;
         let value = vm.value(top.id)?;
         let left = items_of(self.alloc, value, key)?;
         let mut ids = Ids::new(self.alloc);

@@ -10,7 +10,7 @@ ghost use Rattle.gl_append.specs.MachineView.{seen_part, seen_parts};
 ghost use Rattle.gl_append.specs.TagSteps.{Leads, grown_after};
 
 use crate::code::{ModSpot, Spot};
-use crate::kept::position;
+use crate::kept::{position, prepare};
 use crate::machine::Waiting;
 use crate::values::value_of;
 use gl_nodes::NodeId;
@@ -92,6 +92,7 @@ fn install(
     ensures calm { Calm vm.new }
 {
     let ids = all_ids(alloc, args.as_slice(), named.as_slice())?;
+    prepare(vm, ids.as_slice())?;
     let names = names_in(alloc, named.as_slice())?;
     let values = values_of(alloc, vm, args.as_slice())?;
     let named_values = named_values_of(alloc, vm, named.as_slice())?;

@@ -60,6 +60,7 @@ impl Machine {
         if !vm.refs.readable(top.id) {
             return Err(AllocError);
         }
+        vm.prepare(top.id)?;
         let value = vm.value(top.id)?;
         let text = value.text_of(self.alloc)?;
         let mut ids = Ids::new(self.alloc);

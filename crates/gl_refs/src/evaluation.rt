@@ -12,7 +12,11 @@ use crate::row::{Kind, Last, Rows, held_tag, own_tag, part_at, put_last};
 use crate::values::form_value;
 use gl_tags::{TagId, Tags};
 use gl_value::Value;
+use smallvec::SmallVec;
 use std::alloc::{AllocError, Global};
+
+// Of most references few are read, so the list of their tags takes no memory.
+type FewTags = SmallVec<TagId, 4>;
 
 // Whether the tag has not been dirtied since there were so many dirtyings.
 fn is_fresh(tags: &mut Tags, tag: TagId, order: u128) -> bool
@@ -85,10 +89,10 @@ pub(crate) fn is_valid(tags: &mut Tags, rows: &Rows, id: RefId, since: u128) -> 
 }
 
 // The tags of what is held of those that a reference reads.
-fn tags_of(alloc: Global, tags: &Tags, rows: &Rows, id: RefId) -> Result<Vec<TagId>, AllocError>
+fn tags_of(alloc: Global, tags: &Tags, rows: &Rows, id: RefId) -> Result<FewTags, AllocError>
     ensures { IfOk result (λ ids. ids.items ≡ map (held_tag tags.now (rows_of rows.now)) (reads_of (rows_of rows.now) id)) }
 {
-    let mut ids = Vec::new(alloc);
+    let mut ids = SmallVec::new(alloc);
     for at in 0..usize::MAX {
         let Some(part) = part_at(rows, None, id, at) else {
             return Ok(ids);
@@ -117,7 +121,7 @@ fn swap_tag(tags: &mut Tags, parts: &[TagId], old: Option<TagId>) -> Result<TagI
 #[derive(Drop)]
 pub(crate) struct Found {
     value: Value,
-    tags: Vec<TagId>,
+    tags: FewTags,
     old: Option<TagId>,
 }
 

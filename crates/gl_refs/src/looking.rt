@@ -8,11 +8,12 @@ ghost use Rattle.gl_refs.specs.View.{rows_of, reads_in, IsFound, IsTable};
 use crate::RefId;
 use crate::evaluation::is_latest;
 use crate::row::{Kind, Rows, found_value, held, part_at};
-use crate::settling::{Stale, Waiting, put_off};
+use crate::settling::{Stack, Stale, Waiting, put_off};
 use crate::table::Table;
 use crate::values::form_value;
 use gl_tags::Tags;
 use gl_value::Value;
+use smallvec::SmallVec;
 use std::alloc::{AllocError, Global};
 
 // The first part from a place on that was not worked out yet.
@@ -63,7 +64,7 @@ fn visit(
     rows: &Rows,
     table: &mut Table,
     waiting: Waiting,
-    stack: &mut Vec<Waiting>,
+    stack: &mut Stack,
 ) -> Result<(), AllocError>
     requires lower { AreLower (forms (rows_of rows.now)) }
     requires right { IsTable table.old (rows_of rows.now) }
@@ -82,7 +83,7 @@ fn work_all_out(alloc: Global, rows: &Rows, table: &mut Table, id: RefId) -> Res
     requires right { IsTable table.old (rows_of rows.now) }
     ensures { IsTable table.new (rows_of rows.now) }
 {
-    let mut stack = Vec::new(alloc);
+    let mut stack = SmallVec::new(alloc);
     stack.push(Waiting { id, next: 0 })?;
     for _ in 0..u64::MAX {
         match stack.pop() {

@@ -9,14 +9,18 @@ use crate::RefId;
 use crate::evaluation::{compute, is_kept};
 use crate::row::{Rows, part_at};
 use gl_tags::Tags;
+use smallvec::SmallVec;
 use std::alloc::{AllocError, Global};
 
 // A reference that waits, and the place up to which what it reads may be used.
-#[derive(Clone, Copy)]
+#[derive(Clone, Copy, Default)]
 pub(crate) struct Waiting {
     pub(crate) id: RefId,
     pub(crate) next: usize,
 }
+
+// Those that wait, the next one last. Where they are few the list takes no memory.
+pub(crate) type Stack = SmallVec<Waiting, 6>;
 
 // A part that may not be used yet, with its place.
 #[derive(Clone, Copy)]
@@ -56,7 +60,7 @@ fn visit(
     tags: &mut Tags,
     rows: &mut Rows,
     waiting: Waiting,
-    stack: &mut Vec<Waiting>,
+    stack: &mut Stack,
 ) -> Result<(), AllocError>
     requires sound { IsSound tags.old (rows_of rows.old) }
     requires front { Each (IsKept tags.old (rows_of rows.old)) (take waiting.next (reads_of (rows_of rows.old) waiting.id)) }
@@ -73,7 +77,7 @@ fn visit(
 }
 
 // Has a reference wait until a part of it is evaluated.
-pub(crate) fn put_off(stack: &mut Vec<Waiting>, id: RefId, stale: Stale) -> Result<(), AllocError>
+pub(crate) fn put_off(stack: &mut Stack, id: RefId, stale: Stale) -> Result<(), AllocError>
     ensures { OnOk result (stack.new.items ≡ (stack.old.items ++ record { id = id; next = stale.at } ∷ []) ++ record { id = stale.part; next = 0 } ∷ []) }
 {
     stack.push(Waiting { id, next: stale.at })?;
@@ -91,7 +95,7 @@ fn settle(alloc: Global, tags: &mut Tags, rows: &mut Rows, id: RefId) -> Result<
     ensures made { rows.new.made ≡ rows.old.made }
     ensures counts { Counts rows.old [] [] → Counts rows.new [] [] }
 {
-    let mut stack = Vec::new(alloc);
+    let mut stack = SmallVec::new(alloc);
     stack.push(Waiting { id, next: 0 })?;
     for _ in 0..u64::MAX {
         match stack.pop() {

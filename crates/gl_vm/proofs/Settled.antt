@@ -119,8 +119,9 @@ module _ (r r' : Refs) (id : Id) (reads : Reads r r' id) (stamped : IsStamped r.
             ap (λ (z : s.Row). last_led r'.tags rows' r'.rows.made z.last) y-is ∙ same-last i q w.1 x.last refl
         by i n q (inr w) = absurd (ne (sym n ∙ ap (λ (j : Id). j.1) (only_read (forms_of r) id i w (unread i ids (ap (option_map form_in) q ∙ ap (λ h. Some h) g)))))
 
-  row-stays : (k : ℕ) → k ≢ id.1 → row_at r' k ≡ row_at r k
-  row-stays k ne = by (rows k) refl where
+  -- a row stays, if it isn't that of the position that was evaluated
+  row-kept : (k : ℕ) → ((ids : List Id) (x : s.Row) → rows k ≡ Some x → x.form ≡ f.all_form ids → k ≢ id.1) → row_at r' k ≡ row_at r k
+  row-kept k ne = by (rows k) refl where
     by : (o : Option s.Row) → rows k ≡ o → row_at r' k ≡ row_at r k
     by None e = ap (option_map (seen_row r'.tags rows' r'.rows.made k)) (none (rows' k) (forms-are k ∙ ap (option_map form_in) e)) ∙ sym (ap (option_map (seen_row r.tags rows r.rows.made k)) e) where
       none : (o : Option s.Row) → option_map form_in o ≡ None → o ≡ None
@@ -133,12 +134,28 @@ module _ (r r' : Refs) (id : Id) (reads : Reads r r' id) (stamped : IsStamped r.
         ∙ (ap (λ l. Some (record { form = seen_form k x.form; last = l })) (in_form x.form refl y.0 y.1) ∙ sym (ap (option_map (seen_row r.tags rows r.rows.made k)) e)))
       where
         in_form : (g : f.Form) → x.form ≡ g → (y : s.Row) → rows' k ≡ Some y → last_of r'.tags rows' r'.rows.made g y.last ≡ last_of r.tags rows r.rows.made g x.last
-        in_form (f.all_form ids) q y h = other-position k ids x ne e q y h
+        in_form (f.all_form ids) q y h = other-position k ids x (ne ids x e q) e q y h
         in_form (f.constant_form v) q y h = refl
         in_form (f.source_form i u v) q y h = refl
         in_form (f.prop_form i n) q y h = refl
         in_form (f.call_form i ids ns) q y h = refl
         in_form (f.cat_form ids) q y h = refl
+
+  row-stays : (k : ℕ) → k ≢ id.1 → row_at r' k ≡ row_at r k
+  row-stays k ne = row-kept k (λ ids x e q. ne)
+
+  -- a reference that may be read is no position
+  apart : s.is_readable (forms_of r id) ≡ true → (k : ℕ) (ids : List Id) (x : s.Row) → rows k ≡ Some x → x.form ≡ f.all_form ids → k ≢ id.1
+  apart readable k ids x e g same = by (rows_of r id) refl where
+    by : (o : Option s.Row) → rows_of r id ≡ o → ⊥
+    by None h = let no : false ≡ true = sym (ap (λ q. s.is_readable (option_map form_in q)) h) ∙ readable in absurd (cc)
+    by (Some y) h =
+        let y-is : x ≡ y = some_same x y (sym e ∙ (ap rows same ∙ by_stamp-live r.rows id y stamped h)) in
+        let form : y.form ≡ f.all_form ids = sym (ap form_in y-is) ∙ g in
+        let no : false ≡ true = sym (ap (λ q. s.is_readable (Some q)) form) ∙ (sym (ap (λ q. s.is_readable (option_map form_in q)) h) ∙ readable) in absurd (cc)
+
+  pub rows-read : s.is_readable (forms_of r id) ≡ true → row_at r' ≡ row_at r
+  rows-read readable = λ z k. row-kept k (apart readable k) z
 
   -- whether sources are touched is as before
   pub agrees-still : (sound : s.IsSound r.tags (rows_of r)) (touched : Source → Bool) → ((k : ℕ) (x : s.Row) → rows k ≡ Some x → AgreesAt r touched k x.form) → (k : ℕ) (y : s.Row) → rows' k ≡ Some y → AgreesAt r' touched k y.form
@@ -234,6 +251,22 @@ module _ (vm : Vm) (r' : Refs) (id : Id) (reads : Reads vm.refs r' id) (stamped 
 
   pub evaluate_step : Does (λ n. evaluate id.1) vm (record vm { refs = r' })
   evaluate_step n touched a = record { state = state-is n touched; agrees = agrees-still vm.refs r' id reads stamped stamped' unread sound touched a }
+
+-- What a read changes in the state: nothing.
+module _ (vm : Vm) (r' : Refs) (id : Id) (reads : Reads vm.refs r' id) (stamped : IsStamped vm.refs.rows) (stamped' : IsStamped r'.rows) (unread : PositionsUnread vm.refs) (sound : s.IsSound vm.refs.tags (rows_of vm.refs))
+    (readable : s.is_readable (forms_of vm.refs id) ≡ true) (listed : r'.evaluated ≡ vm.refs.evaluated) where
+  kept-same : (n : Tables) → kept_of n (record vm { refs = r' }) ≡ kept_of n vm
+  kept-same n = λ z. record (kept_of n vm) {
+    row = rows-read vm.refs r' id reads stamped stamped' unread readable z;
+    rows = reads.made z;
+    evaluated = ap stamps listed z;
+  }
+
+  pub state-same : (n : Tables) (touched : Source → Bool) → state_of n (record vm { refs = r' }) touched ≡ state_of n vm touched
+  state-same n touched = ap (λ (k : Kept). state_by k touched) (kept-same n)
+
+  pub read_step : Does (λ n st. st) vm (record vm { refs = r' })
+  read_step n touched a = record { state = state-same n touched; agrees = agrees-still vm.refs r' id reads stamped stamped' unread sound touched a }
 
 pub is_live : (o : Option f.Form) → is_all o ≡ true → IsSome o
 is_live None e = let no : false ≡ true = e in absurd (cc)

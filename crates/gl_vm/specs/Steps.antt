@@ -36,6 +36,13 @@ pub record Numbers {T : Type 0} (old new : Arena T) (id : Id) : Type 0 where
   pub own : IsOwn new id
   pub olds : (i : Id) → IsOwn old i → IsOwn new i
 
+-- The state is as it was, whichever sources were touched, and no reference is made: only what is kept of them may be of now.
+pub record Prepares (old new : Vm) : Type 0 where
+  pub same : (n : Tables) (touched : Source → Bool) → state_of n new touched ≡ state_of n old touched
+  pub step : Does (λ n st. st) old new
+  pub made : new.refs.rows.made ≡ old.refs.rows.made
+  pub owns : (i : Id) → IsOwn old.refs.rows i → IsOwn new.refs.rows i
+
 -- the node's attribute of a name is changed
 abbrev pub put_attr : ℕ → Text → Option Text → State → State
 put_attr s name value st = put_thing (node s) (content (changed_attr name value (st.look (node s)))) st

@@ -13,7 +13,7 @@ ghost use Rattle.gl_plain.specs.Renew.{evaluate, is_stale};
 ghost use Rattle.gl_vm.specs.Labels.{labelled};
 ghost use Rattle.gl_vm.specs.Led.{Led, IsTelling};
 ghost use Rattle.gl_vm.specs.View.{Tables, stamps, state_of, Calm, Agrees, is_all};
-ghost use Rattle.gl_vm.specs.Steps.{Does, Numbers};
+ghost use Rattle.gl_vm.specs.Steps.{Does, Numbers, Prepares};
 
 use crate::Vm;
 use gl_refs::{Form, Ids, RefId};
@@ -28,6 +28,21 @@ impl Vm {
     {
         self.refs.sound();
         self.refs.look(id)
+    }
+
+    /// Has what a reference gives be kept, so that [`Vm::value`] copies it. The state is as it was.
+    pub fn prepare(&mut self, id: RefId) -> Result<(), AllocError>
+        requires readable { is_readable (forms_of self.old.refs id) ≡ true }
+        requires calm { Calm self.old }
+        ensures step { Prepares self.old self.new }
+        ensures forms { forms_of self.new.refs ≡ forms_of self.old.refs }
+        ensures rest { self.new ≡ record self.old { refs = self.new.refs } }
+        ensures calm { Calm self.new }
+    {
+        self.refs.sound();
+        let done = self.refs.refresh(id);
+        self.refs.sound();
+        done
     }
 
     /// Evaluates a position, which no reference reads.

@@ -25,7 +25,7 @@ returns-in_ok-tag-in-Some-clause-settles c =
     let f = c.in-Some.found in
     let g = gathered tags rows c.args.id c.in_ok-gather.field-0 f c.in-Some.is c.in_ok-gather.ensures in
     let u = c.in_ok-tag-in-Some.tag in
-    let s = subst (λ xs. Swaps tags c.swap_tag.new.tags f.old u xs) c.as_slice.ensures.value c.in_ok-tag-in-Some.ensures.ok in
+    let s = subst (λ xs. Swaps tags c.swap_tag.new.tags f.old u xs) c.as_slice.ensures c.in_ok-tag-in-Some.ensures.ok in
     let last : Last = record { value = view f.value; order = c.count.result; tag = u } in
     let is : last ≡ record { value = view f.value; order = c.swap_tag.new.tags.count; tag = u } = λ t. record { value = view f.value; order = c.count.ensures t; tag = u } in
     step tags c.swap_tag.new.tags rows (rows_of c.put_last.new.rows) c.args.id (view f.value) f.tags.items f.old u last c.requires.sound c.requires.ready g s is c.put_last.ensures.puts

@@ -15,5 +15,5 @@ loop-at-preserved c =
     let f = held_tag c.args.tags.now rows in
     let xs = reads_of rows c.args.id in
     let k = c.loop-at.at in
-    ap (λ ys. ys ++ map f (drop (k + 1) xs)) (c.in_ok-push.ensures.items ∙ ap (λ q. c.loop-at.ids.items ++ q ∷ []) c.held_tag.ensures)
+    ap (λ ys. ys ++ map f (drop (k + 1) xs)) (c.in_ok-push.ensures.ok ∙ ap (λ q. c.loop-at.ids.items ++ q ∷ []) c.held_tag.ensures)
     ∙ one_more f xs k c.loop-at.ids.items c.loop-at.invariant c.in-Some.part (sym c.part_at.ensures ∙ c.in-Some.is)

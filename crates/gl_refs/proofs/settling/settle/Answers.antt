@@ -12,7 +12,7 @@ loop-init c =
     let rows = rows_of c.args.rows.now in
     record {
       settles = settles_none (IsReadFor (forms rows) c.args.id) tags rows c.requires;
-      ready = subst (λ xs. AllReady tags rows c.args.id (seen_stack xs)) (sym (c.in_ok-push.ensures.items ∙ ap (λ xs. xs ++ record { id = c.args.id; next = 0 } ∷ []) c.new-stack.ensures.items)) ((itself, tt), tt);
+      ready = subst (λ xs. AllReady tags rows c.args.id (seen_stack xs)) (sym (c.in_ok-push.ensures.ok ∙ ap (λ xs. xs ++ record { id = c.args.id; next = 0 } ∷ []) c.new-stack.ensures.items)) ((itself, tt), tt);
       made = refl;
       counts = λ h. h;
     }
