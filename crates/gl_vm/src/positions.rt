@@ -4,7 +4,7 @@ ghost use Rattle.gl_value.specs.View.{view};
 ghost use Rattle.gl_arena.specs.Arena.{IsOwn};
 ghost use Rattle.gl_meaning.specs.Scope.{Source};
 ghost use Rattle.gl_refs.specs.Forms.{Each, all_form};
-ghost use Rattle.gl_refs.specs.State.{is_readable, is_position};
+ghost use Rattle.gl_refs.specs.State.{is_readable, is_position, IsKept};
 ghost use Rattle.gl_refs.specs.Refs.{rows_of, forms_of, HasRoom};
 ghost use Rattle.gl_plain.specs.State.{pair_of};
 ghost use Rattle.gl_plain.specs.Binding.{place};
@@ -35,6 +35,7 @@ impl Vm {
         requires readable { is_readable (forms_of self.old.refs id) ≡ true }
         requires calm { Calm self.old }
         ensures step { Prepares self.old self.new }
+        ensures kept { OnOk result (IsKept self.new.refs.tags (rows_of self.new.refs) id) }
         ensures forms { forms_of self.new.refs ≡ forms_of self.old.refs }
         ensures rest { self.new ≡ record self.old { refs = self.new.refs } }
         ensures calm { Calm self.new }

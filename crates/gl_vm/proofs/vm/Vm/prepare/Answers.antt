@@ -24,3 +24,6 @@ pub returns-clause-calm : goal.returns-clause-calm
 returns-clause-calm c =
     let r = c.refresh-done.ensures.reads.reads in
     record { unread = calm_same c.args.self.now.refs c.refresh-done.new.self r.settles.forms c.requires.calm.unread; led = led_evaluated c.args.self.now.refs c.refresh-done.new.self c.args.id r c.sound-2.ensures.sound c.requires.calm.led }
+
+pub returns-clause-kept : goal.returns-clause-kept
+returns-clause-kept c = c.refresh-done.ensures.reads.kept
