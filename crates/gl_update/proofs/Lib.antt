@@ -20,3 +20,4 @@ pub mod MovedCodes
 pub mod SyncCounts
 pub mod AlongCounts
 pub mod AlongItems
+pub mod StayingItems

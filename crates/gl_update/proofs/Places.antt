@@ -47,6 +47,10 @@ module _ (run : Runs) (m : ℕ) where
     by false h = h
     by true h = absurd (apart (of_entry e x h ∙ is))
 
+  -- the first item is taken, where it has the entry's key
+  pub taken_first : (e : Entry) (x : Item) (xs : List Item) → entry_key e ≡ spot_key x → taken_code e (handles run m (x ∷ xs)) ≡ Some (handle run m x, handles run m xs)
+  taken_first e x xs t = first_or e (handle run m x) (handles run m xs) true (is_entry e x t)
+
   -- the item at the place of the entry's key is taken
   pub taken_there : (e : Entry) (ks : List Key) (os : List (Option Item)) (i : ℕ) (x : Item) → NoRepeat ks → HasKeys ks os → slice_get ks i ≡ Some (entry_key e) → slice_get os i ≡ Some (Some x)
       → taken_code e (handles run m (there os)) ≡ Some (handle run m x, handles run m (there (set os i None)))

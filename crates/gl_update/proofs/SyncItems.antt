@@ -149,18 +149,29 @@ module _ (a : App) (cells : CellList) (left : ℕ) (z : Listing) (base : Path) w
   abbrev pub seen_done : List ItemCode → Tables → List Item
   seen_done ys n = map (seen_item_code n) ys
 
+  abbrev pub AllOf : List PlainEntry → List ItemCode → Renewal ItemCodes
+  AllOf fs xs = SyncItems (λ n. seen_listing n z) left base fs (seen_done xs)
+
+  -- of entries that wait, the next one last
   abbrev pub All : List Entry → List ItemCode → Renewal ItemCodes
-  All es xs = SyncItems (λ n. seen_listing n z) left base (seen_left es) (seen_done xs)
+  All es xs = AllOf (seen_left es) xs
 
   -- these are done, and those are left
+  abbrev pub LeftOf : List ItemCode → List PlainEntry → List ItemCode → Renewal ItemCodes
+  LeftOf ys fs xs = λ n run st. onto (seen_done ys n) (AllOf fs xs n run st)
+
   abbrev pub Left : List ItemCode → List Entry → List ItemCode → Renewal ItemCodes
-  Left ys es xs = λ n run st. onto (seen_done ys n) (All es xs n run st)
+  Left ys es xs = LeftOf ys (seen_left es) xs
+
+  pub sync_begin_of : (fs : List PlainEntry) (xs ys : List ItemCode) (vm : Vm) → ys ≡ [] → Onward a cells (AllOf fs xs) vm (LeftOf ys fs xs) vm
+  sync_begin_of fs xs ys vm none =
+      onward_begin a cells (AllOf fs xs) (LeftOf ys fs xs) vm (λ n run u. ap (λ zs. LeftOf zs fs xs n run (state_of n vm u)) none ∙ onto_none (AllOf fs xs n run (state_of n vm u)))
 
   pub sync_begin : (es : List Entry) (xs ys : List ItemCode) (vm : Vm) → ys ≡ [] → Onward a cells (All es xs) vm (Left ys es xs) vm
-  sync_begin es xs ys vm none = onward_begin a cells (All es xs) (Left ys es xs) vm (λ n run u. ap (λ zs. Left zs es xs n run (state_of n vm u)) none ∙ onto_none (All es xs n run (state_of n vm u)))
+  sync_begin es xs ys vm none = sync_begin_of (seen_left es) xs ys vm none
 
-  abbrev then_left : List ItemCode → List Entry → List ItemCode → Tables → Item → Runs → State → Outcome (ItemCodes × State)
-  then_left ys es xs n y run st = onto (seen_done ys n ++ y ∷ []) (All es xs n run st)
+  abbrev then_left : List ItemCode → List PlainEntry → List ItemCode → Tables → Item → Runs → State → Outcome (ItemCodes × State)
+  then_left ys fs xs n y run st = onto (seen_done ys n ++ y ∷ []) (AllOf fs xs n run st)
 
   -- how the entry's item is made
   abbrev One : PlainEntry → Path → Option ItemCode → Renewal Item
@@ -185,58 +196,76 @@ module _ (a : App) (cells : CellList) (left : ℕ) (z : Listing) (base : Path) w
   sync_one_is e q os ps (Some x) t n run st =
       ap (λ y. sync_one_code_as by_number (fresh_item_as by_number run (seen_listing n z) left) q e (handles run left (seen_done (there os) n)) y st) (t n run left)
 
-  left_is : (ys : List ItemCode) (es rest : List Entry) (e : Entry) (q : Path) (os ps : List (Option ItemCode)) (o : Option ItemCode) (vm : Vm) → es ≡ rest ++ e ∷ [] → q ≡ item (plain (view e.key)) e.occurrence ∷ base
-      → TakesOld (seen_entry e) os ps o → (n : Tables) (run : Runs) (u : Source → Bool)
-      → on_ok (One (seen_entry e) q o n run (state_of n vm u)) (λ r. then_left ys rest (there ps) n r.0 run r.1) ≡ Left ys es (there os) n run (state_of n vm u)
-  left_is ys es rest e q os ps o vm is at t n run u =
+  left_is : (ys : List ItemCode) (fs rest : List PlainEntry) (e : PlainEntry) (q : Path) (os ps : List (Option ItemCode)) (o : Option ItemCode) (vm : Vm) → fs ≡ e ∷ rest → q ≡ item e.key e.occurrence ∷ base
+      → TakesOld e os ps o → (n : Tables) (run : Runs) (u : Source → Bool)
+      → on_ok (One e q o n run (state_of n vm u)) (λ r. then_left ys rest (there ps) n r.0 run r.1) ≡ LeftOf ys fs (there os) n run (state_of n vm u)
+  left_is ys fs rest e q os ps o vm is at t n run u =
       let st : State = state_of n vm u in
-      let p0 : Path = item (plain (view e.key)) e.occurrence ∷ base in
+      let p0 : Path = item e.key e.occurrence ∷ base in
       let fresh : Path → PlainEntry → State → Outcome ItemDone = fresh_item_as by_number run (seen_listing n z) left in
       let hs : List CodeHandle = handles run left (seen_done (there ps) n) in
-      let k : List CodeHandle → State → Outcome (ItemCodes × State) = λ gs st2. sync_codes_as by_number fresh base (seen_left rest) gs st2 in
-      ap (λ p. on_ok (One (seen_entry e) p o n run st) (λ r. then_left ys rest (there ps) n r.0 run r.1)) at
-      ∙ (ap (λ y. on_ok y (λ r. then_left ys rest (there ps) n r.0 run r.1)) (one_is (seen_entry e) p0 o n run st)
-      ∙ (sym (item_synced (seen_done ys n) (one_by (seen_entry e) p0 o n run st) hs k)
-      ∙ (ap (λ y. onto (seen_done ys n) (on_ok y (λ g. on_ok (k g.1 g.0.arm.state) (λ r. ok (item_with g.0 r))))) (sym (sync_one_is (seen_entry e) p0 os ps o t n run st))
-      ∙ ap (λ fs. onto (seen_done ys n) (sync_codes_as by_number fresh base fs (handles run left (seen_done (there os) n)) st)) (sym (next_left es rest e is)))))
+      let k : List CodeHandle → State → Outcome (ItemCodes × State) = λ gs st2. sync_codes_as by_number fresh base rest gs st2 in
+      ap (λ p. on_ok (One e p o n run st) (λ r. then_left ys rest (there ps) n r.0 run r.1)) at
+      ∙ (ap (λ y. on_ok y (λ r. then_left ys rest (there ps) n r.0 run r.1)) (one_is e p0 o n run st)
+      ∙ (sym (item_synced (seen_done ys n) (one_by e p0 o n run st) hs k)
+      ∙ (ap (λ y. onto (seen_done ys n) (on_ok y (λ g. on_ok (k g.1 g.0.arm.state) (λ r. ok (item_with g.0 r))))) (sym (sync_one_is e p0 os ps o t n run st))
+      ∙ ap (λ gs. onto (seen_done ys n) (sync_codes_as by_number fresh base gs (handles run left (seen_done (there os) n)) st)) (sym is))))
 
   done_is : (ys zs : List ItemCode) (x : ItemCode) → zs ≡ ys ++ x ∷ [] → (n : Tables) → seen_done zs n ≡ seen_done ys n ++ seen_item_code n x ∷ []
   done_is ys zs x is n = ap (λ ws. seen_done ws n) is ∙ map-append (seen_item_code n) ys (x ∷ [])
 
+  pub sync_next_of : (all : Renewal ItemCodes) (ys zs : List ItemCode) (fs rest : List PlainEntry) (e : PlainEntry) (x : ItemCode) (q : Path) (os ps : List (Option ItemCode)) (o : Option ItemCode) (vm0 vm mid : Vm) → fs ≡ e ∷ rest
+      → q ≡ item e.key e.occurrence ∷ base → TakesOld e os ps o → zs ≡ ys ++ x ∷ [] → Onward a cells all vm0 (LeftOf ys fs (there os)) vm → Renews a cells (One e q o) vm (λ n. seen_item_code n x) mid
+      → Onward a cells all vm0 (LeftOf zs rest (there ps)) mid
+  sync_next_of all ys zs fs rest e x q os ps o vm0 vm mid is at t more w p =
+      onward_as a cells all (λ n run st. then_left ys rest (there ps) n (seen_item_code n x) run st) (LeftOf zs rest (there ps)) vm0 mid (λ n run u. ap (λ ws. onto ws (AllOf rest (there ps) n run (state_of n mid u))) (done_is ys zs x more n))
+      (onward_next a cells all vm0 (LeftOf ys fs (there os)) vm (One e q o) (then_left ys rest (there ps)) (left_is ys fs rest e q os ps o vm is at t) w (λ n. seen_item_code n x) mid p)
+
   pub sync_next : (all : Renewal ItemCodes) (ys zs : List ItemCode) (es rest : List Entry) (e : Entry) (x : ItemCode) (q : Path) (os ps : List (Option ItemCode)) (o : Option ItemCode) (vm0 vm mid : Vm) → es ≡ rest ++ e ∷ []
       → q ≡ item (plain (view e.key)) e.occurrence ∷ base → TakesOld (seen_entry e) os ps o → zs ≡ ys ++ x ∷ [] → Onward a cells all vm0 (Left ys es (there os)) vm → Renews a cells (One (seen_entry e) q o) vm (λ n. seen_item_code n x) mid
       → Onward a cells all vm0 (Left zs rest (there ps)) mid
-  sync_next all ys zs es rest e x q os ps o vm0 vm mid is at t more w p =
-      onward_as a cells all (λ n run st. then_left ys rest (there ps) n (seen_item_code n x) run st) (Left zs rest (there ps)) vm0 mid (λ n run u. ap (λ ws. onto ws (All rest (there ps) n run (state_of n mid u))) (done_is ys zs x more n))
-      (onward_next a cells all vm0 (Left ys es (there os)) vm (One (seen_entry e) q o) (then_left ys rest (there ps)) (left_is ys es rest e q os ps o vm is at t) w (λ n. seen_item_code n x) mid p)
+  sync_next all ys zs es rest e x q os ps o vm0 vm mid is at t more w p = sync_next_of all ys zs (seen_left es) (seen_left rest) (seen_entry e) x q os ps o vm0 vm mid (next_left es rest e is) at t more w p
+
+  pub sync_fails_of : (all : Renewal ItemCodes) (ys : List ItemCode) (fs rest : List PlainEntry) (e : PlainEntry) (q : Path) (os ps : List (Option ItemCode)) (o : Option ItemCode) (vm0 vm : Vm) (h : VmFault) → fs ≡ e ∷ rest
+      → q ≡ item e.key e.occurrence ∷ base → TakesOld e os ps o → Onward a cells all vm0 (LeftOf ys fs (there os)) vm → RenewFails {A = Item} a cells (One e q o) vm h
+      → RenewFails {A = ItemCodes} a cells all vm0 h
+  sync_fails_of all ys fs rest e q os ps o vm0 vm h is at t w p = onward_fails a cells all vm0 (LeftOf ys fs (there os)) vm (One e q o) (then_left ys rest (there ps)) (left_is ys fs rest e q os ps o vm is at t) w h p
 
   pub sync_fails : (all : Renewal ItemCodes) (ys : List ItemCode) (es rest : List Entry) (e : Entry) (q : Path) (os ps : List (Option ItemCode)) (o : Option ItemCode) (vm0 vm : Vm) (h : VmFault) → es ≡ rest ++ e ∷ []
       → q ≡ item (plain (view e.key)) e.occurrence ∷ base → TakesOld (seen_entry e) os ps o → Onward a cells all vm0 (Left ys es (there os)) vm → RenewFails {A = Item} a cells (One (seen_entry e) q o) vm h
       → RenewFails {A = ItemCodes} a cells all vm0 h
-  sync_fails all ys es rest e q os ps o vm0 vm h is at t w p = onward_fails a cells all vm0 (Left ys es (there os)) vm (One (seen_entry e) q o) (then_left ys rest (there ps)) (left_is ys es rest e q os ps o vm is at t) w h p
+  sync_fails all ys es rest e q os ps o vm0 vm h is at t w p = sync_fails_of all ys (seen_left es) (seen_left rest) (seen_entry e) q os ps o vm0 vm h (next_left es rest e is) at t w p
 
   -- what is left of the old ones is ended
   counted_is : (q : Name) (run : Runs) (xs : List Item) → times_items q (items_of (all_items xs)) ≡ times_code_handles q (handles run left xs)
   counted_is q run [] = refl
   counted_is q run (x ∷ xs) = ap (λ k. (occurs q (item_made x.0) + (times_in q (lives_of x.1.1) + times_comment q x.1.0)) + k) (counted_is q run xs)
 
+  pub sync_end_of : (all : Renewal ItemCodes) (ys xs : List ItemCode) (fs : List PlainEntry) (os : List (Option ItemCode)) (vm0 vm new : Vm) → fs ≡ [] → xs ≡ there os → Onward a cells all vm0 (LeftOf ys fs (there os)) vm
+      → Does (λ n. dropped_as by_number (λ q. times_items q (items_of (all_items (map (seen_item_code n) xs))))) vm new
+      → Renews a cells all vm0 (λ n. all_items (seen_done ys n)) new
+  sync_end_of all ys xs fs os vm0 vm new none are w d =
+      let gone : Tables → State → State = λ n. dropped_as by_number (λ q. times_items q (items_of (all_items (map (seen_item_code n) xs)))) in
+      w.goes (λ n. all_items (seen_done ys n)) new
+      (renews_same a cells (λ n run st. ok (all_items (seen_done ys n), gone n st)) (LeftOf ys fs (there os)) (λ n. all_items (seen_done ys n)) vm new
+      (λ n run u. let st : State = state_of n vm u in
+      ap₂ (λ is c. ok (is, dropped_as by_number c st)) (sym (before_none (seen_done ys n))) (λ t q. counted_is q run (map (seen_item_code n) xs) t)
+      ∙ (ap (λ qs. LeftOf ys [] qs n run st) are ∙ ap (λ gs. LeftOf ys gs (there os) n run st) (sym none)))
+      (renews_by a cells gone (λ n. all_items (seen_done ys n)) vm new d))
+
   pub sync_end : (all : Renewal ItemCodes) (ys xs : List ItemCode) (es : List Entry) (os : List (Option ItemCode)) (vm0 vm new : Vm) → es ≡ [] → xs ≡ there os → Onward a cells all vm0 (Left ys es (there os)) vm
       → Does (λ n. dropped_as by_number (λ q. times_items q (items_of (all_items (map (seen_item_code n) xs))))) vm new
       → Renews a cells all vm0 (λ n. all_items (seen_done ys n)) new
-  sync_end all ys xs es os vm0 vm new none are w d =
-      let gone : Tables → State → State = λ n. dropped_as by_number (λ q. times_items q (items_of (all_items (map (seen_item_code n) xs)))) in
-      w.goes (λ n. all_items (seen_done ys n)) new
-      (renews_same a cells (λ n run st. ok (all_items (seen_done ys n), gone n st)) (Left ys es (there os)) (λ n. all_items (seen_done ys n)) vm new
-      (λ n run u. let st : State = state_of n vm u in
-      ap₂ (λ is c. ok (is, dropped_as by_number c st)) (sym (before_none (seen_done ys n))) (λ t q. counted_is q run (map (seen_item_code n) xs) t)
-      ∙ (ap (λ qs. Left ys [] qs n run st) are ∙ ap (λ fs. Left ys fs (there os) n run st) (sym none)))
-      (renews_by a cells gone (λ n. all_items (seen_done ys n)) vm new d))
+  sync_end all ys xs es os vm0 vm new none are w d = sync_end_of all ys xs (seen_left es) os vm0 vm new (ap seen_left none) are w d
 
 -- An old item
 
 -- what it is given
+abbrev pub given_of : ItemSpot → PlainEntry → Tables → State → State
+given_of sp e n st = give sp.index.1 (label sp.index.1) (labelled (count_value e.index)) (give sp.value.1 (label sp.value.1) e.value st)
+
 abbrev pub given_item : ItemSpot → Entry → Tables → State → State
-given_item sp e n st = give sp.index.1 (label sp.index.1) (labelled (count_value e.index)) (give sp.value.1 (label sp.value.1) (labelled (view e.value)) st)
+given_item sp e n st = given_of sp (seen_entry e) n st
 
 pub item_given : (sp : ItemSpot) (e : Entry) (count : Value) (vm vm1 vm2 : Vm) → Does (λ n. give sp.value.1 (label sp.value.1) (labelled (view e.value))) vm vm1 → Does (λ n. give sp.index.1 (label sp.index.1) (labelled (view count))) vm1 vm2 → view count ≡ count_value e.index
     → Does (given_item sp e) vm vm2
@@ -274,16 +303,16 @@ module _ (a : App) (cells : CellList) (left : ℕ) (q : Path) (e : Entry) (sp : 
 
 -- All of it
 
-module _ (a : App) (cells : CellList) (left : ℕ) (z : Listing) (s : PlainSpot) (p q : Path) (es es' : List Entry) (xs xs' : List ItemCode) (below : q ≡ items ∷ p) (same_entries : es' ≡ es) (same_items : xs' ≡ xs) where
+module _ (a : App) (cells : CellList) (left : ℕ) (z : Listing) (s : PlainSpot) (p q : Path) (es es' : List PlainEntry) (xs xs' : List ItemCode) (below : q ≡ items ∷ p) (same_entries : es' ≡ es) (same_items : xs' ≡ xs) where
   abbrev pub Inner : Renewal ItemCodes
-  Inner = SyncItems (λ n. seen_listing n z) left q (seen_left es') (λ n. map (seen_item_code n) xs')
+  Inner = SyncItems (λ n. seen_listing n z) left q es' (λ n. map (seen_item_code n) xs')
 
   abbrev pub Outer : Renewal PlainCode
-  Outer = Syncs (λ n. seen_listing n z) s left p (seen_left es) (λ n. map (seen_item_code n) xs)
+  Outer = Syncs (λ n. seen_listing n z) s left p es (λ n. map (seen_item_code n) xs)
 
   inner_is : (vm : Vm) (n : Tables) (run : Runs) (u : Source → Bool) → on_ok (Inner n run (state_of n vm u)) (λ r. ok (listed_code (seen_listing n z) s r.0, r.1)) ≡ Outer n run (state_of n vm u)
   inner_is vm n run u =
-      let at : Path → List Entry → List ItemCode → Outcome (PlainCode × State) = λ w fs ys. on_ok (SyncItems (λ n. seen_listing n z) left w (seen_left fs) (λ n. map (seen_item_code n) ys) n run (state_of n vm u)) (λ r. ok (listed_code (seen_listing n z) s r.0, r.1)) in
+      let at : Path → List PlainEntry → List ItemCode → Outcome (PlainCode × State) = λ w fs ys. on_ok (SyncItems (λ n. seen_listing n z) left w fs (λ n. map (seen_item_code n) ys) n run (state_of n vm u)) (λ r. ok (listed_code (seen_listing n z) s r.0, r.1)) in
       ap (λ w. at w es' xs') below ∙ (ap (λ fs. at (items ∷ p) fs xs') same_entries ∙ ap (λ ys. at (items ∷ p) es ys) same_items)
 
   pub list_syncs : (is : Tables → ItemCodes) (y : Tables → PlainCode) (old new : Vm) → ((n : Tables) → y n ≡ listed_code (seen_listing n z) s (is n)) → Renews a cells Inner old is new → Renews a cells Outer old y new

@@ -6,3 +6,4 @@ pub mod Renewing
 pub mod View
 pub mod NextItem
 pub mod TakenLists
+pub mod Read

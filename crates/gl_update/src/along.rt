@@ -38,10 +38,10 @@ fn enter_item(trail: &mut Trail<'_>, spot: &ItemSpot) -> Result<(), AllocError>
     })
 }
 
-// An item, where it is entered. The trail is that of the items of the list.
+/// An item, where it is entered. The trail is that of the items of the list.
 #[cycle(renewing)]
 #[inline(never)]
-fn walk_item(
+pub(crate) fn walk_item(
     vm: &mut Vm,
     alloc: Global,
     app: &App,
@@ -114,9 +114,9 @@ fn walk_items(
     Ok(())
 }
 
-// The list with its items.
+/// The list with its items.
 #[inline(never)]
-fn with_items(alloc: Global, list: Box<Listed>) -> Result<Box<Code>, AllocError>
+pub(crate) fn with_items(alloc: Global, list: Box<Listed>) -> Result<Box<Code>, AllocError>
     ensures { IfOk result (λ r. (n : _) → seen_code n r.value ≡ c.listed_code (seen_listing n list.value.listing) (seen_spot list.value.spot) (all_items (map (seen_item_code n) list.value.items.items))) }
 {
     let list = Box::into_inner(list);

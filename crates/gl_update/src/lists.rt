@@ -21,11 +21,13 @@ use crate::counting::Moved;
 use crate::ending::end_branch;
 use crate::ending_items::end_items;
 use crate::items::fresh_items;
+use crate::reading::{Read, read_listed};
 use crate::standing::{behind, behind_items, seat_with_comment};
+use crate::staying::stay_list;
 use crate::syncing::sync_list;
 use crate::taken::{
     Listed, Ready, Taken, Unlisted, ask_list, boxed_code, first_of, lost_list, put_list,
-    read_listed, read_unlisted, take_list, without_items,
+    read_unlisted, take_list, without_items,
 };
 use crate::trail::Trail;
 use gl_append::{Cells, Code, Codes, Entry, ItemCode, Listing, Spot, VmFault};
@@ -133,12 +135,19 @@ fn relist(
     ensures calm { Calm vm.new }
 {
     let read = read_listed(vm, alloc, list)?;
-    if read.1.entries.is_empty() {
-        end_list(vm, alloc, app, cells, trail, left, read.0, read.1, parent)
-    } else {
-        sync_list(
-            vm, alloc, app, cells, trail, left, read.0, read.1, parent, moved,
-        )
+    match read {
+        Read::Same(list, values) => stay_list(
+            vm, alloc, app, cells, trail, left, list, values, parent, moved,
+        ),
+        Read::Other(list, ready) => {
+            if ready.entries.is_empty() {
+                end_list(vm, alloc, app, cells, trail, left, list, ready, parent)
+            } else {
+                sync_list(
+                    vm, alloc, app, cells, trail, left, list, ready, parent, moved,
+                )
+            }
+        }
     }
 }
 

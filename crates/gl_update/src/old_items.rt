@@ -41,8 +41,9 @@ fn is_key_of(key: &Key, item: &ItemCode) -> bool
     key.value.same(&item.spot.key) && key.occurrence == item.spot.occurrence
 }
 
+/// Whether the items have these keys, in order.
 #[inline(never)]
-fn are_keys_of(keys: &[Key], items: &[ItemCode]) -> bool
+pub(crate) fn are_keys_of(keys: &[Key], items: &[ItemCode]) -> bool
     ensures { IsTrue result → seen_keys keys.now ≡ map raw_key items.now }
 {
     if keys.len() != items.len() {

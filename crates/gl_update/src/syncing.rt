@@ -43,9 +43,9 @@ use gl_vm::Vm;
 use std::alloc::{AllocError, Global};
 use std::mem;
 
-// Gives an item's reference a value, where it is a live one.
+/// Gives an item's reference a value, where it is a live one.
 #[inline(never)]
-fn give(vm: &mut Vm, id: RefId, value: Value) -> Result<(), AllocError>
+pub(crate) fn give(vm: &mut Vm, id: RefId, value: Value) -> Result<(), AllocError>
     ensures step { OnOk result (Does (λ n. r.give id.1 (label id.1) (labelled (view value))) vm.old vm.new) }
     ensures calm { Calm vm.old → Calm vm.new }
 {

@@ -165,8 +165,8 @@ pub(crate) fn boxed_code(alloc: Global, code: Code) -> Result<Box<Code>, AllocEr
     Ok(Box::new(alloc, code)?)
 }
 
-// What a position gives now: it is evaluated again where it is stale.
-fn value_now(vm: &mut Vm, id: RefId) -> Result<Value, AllocError>
+/// What a position gives now: it is evaluated again where it is stale.
+pub(crate) fn value_now(vm: &mut Vm, id: RefId) -> Result<Value, AllocError>
     requires calm { Calm vm.old }
     ensures step { OnOk result (Does (λ n. r.reread id.1) vm.old vm.new) }
     ensures value { IfOk result (λ v. (n : _) (touched : _) → first_value (spot_pairs (state_of n vm.new touched) id.1) ≡ labelled (view v)) }
@@ -221,24 +221,6 @@ pub(crate) fn ask_items(vm: &mut Vm, list: Box<Listed>) -> Result<(Box<Listed>, 
     Ok((list, enters))
 }
 
-/// What a list with items has now.
-#[inline(never)]
-pub(crate) fn read_listed(
-    vm: &mut Vm,
-    alloc: Global,
-    list: Box<Listed>,
-) -> Result<(Box<Listed>, Box<Ready>), AllocError>
-    requires calm { Calm vm.old }
-    ensures list { IfOk result (λ x. x.0 ≡ list) }
-    ensures step { OnOk result (Does (λ n. r.reread list.value.spot.id.1) vm.old vm.new) }
-    ensures entries { IfOk result (λ x. (n : _) (touched : _) → seen_left x.1.value.entries.items ≡ entries list.value.listing.key 0 [] (values_listed (first_value (spot_pairs (state_of n vm.new touched) list.value.spot.id.1)))) }
-    ensures keys { IfOk result (λ x. x.1.value.keys ≡ entry_keys (seen_left x.1.value.entries.items)) }
-    ensures calm { Calm vm.new }
-{
-    let ready = read_list(vm, alloc, &list.listing.key, list.spot.id)?;
-    Ok((list, ready))
-}
-
 /// What a list without items has now.
 #[inline(never)]
 pub(crate) fn read_unlisted(
@@ -257,7 +239,12 @@ pub(crate) fn read_unlisted(
     Ok((list, ready))
 }
 
-fn boxed_ready(alloc: Global, keys: Keys, entries: Vec<Entry>) -> Result<Box<Ready>, AllocError>
+/// The same, in a box.
+pub(crate) fn boxed_ready(
+    alloc: Global,
+    keys: Keys,
+    entries: Vec<Entry>,
+) -> Result<Box<Ready>, AllocError>
     ensures keys { IfOk result (λ x. x.value.keys ≡ keys) }
     ensures entries { IfOk result (λ x. x.value.entries ≡ entries) }
 {

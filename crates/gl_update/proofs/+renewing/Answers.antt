@@ -1,14 +1,17 @@
-use Rattle.std.proofs.Common.{rules, Bool, ◌≡◌, ◌≢◌, ℕ, ◌+◌, ◌∷◌, ◌∙◌, length, drop, Some, None, map, ◌++◌, [], ◌-◌, ap, sym, subst, arith, get_or, get_or-set_other, List, Option, refl, ap₂, reverse, nat_eq, true, false}
+use Rattle.std.proofs.Common.{rules, Bool, ◌≡◌, ◌≢◌, ◌<◌, ℕ, ◌+◌, ◌∷◌, ◌∙◌, length, drop, Some, None, map, ◌++◌, [], ◌-◌, ap, sym, subst, arith, get_or, get_or-set_other, List, Option, refl, ap₂, reverse, nat_eq, true, false}
 use Rattle.std.specs.Prelude.{if◌then◌else◌, OnOk, IfErr, List, Option}
 use Rattle.std.proofs.lemmas.List.{length-set}
 use Rattle.std.proofs.lemmas.Result.{on_ok_weaker, IfOk-weaker, IfErr-weaker}
 use Rattle.std.specs.Cmp.{booleans_Decides}
 use Rattle.gl_meaning.specs.Path.{at, main, otherwise, slot, Path, item, items}
+use Rattle.gl_meaning.specs.Render.{entries}
+use Rattle.gl_meaning.specs.Scope.{Source}
 use Rattle.gl_meaning.specs.View.{path_view, path_step_view}
 use Rattle.gl_nodes.specs.Flat.{stamp_of}
 use Rattle.gl_plain.specs.Ids as ids
 use Rattle.gl_plain.specs.Naming.{by_number}
-use Rattle.gl_plain.specs.Renew.{renew_attrs, renew_mods, renew_text}
+use Rattle.gl_plain.specs.Binding.{first_value}
+use Rattle.gl_plain.specs.Renew.{renew_attrs, renew_mods, renew_text, spot_pairs}
 use Rattle.gl_machine.specs.Code as p
 use Rattle.gl_plain.specs.State.{Names, Inst}
 use Rattle.std.specs.declared.vec.Vec.{Vec}
@@ -21,7 +24,7 @@ use Rattle.gl_append.specs.declared.code.Codes.{Codes}
 use Rattle.gl_append.specs.declared.code.ModSpot.{ModSpot}
 use Rattle.gl_append.specs.declared.code.Spot.{Spot}
 use Rattle.gl_append.specs.declared.sight.Owner.{Owner}
-use Rattle.gl_vm.specs.View.{Tables, stamps, name_stamps}
+use Rattle.gl_vm.specs.View.{Tables, stamps, name_stamps, state_of}
 use Rattle.gl_vm.specs.Steps.{Does}
 use Rattle.gl_append.specs.View.{refs_made, seen_owner}
 use Rattle.gl_append.specs.declared.code.Code.{the_lemmas}
@@ -41,6 +44,9 @@ use Rattle.gl_plain.specs.Live.{times_items, times_in, times_comment}
 use Rattle.gl_machine.specs.Code.{Listing, Code as PlainCode, Codes as PlainCodes, ItemCodes, listed_code, unlisted_code, items_of, lives_of, live_of}
 use Rattle.gl_plain.specs.Counts.{positions_in}
 use Rattle.gl_guards.specs.Along.{along_code_as, along_codes_as, along_body_as}
+use Rattle.gl_update.specs.Read.{Gives, IsOf, entries_now}
+use Rattle.gl_update.specs.declared.reading.Read.TheVariants as r
+use Rattle.gl_update.proofs.StayingItems.{GivesAt, none_now, stays_begin, stays_next, stays_fails, stays_end}
 use Rattle.gl_update.proofs.Regions.{region_entered, region_fails, region_passed}
 use Rattle.gl_append.specs.MachineView.{seen_entry, seen_left}
 use Rattle.gl_append.proofs.ListEnds.{none_counted, some_counted, none_left}
@@ -61,7 +67,7 @@ use Rattle.gl_update.proofs.SyncItems.{given_item, All, sync_begin, sync_next, s
 use Rattle.gl_append.specs.declared.code.ItemCode.{ItemCode}
 use Rattle.gl_update.proofs.ListUpdates.{unlisted_stays, unlisted_stays_fails, unlisted_lists, unlisted_lists_fails, Unlisting, gone, Updating, listed_reads, listed_reads_fails, listed_goes, listed_goes_fails, listed_ends, listed_ends_fails, listed_syncs, listed_syncs_fails, Relisting}
 use Rattle.gl_update.proofs.Still.{renews_on}
-use Rattle.gl_each.specs.Key.{entry_key}
+use Rattle.gl_each.specs.Key.{entry_key, entry_keys}
 use Rattle.gl_update.specs.Counted.{CodeMoved, CodesMoved, HasKey, IsListed, IsUnlisted, ItemMoved, ItemsAlong, KeptMoved}
 use Rattle.gl_update.proofs.MovedCodes.{none_moved, code_moved, arm_moved, walked_begin, walked_next, walked_end, same_moved, flip_moved, stays_moved, ended_moved, begun_moved, kept_moved}
 use Rattle.gl_update.proofs.AlongCounts.{along_begin, along_next, along_end, list_along, list_stays}
@@ -515,70 +521,42 @@ lists::renew_list-returns-in-Err-renew_unlisted-clause-fails t c =
 pub lists::relist-returns-then-is_empty-clause-ok : goal.lists::relist-returns-then-is_empty-clause-ok
 lists::relist-returns-then-is_empty-clause-ok t c =
     let z : Tables → Listing = λ n. seen_listing n c.args.list.value.listing in
+    let key = c.args.list.value.listing.key in
     let s = seen_spot c.args.list.value.spot in
     let p = trail_view c.args.trail.now in
     let xs : Tables → List Item = λ n. map (seen_item_code n) c.args.list.value.items.items in
-    let es = c.in_ok-read.read.1.value.entries in
+    let is : IsOf c.args.list (r.Other c.in-Other.list c.in-Other.ready) = subst (IsOf c.args.list) c.in-Other.is c.in_ok-read.ensures.is in
+    let gives : (n : Tables) (u : Source → Bool) → Gives (first_value (spot_pairs (state_of n c.read_listed.new.vm u) c.args.list.value.spot.id.1)) c.args.list (r.Other c.in-Other.list c.in-Other.ready) =
+    λ n u. subst (Gives (first_value (spot_pairs (state_of n c.read_listed.new.vm u) c.args.list.value.spot.id.1)) c.args.list) c.in-Other.is (c.in_ok-read.ensures.gives n u) in
+    let es = c.in-Other.ready.value.entries in
     let l : vec_len es ≡ length es.items = search rules in
     let none = none_counted es.items (vec_len es) l (subst (λ (x : Ready). nat_eq (vec_len x.entries) 0 ≡ true) c.deref.ensures (sym c.is_empty.ensures ∙ c.if-is_empty.true)) in
     IfOk-weaker c.end_list.result
     (λ r. Renews c.args.app.now c.args.cells.now (ListsNone z s c.args.left p (λ n q. times_items q (items_of (all_items (xs n))))) c.read_listed.new.vm (λ n. seen_code n r.value) c.end_list.new.vm)
-    (λ r. Renews c.args.app.now c.args.cells.now (Relisting c.args.app.now c.args.cells.now z c.args.list.value.listing.key (λ n. refl) s c.args.left p xs) c.args.vm.now (λ n. seen_code n r.value) c.end_list.new.vm)
-    (λ r h. listed_ends c.args.app.now c.args.cells.now z c.args.list.value.listing.key (λ n. refl) s c.args.left p xs c.args.vm.now c.read_listed.new.vm c.end_list.new.vm (λ n. seen_code n r.value) c.in_ok-read.ensures.step
-    (λ n u. sym (ap seen_left none) ∙ c.in_ok-read.ensures.entries n u) h)
-    (subst (λ (b : Box Listed Global). IfOk c.end_list.result (λ r. Renews c.args.app.now c.args.cells.now (ListsNone (λ n. seen_listing n b.value.listing) (seen_spot b.value.spot) c.args.left (trail_view c.args.trail.now) (λ n q. times_items q (items_of (all_items (map (seen_item_code n) b.value.items.items))))) c.read_listed.new.vm (λ n. seen_code n r.value) c.end_list.new.vm)) c.in_ok-read.ensures.list c.end_list.ensures.ok)
+    (λ r. Renews c.args.app.now c.args.cells.now (Relisting c.args.app.now c.args.cells.now z key (λ n. refl) s c.args.left p xs) c.args.vm.now (λ n. seen_code n r.value) c.end_list.new.vm)
+    (λ r h. listed_ends c.args.app.now c.args.cells.now z key (λ n. refl) s c.args.left p xs c.args.vm.now c.read_listed.new.vm c.end_list.new.vm (λ n. seen_code n r.value) c.in_ok-read.ensures.step
+    (λ n u. sym (ap seen_left none) ∙ gives n u) h)
+    (subst (λ (b : Box Listed Global). IfOk c.end_list.result (λ r. Renews c.args.app.now c.args.cells.now (ListsNone (λ n. seen_listing n b.value.listing) (seen_spot b.value.spot) c.args.left p (λ n q. times_items q (items_of (all_items (map (seen_item_code n) b.value.items.items))))) c.read_listed.new.vm (λ n. seen_code n r.value) c.end_list.new.vm)) is.0 c.end_list.ensures.ok)
 
 pub lists::relist-returns-then-is_empty-clause-fails : goal.lists::relist-returns-then-is_empty-clause-fails
 lists::relist-returns-then-is_empty-clause-fails t c =
     let z : Tables → Listing = λ n. seen_listing n c.args.list.value.listing in
+    let key = c.args.list.value.listing.key in
     let s = seen_spot c.args.list.value.spot in
     let p = trail_view c.args.trail.now in
     let xs : Tables → List Item = λ n. map (seen_item_code n) c.args.list.value.items.items in
-    let es = c.in_ok-read.read.1.value.entries in
+    let is : IsOf c.args.list (r.Other c.in-Other.list c.in-Other.ready) = subst (IsOf c.args.list) c.in-Other.is c.in_ok-read.ensures.is in
+    let gives : (n : Tables) (u : Source → Bool) → Gives (first_value (spot_pairs (state_of n c.read_listed.new.vm u) c.args.list.value.spot.id.1)) c.args.list (r.Other c.in-Other.list c.in-Other.ready) =
+    λ n u. subst (Gives (first_value (spot_pairs (state_of n c.read_listed.new.vm u) c.args.list.value.spot.id.1)) c.args.list) c.in-Other.is (c.in_ok-read.ensures.gives n u) in
+    let es = c.in-Other.ready.value.entries in
     let l : vec_len es ≡ length es.items = search rules in
     let none = none_counted es.items (vec_len es) l (subst (λ (x : Ready). nat_eq (vec_len x.entries) 0 ≡ true) c.deref.ensures (sym c.is_empty.ensures ∙ c.if-is_empty.true)) in
     IfErr-weaker c.end_list.result
     (RenewFails {A = PlainCode} c.args.app.now c.args.cells.now (ListsNone z s c.args.left p (λ n q. times_items q (items_of (all_items (xs n))))) c.read_listed.new.vm)
-    (RenewFails {A = PlainCode} c.args.app.now c.args.cells.now (Relisting c.args.app.now c.args.cells.now z c.args.list.value.listing.key (λ n. refl) s c.args.left p xs) c.args.vm.now)
-    (λ f h. listed_ends_fails c.args.app.now c.args.cells.now z c.args.list.value.listing.key (λ n. refl) s c.args.left p xs c.args.vm.now c.read_listed.new.vm f c.in_ok-read.ensures.step
-    (λ n u. sym (ap seen_left none) ∙ c.in_ok-read.ensures.entries n u) h)
-    (subst (λ (b : Box Listed Global). IfErr c.end_list.result (RenewFails {A = PlainCode} c.args.app.now c.args.cells.now (ListsNone (λ n. seen_listing n b.value.listing) (seen_spot b.value.spot) c.args.left (trail_view c.args.trail.now) (λ n q. times_items q (items_of (all_items (map (seen_item_code n) b.value.items.items))))) c.read_listed.new.vm)) c.in_ok-read.ensures.list c.end_list.ensures.fails)
-
-pub lists::relist-returns-else-is_empty-clause-ok : goal.lists::relist-returns-else-is_empty-clause-ok
-lists::relist-returns-else-is_empty-clause-ok t c =
-    let z : Tables → Listing = λ n. seen_listing n c.args.list.value.listing in
-    let s = seen_spot c.args.list.value.spot in
-    let p = trail_view c.args.trail.now in
-    let xs : Tables → List Item = λ n. map (seen_item_code n) c.args.list.value.items.items in
-    let es = c.in_ok-read.read.1.value.entries in
-    let l : vec_len es ≡ length es.items = search rules in
-    let some = some_counted es.items (vec_len es) l (subst (λ (x : Ready). nat_eq (vec_len x.entries) 0 ≡ false) c.deref.ensures (sym c.is_empty.ensures ∙ c.if-is_empty.false)) in
-    IfOk-weaker c.sync_list.result
-    (λ r. Renews c.args.app.now c.args.cells.now (Syncs z s c.args.left p (seen_left es.items) xs) c.read_listed.new.vm (λ n. seen_code n r.value) c.sync_list.new.vm)
-    (λ r. Renews c.args.app.now c.args.cells.now (Relisting c.args.app.now c.args.cells.now z c.args.list.value.listing.key (λ n. refl) s c.args.left p xs) c.args.vm.now (λ n. seen_code n r.value) c.sync_list.new.vm)
-    (λ r h. listed_syncs c.args.app.now c.args.cells.now z c.args.list.value.listing.key (λ n. refl) s c.args.left p xs (seen_left es.items) c.args.vm.now c.read_listed.new.vm c.sync_list.new.vm (λ n. seen_code n r.value) (λ e. some (none_left es.items e)) c.in_ok-read.ensures.step
-    c.in_ok-read.ensures.entries h)
-    (subst (λ (b : Box Listed Global). IfOk c.sync_list.result (λ r. Renews c.args.app.now c.args.cells.now (Syncs (λ n. seen_listing n b.value.listing) (seen_spot b.value.spot) c.args.left (trail_view c.args.trail.now) (seen_left c.in_ok-read.read.1.value.entries.items) (λ n. map (seen_item_code n) b.value.items.items)) c.read_listed.new.vm (λ n. seen_code n r.value) c.sync_list.new.vm)) c.in_ok-read.ensures.list c.sync_list.ensures.ok)
-
-pub lists::relist-returns-else-is_empty-clause-fails : goal.lists::relist-returns-else-is_empty-clause-fails
-lists::relist-returns-else-is_empty-clause-fails t c =
-    let z : Tables → Listing = λ n. seen_listing n c.args.list.value.listing in
-    let s = seen_spot c.args.list.value.spot in
-    let p = trail_view c.args.trail.now in
-    let xs : Tables → List Item = λ n. map (seen_item_code n) c.args.list.value.items.items in
-    let es = c.in_ok-read.read.1.value.entries in
-    let l : vec_len es ≡ length es.items = search rules in
-    let some = some_counted es.items (vec_len es) l (subst (λ (x : Ready). nat_eq (vec_len x.entries) 0 ≡ false) c.deref.ensures (sym c.is_empty.ensures ∙ c.if-is_empty.false)) in
-    IfErr-weaker c.sync_list.result
-    (RenewFails {A = PlainCode} c.args.app.now c.args.cells.now (Syncs z s c.args.left p (seen_left es.items) xs) c.read_listed.new.vm)
-    (RenewFails {A = PlainCode} c.args.app.now c.args.cells.now (Relisting c.args.app.now c.args.cells.now z c.args.list.value.listing.key (λ n. refl) s c.args.left p xs) c.args.vm.now)
-    (λ f h. listed_syncs_fails c.args.app.now c.args.cells.now z c.args.list.value.listing.key (λ n. refl) s c.args.left p xs (seen_left es.items) c.args.vm.now c.read_listed.new.vm f (λ e. some (none_left es.items e)) c.in_ok-read.ensures.step
-    c.in_ok-read.ensures.entries h)
-    (subst (λ (b : Box Listed Global). IfErr c.sync_list.result (RenewFails {A = PlainCode} c.args.app.now c.args.cells.now (Syncs (λ n. seen_listing n b.value.listing) (seen_spot b.value.spot) c.args.left (trail_view c.args.trail.now) (seen_left c.in_ok-read.read.1.value.entries.items) (λ n. map (seen_item_code n) b.value.items.items)) c.read_listed.new.vm)) c.in_ok-read.ensures.list c.sync_list.ensures.fails)
-
-pub lists::relist-returns-else-is_empty-clause-moved : goal.lists::relist-returns-else-is_empty-clause-moved
-lists::relist-returns-else-is_empty-clause-moved t c =
-    subst (λ (b : Box Listed Global). IfOk c.sync_list.result (λ r. CodeMoved c.args.moved.now c.sync_list.new.moved (λ n. listed_code (seen_listing n b.value.listing) (seen_spot b.value.spot) (all_items (map (seen_item_code n) b.value.items.items))) (λ n. seen_code n r.value))) c.in_ok-read.ensures.list c.sync_list.ensures.moved
+    (RenewFails {A = PlainCode} c.args.app.now c.args.cells.now (Relisting c.args.app.now c.args.cells.now z key (λ n. refl) s c.args.left p xs) c.args.vm.now)
+    (λ f h. listed_ends_fails c.args.app.now c.args.cells.now z key (λ n. refl) s c.args.left p xs c.args.vm.now c.read_listed.new.vm f c.in_ok-read.ensures.step
+    (λ n u. sym (ap seen_left none) ∙ gives n u) h)
+    (subst (λ (b : Box Listed Global). IfErr c.end_list.result (RenewFails {A = PlainCode} c.args.app.now c.args.cells.now (ListsNone (λ n. seen_listing n b.value.listing) (seen_spot b.value.spot) c.args.left p (λ n q. times_items q (items_of (all_items (map (seen_item_code n) b.value.items.items))))) c.read_listed.new.vm)) is.0 c.end_list.ensures.fails)
 
 pub lists::relist-returns-then-is_empty-clause-moved : goal.lists::relist-returns-then-is_empty-clause-moved
 lists::relist-returns-then-is_empty-clause-moved t c =
@@ -587,6 +565,90 @@ lists::relist-returns-then-is_empty-clause-moved t c =
     let xs : Tables → List Item = λ n. map (seen_item_code n) c.args.list.value.items.items in
     IfOk-weaker c.end_list.result (λ r. (n : Tables) → IsUnlisted (live_of (seen_code n r.value))) (λ r. CodeMoved c.args.moved.now c.args.moved.now (λ n. listed_code (z n) s (all_items (xs n))) (λ n. seen_code n r.value))
     (λ r h. ended_moved c.args.moved.now z s xs (λ n. seen_code n r.value) h) c.end_list.ensures.none
+
+pub lists::relist-returns-else-is_empty-clause-ok : goal.lists::relist-returns-else-is_empty-clause-ok
+lists::relist-returns-else-is_empty-clause-ok t c =
+    let z : Tables → Listing = λ n. seen_listing n c.args.list.value.listing in
+    let key = c.args.list.value.listing.key in
+    let s = seen_spot c.args.list.value.spot in
+    let p = trail_view c.args.trail.now in
+    let xs : Tables → List Item = λ n. map (seen_item_code n) c.args.list.value.items.items in
+    let is : IsOf c.args.list (r.Other c.in-Other.list c.in-Other.ready) = subst (IsOf c.args.list) c.in-Other.is c.in_ok-read.ensures.is in
+    let gives : (n : Tables) (u : Source → Bool) → Gives (first_value (spot_pairs (state_of n c.read_listed.new.vm u) c.args.list.value.spot.id.1)) c.args.list (r.Other c.in-Other.list c.in-Other.ready) =
+    λ n u. subst (Gives (first_value (spot_pairs (state_of n c.read_listed.new.vm u) c.args.list.value.spot.id.1)) c.args.list) c.in-Other.is (c.in_ok-read.ensures.gives n u) in
+    let es = c.in-Other.ready.value.entries in
+    let l : vec_len es ≡ length es.items = search rules in
+    let some = some_counted es.items (vec_len es) l (subst (λ (x : Ready). nat_eq (vec_len x.entries) 0 ≡ false) c.deref.ensures (sym c.is_empty.ensures ∙ c.if-is_empty.false)) in
+    IfOk-weaker c.sync_list.result
+    (λ r. Renews c.args.app.now c.args.cells.now (Syncs z s c.args.left p (seen_left es.items) xs) c.read_listed.new.vm (λ n. seen_code n r.value) c.sync_list.new.vm)
+    (λ r. Renews c.args.app.now c.args.cells.now (Relisting c.args.app.now c.args.cells.now z key (λ n. refl) s c.args.left p xs) c.args.vm.now (λ n. seen_code n r.value) c.sync_list.new.vm)
+    (λ r h. listed_syncs c.args.app.now c.args.cells.now z key (λ n. refl) s c.args.left p xs (seen_left es.items) c.args.vm.now c.read_listed.new.vm c.sync_list.new.vm (λ n. seen_code n r.value) (λ e. some (none_left es.items e)) c.in_ok-read.ensures.step gives h)
+    (subst (λ (b : Box Listed Global). IfOk c.sync_list.result (λ r. Renews c.args.app.now c.args.cells.now (Syncs (λ n. seen_listing n b.value.listing) (seen_spot b.value.spot) c.args.left p (seen_left es.items) (λ n. map (seen_item_code n) b.value.items.items)) c.read_listed.new.vm (λ n. seen_code n r.value) c.sync_list.new.vm)) is.0 c.sync_list.ensures.ok)
+
+pub lists::relist-returns-else-is_empty-clause-fails : goal.lists::relist-returns-else-is_empty-clause-fails
+lists::relist-returns-else-is_empty-clause-fails t c =
+    let z : Tables → Listing = λ n. seen_listing n c.args.list.value.listing in
+    let key = c.args.list.value.listing.key in
+    let s = seen_spot c.args.list.value.spot in
+    let p = trail_view c.args.trail.now in
+    let xs : Tables → List Item = λ n. map (seen_item_code n) c.args.list.value.items.items in
+    let is : IsOf c.args.list (r.Other c.in-Other.list c.in-Other.ready) = subst (IsOf c.args.list) c.in-Other.is c.in_ok-read.ensures.is in
+    let gives : (n : Tables) (u : Source → Bool) → Gives (first_value (spot_pairs (state_of n c.read_listed.new.vm u) c.args.list.value.spot.id.1)) c.args.list (r.Other c.in-Other.list c.in-Other.ready) =
+    λ n u. subst (Gives (first_value (spot_pairs (state_of n c.read_listed.new.vm u) c.args.list.value.spot.id.1)) c.args.list) c.in-Other.is (c.in_ok-read.ensures.gives n u) in
+    let es = c.in-Other.ready.value.entries in
+    let l : vec_len es ≡ length es.items = search rules in
+    let some = some_counted es.items (vec_len es) l (subst (λ (x : Ready). nat_eq (vec_len x.entries) 0 ≡ false) c.deref.ensures (sym c.is_empty.ensures ∙ c.if-is_empty.false)) in
+    IfErr-weaker c.sync_list.result
+    (RenewFails {A = PlainCode} c.args.app.now c.args.cells.now (Syncs z s c.args.left p (seen_left es.items) xs) c.read_listed.new.vm)
+    (RenewFails {A = PlainCode} c.args.app.now c.args.cells.now (Relisting c.args.app.now c.args.cells.now z key (λ n. refl) s c.args.left p xs) c.args.vm.now)
+    (λ f h. listed_syncs_fails c.args.app.now c.args.cells.now z key (λ n. refl) s c.args.left p xs (seen_left es.items) c.args.vm.now c.read_listed.new.vm f (λ e. some (none_left es.items e)) c.in_ok-read.ensures.step gives h)
+    (subst (λ (b : Box Listed Global). IfErr c.sync_list.result (RenewFails {A = PlainCode} c.args.app.now c.args.cells.now (Syncs (λ n. seen_listing n b.value.listing) (seen_spot b.value.spot) c.args.left p (seen_left es.items) (λ n. map (seen_item_code n) b.value.items.items)) c.read_listed.new.vm)) is.0 c.sync_list.ensures.fails)
+
+pub lists::relist-returns-else-is_empty-clause-moved : goal.lists::relist-returns-else-is_empty-clause-moved
+lists::relist-returns-else-is_empty-clause-moved t c =
+    let is : IsOf c.args.list (r.Other c.in-Other.list c.in-Other.ready) = subst (IsOf c.args.list) c.in-Other.is c.in_ok-read.ensures.is in
+    subst (λ (b : Box Listed Global). IfOk c.sync_list.result (λ r. CodeMoved c.args.moved.now c.sync_list.new.moved (λ n. listed_code (seen_listing n b.value.listing) (seen_spot b.value.spot) (all_items (map (seen_item_code n) b.value.items.items))) (λ n. seen_code n r.value))) is.0 c.sync_list.ensures.moved
+
+pub lists::relist-returns-in-Same-clause-ok : goal.lists::relist-returns-in-Same-clause-ok
+lists::relist-returns-in-Same-clause-ok t c =
+    let z : Tables → Listing = λ n. seen_listing n c.args.list.value.listing in
+    let key = c.args.list.value.listing.key in
+    let s = seen_spot c.args.list.value.spot in
+    let p = trail_view c.args.trail.now in
+    let xs : Tables → List Item = λ n. map (seen_item_code n) c.args.list.value.items.items in
+    let is : IsOf c.args.list (r.Same c.in-Same.list c.in-Same.values) = subst (IsOf c.args.list) c.in-Same.is c.in_ok-read.ensures.is in
+    let gives : (n : Tables) (u : Source → Bool) → Gives (first_value (spot_pairs (state_of n c.read_listed.new.vm u) c.args.list.value.spot.id.1)) c.args.list (r.Same c.in-Same.list c.in-Same.values) =
+    λ n u. subst (Gives (first_value (spot_pairs (state_of n c.read_listed.new.vm u) c.args.list.value.spot.id.1)) c.args.list) c.in-Same.is (c.in_ok-read.ensures.gives n u) in
+    let es = entries_now key c.in-Same.values in
+    IfOk-weaker c.stay_list.result
+    (λ r. Renews c.args.app.now c.args.cells.now (Syncs z s c.args.left p es xs) c.read_listed.new.vm (λ n. seen_code n r.value) c.stay_list.new.vm)
+    (λ r. Renews c.args.app.now c.args.cells.now (Relisting c.args.app.now c.args.cells.now z key (λ n. refl) s c.args.left p xs) c.args.vm.now (λ n. seen_code n r.value) c.stay_list.new.vm)
+    (λ r h. listed_syncs c.args.app.now c.args.cells.now z key (λ n. refl) s c.args.left p xs es c.args.vm.now c.read_listed.new.vm c.stay_list.new.vm (λ n. seen_code n r.value) (λ e. is.1 (none_now key c.in-Same.values e)) c.in_ok-read.ensures.step
+    (λ n u. sym (ap (λ vs. entries key 0 [] vs) (gives n u))) h)
+    (subst (λ (b : Box Listed Global). IfOk c.stay_list.result (λ r. Renews c.args.app.now c.args.cells.now (Syncs (λ n. seen_listing n b.value.listing) (seen_spot b.value.spot) c.args.left p (entries_now b.value.listing.key c.in-Same.values) (λ n. map (seen_item_code n) b.value.items.items)) c.read_listed.new.vm (λ n. seen_code n r.value) c.stay_list.new.vm)) is.0 c.stay_list.ensures.ok)
+
+pub lists::relist-returns-in-Same-clause-fails : goal.lists::relist-returns-in-Same-clause-fails
+lists::relist-returns-in-Same-clause-fails t c =
+    let z : Tables → Listing = λ n. seen_listing n c.args.list.value.listing in
+    let key = c.args.list.value.listing.key in
+    let s = seen_spot c.args.list.value.spot in
+    let p = trail_view c.args.trail.now in
+    let xs : Tables → List Item = λ n. map (seen_item_code n) c.args.list.value.items.items in
+    let is : IsOf c.args.list (r.Same c.in-Same.list c.in-Same.values) = subst (IsOf c.args.list) c.in-Same.is c.in_ok-read.ensures.is in
+    let gives : (n : Tables) (u : Source → Bool) → Gives (first_value (spot_pairs (state_of n c.read_listed.new.vm u) c.args.list.value.spot.id.1)) c.args.list (r.Same c.in-Same.list c.in-Same.values) =
+    λ n u. subst (Gives (first_value (spot_pairs (state_of n c.read_listed.new.vm u) c.args.list.value.spot.id.1)) c.args.list) c.in-Same.is (c.in_ok-read.ensures.gives n u) in
+    let es = entries_now key c.in-Same.values in
+    IfErr-weaker c.stay_list.result
+    (RenewFails {A = PlainCode} c.args.app.now c.args.cells.now (Syncs z s c.args.left p es xs) c.read_listed.new.vm)
+    (RenewFails {A = PlainCode} c.args.app.now c.args.cells.now (Relisting c.args.app.now c.args.cells.now z key (λ n. refl) s c.args.left p xs) c.args.vm.now)
+    (λ f h. listed_syncs_fails c.args.app.now c.args.cells.now z key (λ n. refl) s c.args.left p xs es c.args.vm.now c.read_listed.new.vm f (λ e. is.1 (none_now key c.in-Same.values e)) c.in_ok-read.ensures.step
+    (λ n u. sym (ap (λ vs. entries key 0 [] vs) (gives n u))) h)
+    (subst (λ (b : Box Listed Global). IfErr c.stay_list.result (RenewFails {A = PlainCode} c.args.app.now c.args.cells.now (Syncs (λ n. seen_listing n b.value.listing) (seen_spot b.value.spot) c.args.left p (entries_now b.value.listing.key c.in-Same.values) (λ n. map (seen_item_code n) b.value.items.items)) c.read_listed.new.vm)) is.0 c.stay_list.ensures.fails)
+
+pub lists::relist-returns-in-Same-clause-moved : goal.lists::relist-returns-in-Same-clause-moved
+lists::relist-returns-in-Same-clause-moved t c =
+    let is : IsOf c.args.list (r.Same c.in-Same.list c.in-Same.values) = subst (IsOf c.args.list) c.in-Same.is c.in_ok-read.ensures.is in
+    subst (λ (b : Box Listed Global). IfOk c.stay_list.result (λ r. CodeMoved c.args.moved.now c.stay_list.new.moved (λ n. listed_code (seen_listing n b.value.listing) (seen_spot b.value.spot) (all_items (map (seen_item_code n) b.value.items.items))) (λ n. seen_code n r.value))) is.0 c.stay_list.ensures.moved
 
 -- without items
 
@@ -1069,8 +1131,8 @@ syncing::sync_list-returns-in_ok-end_sync-in-Ok-clause-ok t c =
     let news = c.in-Ok.items.items in
     let made : (n : Tables) → seen_code n c.in_ok-end_sync-in-Ok.field-0.value ≡ listed_code (seen_listing n l.listing) (seen_spot l.spot) (all_items (map (seen_item_code n) news)) =
     λ n. c.in_ok-end_sync-in-Ok.ensures n ∙ ap₂ (λ (x : ListingCode) (y : Spot). listed_code (seen_listing n x) (seen_spot y) (all_items (map (seen_item_code n) news))) (c.in-Ok.ensures.listing ∙ listing) (c.in-Ok.ensures.spot ∙ spot) in
-    list_syncs c.args.app.now c.args.cells.now c.args.left l.listing (seen_spot l.spot) (trail_view c.args.trail.now) (trail_view c.begin_sync.new.trail) c.args.ready.value.entries.items d.work.waiting.items l.items.items (there d.work.olds.items)
-    below waits olds (λ n. all_items (map (seen_item_code n) news)) (λ n. seen_code n c.in_ok-end_sync-in-Ok.field-0.value) c.args.vm.now c.sync_items.new.vm made
+    list_syncs c.args.app.now c.args.cells.now c.args.left l.listing (seen_spot l.spot) (trail_view c.args.trail.now) (trail_view c.begin_sync.new.trail) (seen_left c.args.ready.value.entries.items) (seen_left d.work.waiting.items) l.items.items (there d.work.olds.items)
+    below (ap seen_left waits) olds (λ n. all_items (map (seen_item_code n) news)) (λ n. seen_code n c.in_ok-end_sync-in-Ok.field-0.value) c.args.vm.now c.sync_items.new.vm made
     (subst (λ (z : ListingCode). Renews c.args.app.now c.args.cells.now (SyncItems (λ n. seen_listing n z) c.args.left (trail_view c.begin_sync.new.trail) (seen_left d.work.waiting.items) (λ n. map (seen_item_code n) (there d.work.olds.items))) c.args.vm.now (λ n. all_items (map (seen_item_code n) news)) c.sync_items.new.vm) listing c.in-Ok.ensures.ok)
 
 pub syncing::sync_list-returns-in-Err-clause-fails : goal.syncing::sync_list-returns-in-Err-clause-fails
@@ -1085,8 +1147,8 @@ syncing::sync_list-returns-in-Err-clause-fails t c =
     let waits : d.work.waiting.items ≡ c.args.ready.value.entries.items = ap (λ (x : Begun). x.work.waiting.items) (sym is) ∙ ap (λ v. v.items) c.in_ok-begun.ensures.waiting in
     let olds : there d.work.olds.items ≡ l.items.items = ap (λ (x : Begun). there x.work.olds.items) (sym is) ∙ c.in_ok-begun.ensures.olds in
     subst (RenewFails {A = PlainCode} c.args.app.now c.args.cells.now (Syncs (λ n. seen_listing n l.listing) (seen_spot l.spot) c.args.left (trail_view c.args.trail.now) (seen_left c.args.ready.value.entries.items) (λ n. map (seen_item_code n) l.items.items)) c.args.vm.now) (sym c.lost_sync.ensures)
-    (list_sync_fails c.args.app.now c.args.cells.now c.args.left l.listing (seen_spot l.spot) (trail_view c.args.trail.now) (trail_view c.begin_sync.new.trail) c.args.ready.value.entries.items d.work.waiting.items l.items.items (there d.work.olds.items)
-    below waits olds c.args.vm.now c.in-Err.fault
+    (list_sync_fails c.args.app.now c.args.cells.now c.args.left l.listing (seen_spot l.spot) (trail_view c.args.trail.now) (trail_view c.begin_sync.new.trail) (seen_left c.args.ready.value.entries.items) (seen_left d.work.waiting.items) l.items.items (there d.work.olds.items)
+    below (ap seen_left waits) olds c.args.vm.now c.in-Err.fault
     (subst (λ (z : ListingCode). RenewFails {A = ItemCodes} c.args.app.now c.args.cells.now (SyncItems (λ n. seen_listing n z) c.args.left (trail_view c.begin_sync.new.trail) (seen_left d.work.waiting.items) (λ n. map (seen_item_code n) (there d.work.olds.items))) c.args.vm.now c.in-Err.fault) listing c.in-Err.ensures.fails))
 
 pub syncing::sync_list-returns-in_ok-end_sync-in-Ok-clause-moved : goal.syncing::sync_list-returns-in_ok-end_sync-in-Ok-clause-moved
@@ -1107,3 +1169,101 @@ syncing::sync_list-returns-in_ok-end_sync-in-Ok-clause-moved t c =
     list_moved c.args.moved.now c.sync_items.new.moved (λ n. seen_listing n l.listing) (seen_spot l.spot) d.work l.items.items news ks c.args.ready.value.entries.items (λ n. seen_code n c.in_ok-end_sync-in-Ok.field-0.value)
     olds waits (subst (λ (x : Begun). x.work.keys ≡ map code_key l.items.items) is c.in_ok-begun.ensures.keys) (subst (λ (x : Begun). count_moves (reverse (seen_steps x.work.steps.items)) ≡ moves_between x.work.keys ks) is c.in_ok-begun.ensures.moves)
     c.requires.keys c.in-Ok.ensures.moved c.in-Ok.ensures.keys made
+
+-- a list whose keys stay
+
+pub staying::stay_items-loop-kept-init : goal.staying::stay_items-loop-kept-init
+staying::stay_items-loop-kept-init t c = record {
+  unvisited = search rules;
+  trail = search rules;
+  calm = c.requires.calm;
+  index = refl;
+  stays = stays_begin c.args.app.now c.args.cells.now c.args.left (trail_view c.args.trail.now) c.args.values.now c.args.items.now.items c.deref_mut-kept-items.result.now c.args.vm.now;
+  moved = along_begin c.args.moved.now c.args.items.now.items c.deref_mut-kept-items.result.now;
+}
+
+pub staying::stay_items-loop-kept-preserved : goal.staying::stay_items-loop-kept-preserved
+staying::stay_items-loop-kept-preserved t c =
+    let w = c.loop-kept in
+    let lt : w.kept-index < length w.kept-items = (let l = c.loop-kept-test.true in let e = w.invariant.unvisited.0 in omega (arith, l, e)) in
+    let long : length w.kept-items ≡ length c.args.items.now.items = w.invariant.unvisited.0 ∙ ap length c.deref_mut-kept-items.ensures.value in
+    let at : c.kept-item.result ≡ get_or c.args.items.now.items w.kept-index c.kept-item.result =
+    c.kept-item.is ∙ (w.invariant.unvisited.1 w.kept-index c.kept-item.result (omega arith) ∙ ap (λ xs. get_or xs w.kept-index c.kept-item.result) c.deref_mut-kept-items.ensures.value) in
+    let given : GivesAt c.args.values.now w.index c.kept-item.result.spot w.vm c.give_at.new.vm = subst (λ (z : ItemCode). GivesAt c.args.values.now w.index z.spot w.vm c.give_at.new.vm) (sym c.kept-item.is) c.in_ok-give_at.ensures.step in
+    let gives : GivesAt c.args.values.now w.kept-index c.kept-item.result.spot w.vm c.give_at.new.vm = subst (λ i. GivesAt c.args.values.now i c.kept-item.result.spot w.vm c.give_at.new.vm) w.invariant.index given in
+    record {
+      unvisited = (
+        length-set w.kept-items w.kept-index c.walk_item.new.item ∙ w.invariant.unvisited.0,
+        λ k d le. let ne : k ≢ w.kept-index = omega (arith, le) in get_or-set_other w.kept-items w.kept-index k c.walk_item.new.item d ne ∙ w.invariant.unvisited.1 k d (omega (arith, le)),
+      );
+      trail = c.in-Ok.ensures.trail ∙ w.invariant.trail;
+      calm = c.in-Ok.ensures.calm;
+      index = ap (λ i. i + 1) w.invariant.index;
+      stays = stays_next c.args.app.now c.args.cells.now c.args.left (trail_view c.args.trail.now) c.args.values.now c.args.items.now.items w.kept-items c.args.vm.now w.vm c.give_at.new.vm c.walk_item.new.vm w.kept-index c.kept-item.result c.walk_item.new.item lt long at w.invariant.stays gives
+          (subst (λ y. Renews c.args.app.now c.args.cells.now (AlongItem c.args.left (trail_view y) (λ n. seen_item_code n c.kept-item.result)) c.give_at.new.vm (λ n. seen_item_code n c.walk_item.new.item) c.walk_item.new.vm) w.invariant.trail
+          (subst (λ z. Renews c.args.app.now c.args.cells.now (AlongItem c.args.left (trail_view w.trail) (λ n. seen_item_code n z)) c.give_at.new.vm (λ n. seen_item_code n c.walk_item.new.item) c.walk_item.new.vm) (sym c.kept-item.is) c.in-Ok.ensures.ok));
+      moved = along_next c.args.moved.now w.moved c.walk_item.new.moved c.args.items.now.items w.kept-items w.kept-index c.kept-item.result c.walk_item.new.item lt long at w.invariant.moved
+          (subst (λ z. KeptMoved w.moved c.walk_item.new.moved false (λ n. seen_item_code n z) (λ n. seen_item_code n c.walk_item.new.item)) (sym c.kept-item.is) c.in-Ok.ensures.moved)
+          (subst (λ z. (n : Tables) → spot_key (seen_item_code n c.walk_item.new.item) ≡ spot_key (seen_item_code n z)) (sym c.kept-item.is) c.in-Ok.ensures.key);
+    }
+
+pub staying::stay_items-returns-in-Err-clause-fails : goal.staying::stay_items-returns-in-Err-clause-fails
+staying::stay_items-returns-in-Err-clause-fails t c =
+    let w = c.loop-kept in
+    let lt : w.kept-index < length w.kept-items = (let l = c.loop-kept-test.true in let e = w.invariant.unvisited.0 in omega (arith, l, e)) in
+    let long : length w.kept-items ≡ length c.args.items.now.items = w.invariant.unvisited.0 ∙ ap length c.deref_mut-kept-items.ensures.value in
+    let at : c.kept-item.result ≡ get_or c.args.items.now.items w.kept-index c.kept-item.result =
+    c.kept-item.is ∙ (w.invariant.unvisited.1 w.kept-index c.kept-item.result (omega arith) ∙ ap (λ xs. get_or xs w.kept-index c.kept-item.result) c.deref_mut-kept-items.ensures.value) in
+    let given : GivesAt c.args.values.now w.index c.kept-item.result.spot w.vm c.give_at.new.vm = subst (λ (z : ItemCode). GivesAt c.args.values.now w.index z.spot w.vm c.give_at.new.vm) (sym c.kept-item.is) c.in_ok-give_at.ensures.step in
+    let gives : GivesAt c.args.values.now w.kept-index c.kept-item.result.spot w.vm c.give_at.new.vm = subst (λ i. GivesAt c.args.values.now i c.kept-item.result.spot w.vm c.give_at.new.vm) w.invariant.index given in
+    stays_fails c.args.app.now c.args.cells.now c.args.left (trail_view c.args.trail.now) c.args.values.now c.args.items.now.items w.kept-items c.args.vm.now w.vm c.give_at.new.vm w.kept-index c.kept-item.result c.in-Err.fault lt long at w.invariant.stays gives
+    (subst (λ y. RenewFails {A = Item} c.args.app.now c.args.cells.now (AlongItem c.args.left (trail_view y) (λ n. seen_item_code n c.kept-item.result)) c.give_at.new.vm c.in-Err.fault) w.invariant.trail
+    (subst (λ z. RenewFails {A = Item} c.args.app.now c.args.cells.now (AlongItem c.args.left (trail_view w.trail) (λ n. seen_item_code n z)) c.give_at.new.vm c.in-Err.fault) (sym c.kept-item.is) c.in-Err.ensures.fails))
+
+pub staying::stay_items-returns-clause-ok : goal.staying::stay_items-returns-clause-ok
+staying::stay_items-returns-clause-ok t c =
+    let w = c.loop-kept in
+    let long : length w.kept-items ≡ length c.args.items.now.items = w.invariant.unvisited.0 ∙ ap length c.deref_mut-kept-items.ensures.value in
+    stays_end c.args.app.now c.args.cells.now c.args.left (trail_view c.args.trail.now) c.args.values.now c.args.items.now.items w.kept-items _ c.args.vm.now w.vm c.end_none.new.vm w.kept-index (let le = c.loop-kept-test.false in let e = w.invariant.unvisited.0 in omega (arith, le, e)) long
+    (written w.kept-items (drop (length w.kept-items) c.args.items.now.items) c.args.items.now.len (c.args.items.now.ok.0 ∙ (ap length (sym c.deref_mut-kept-items.ensures.value) ∙ sym w.invariant.unvisited.0)))
+    w.invariant.stays c.in_ok-end_none.ensures.step
+
+pub staying::stay_items-returns-clause-moved : goal.staying::stay_items-returns-clause-moved
+staying::stay_items-returns-clause-moved t c =
+    let w = c.loop-kept in
+    along_end c.args.moved.now w.moved c.args.items.now.items _ w.kept-items w.kept-index (w.invariant.unvisited.0 ∙ ap length c.deref_mut-kept-items.ensures.value) (let le = c.loop-kept-test.false in let e = w.invariant.unvisited.0 in omega (arith, le, e))
+    (written w.kept-items (drop (length w.kept-items) c.args.items.now.items) c.args.items.now.len (c.args.items.now.ok.0 ∙ (ap length (sym c.deref_mut-kept-items.ensures.value) ∙ sym w.invariant.unvisited.0))) w.invariant.moved
+
+pub staying::stay_list-returns-in_ok-end_stay-in-Ok-clause-ok : goal.staying::stay_list-returns-in_ok-end_stay-in-Ok-clause-ok
+staying::stay_list-returns-in_ok-end_stay-in-Ok-clause-ok t c =
+    let l = c.args.list.value in
+    let d : c.deref_mut.result.now ≡ l = c.deref_mut.ensures.value ∙ ap (λ (b : Box Listed Global). b.value) c.in_ok-begun.ensures.list in
+    let made : (n : Tables) → seen_code n c.in_ok-end_stay-in-Ok.field-0.value ≡ listed_code (seen_listing n l.listing) (seen_spot l.spot) (all_items (map (seen_item_code n) c.stay_items.new.items.items)) =
+    λ n. c.in_ok-end_stay-in-Ok.ensures n ∙ ap (λ (x : Listed). listed_code (seen_listing n x.listing) (seen_spot x.spot) (all_items (map (seen_item_code n) c.stay_items.new.items.items))) d in
+    let es = entries_now l.listing.key c.args.values in
+    let es2 = entries_now l.listing.key c.in_ok-begun.begun.1 in
+    let same : es2 ≡ es = ap (entries_now l.listing.key) c.in_ok-begun.ensures.values in
+    let keys : entry_keys es2 ≡ map code_key c.deref_mut.result.now.items.items = ap entry_keys same ∙ (c.requires.keys ∙ ap (λ (x : Listed). map code_key x.items.items) (sym d)) in
+    list_syncs c.args.app.now c.args.cells.now c.args.left l.listing (seen_spot l.spot) (trail_view c.args.trail.now) (trail_view c.begin_stay.new.trail) es es2 l.items.items c.deref_mut.result.now.items.items
+    c.in_ok-begun.ensures.view same (ap (λ (x : Listed). x.items.items) d) (λ n. all_items (map (seen_item_code n) c.stay_items.new.items.items)) (λ n. seen_code n c.in_ok-end_stay-in-Ok.field-0.value) c.args.vm.now c.stay_items.new.vm made (c.in-Ok.ensures.ok l.listing.key keys l.listing)
+
+pub staying::stay_list-returns-in-Err-clause-fails : goal.staying::stay_list-returns-in-Err-clause-fails
+staying::stay_list-returns-in-Err-clause-fails t c =
+    let l = c.args.list.value in
+    let d : c.deref_mut.result.now ≡ l = c.deref_mut.ensures.value ∙ ap (λ (b : Box Listed Global). b.value) c.in_ok-begun.ensures.list in
+    let es = entries_now l.listing.key c.args.values in
+    let es2 = entries_now l.listing.key c.in_ok-begun.begun.1 in
+    let same : es2 ≡ es = ap (entries_now l.listing.key) c.in_ok-begun.ensures.values in
+    let keys : entry_keys es2 ≡ map code_key c.deref_mut.result.now.items.items = ap entry_keys same ∙ (c.requires.keys ∙ ap (λ (x : Listed). map code_key x.items.items) (sym d)) in
+    subst (RenewFails {A = PlainCode} c.args.app.now c.args.cells.now (Syncs (λ n. seen_listing n l.listing) (seen_spot l.spot) c.args.left (trail_view c.args.trail.now) es (λ n. map (seen_item_code n) l.items.items)) c.args.vm.now) (sym c.lost_stay.ensures)
+    (list_sync_fails c.args.app.now c.args.cells.now c.args.left l.listing (seen_spot l.spot) (trail_view c.args.trail.now) (trail_view c.begin_stay.new.trail) es es2 l.items.items c.deref_mut.result.now.items.items
+    c.in_ok-begun.ensures.view same (ap (λ (x : Listed). x.items.items) d) c.args.vm.now c.in-Err.fault (c.in-Err.ensures.fails l.listing.key keys l.listing))
+
+pub staying::stay_list-returns-in_ok-end_stay-in-Ok-clause-moved : goal.staying::stay_list-returns-in_ok-end_stay-in-Ok-clause-moved
+staying::stay_list-returns-in_ok-end_stay-in-Ok-clause-moved t c =
+    let l = c.args.list.value in
+    let d : c.deref_mut.result.now ≡ l = c.deref_mut.ensures.value ∙ ap (λ (b : Box Listed Global). b.value) c.in_ok-begun.ensures.list in
+    let made : (n : Tables) → seen_code n c.in_ok-end_stay-in-Ok.field-0.value ≡ listed_code (seen_listing n l.listing) (seen_spot l.spot) (all_items (map (seen_item_code n) c.stay_items.new.items.items)) =
+    λ n. c.in_ok-end_stay-in-Ok.ensures n ∙ ap (λ (x : Listed). listed_code (seen_listing n x.listing) (seen_spot x.spot) (all_items (map (seen_item_code n) c.stay_items.new.items.items))) d in
+    list_along c.args.moved.now c.stay_items.new.moved (λ n. seen_listing n l.listing) (seen_spot l.spot) l.items.items c.stay_items.new.items.items (λ n. seen_code n c.in_ok-end_stay-in-Ok.field-0.value)
+    (subst (λ (x : Listed). ItemsAlong c.args.moved.now c.stay_items.new.moved x.items.items c.stay_items.new.items.items) d c.in-Ok.ensures.moved) made

@@ -2,6 +2,7 @@ use Rattle.std.proofs.Common.{◌≡◌, ℕ, ◌+◌, ◌-◌, ◌*◌, ◌^◌
 use Rattle.gl_vm.specs.View.{Calm}
 use Rattle.gl_update.specs.ListItems.{there}
 use Rattle.gl_update.specs.OldItems.{IsReady}
+use Rattle.gl_update.proofs.StayingItems.{Stays}
 use Rattle.gl_meaning.specs.View.{path_view}
 use Rattle.gl_update.specs.View.{trail_view}
 use Rattle.gl_update.proofs.Onward.{Onward}
@@ -74,6 +75,12 @@ decreases-along::walk_item l = room l.left (length l.trail.now.path.steps) 3
 abbrev pub decreases-lists::renew_unlisted : goal.decreases-lists::renew_unlisted
 decreases-lists::renew_unlisted l = room l.left (length l.trail.now.path.steps) 6
 
+abbrev pub decreases-staying::stay_list : goal.decreases-staying::stay_list
+decreases-staying::stay_list l = room l.left (length l.trail.now.path.steps) 5
+
+abbrev pub decreases-staying::stay_items : goal.decreases-staying::stay_items
+decreases-staying::stay_items l = room l.left (length l.trail.now.path.steps) 4
+
 abbrev pub decreases-syncing::sync_list : goal.decreases-syncing::sync_list
 decreases-syncing::sync_list l = room l.left (length l.trail.now.path.steps) 5
 
@@ -103,6 +110,16 @@ invariant-along::walk_items-loop-item l = record {
   calm : Calm l.vm;
   walks : WalksItems l.app l.cells l.left (trail_view l.fn.trail) l.fn.items.items l.fn.vm l.item-items l.item-index l.vm;
   moved : Along l.fn.moved l.moved l.fn.items.items l.item-items l.item-index;
+}
+
+abbrev pub invariant-staying::stay_items-loop-kept : goal.invariant-staying::stay_items-loop-kept
+invariant-staying::stay_items-loop-kept l = record {
+  unvisited : goal.unvisited-staying::stay_items-loop-kept l;
+  trail : l.trail ≡ l.fn.trail;
+  calm : Calm l.vm;
+  index : l.index ≡ l.kept-index;
+  stays : Stays l.app l.cells l.left (trail_view l.fn.trail) l.values l.fn.items.items l.fn.vm l.kept-items l.kept-index l.vm;
+  moved : Along l.fn.moved l.moved l.fn.items.items l.kept-items l.kept-index;
 }
 
 abbrev pub invariant-syncing::sync_items-loop-done : goal.invariant-syncing::sync_items-loop-done

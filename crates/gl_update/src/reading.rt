@@ -1,0 +1,88 @@
+// What a list with items has now, where it is read again.
+ghost use Rattle.std.specs.Prelude.{◌≡◌, ◌≢◌, [], map, IfOk, OnOk, IsTrue};
+ghost use Rattle.gl_value.specs.View.{view};
+ghost use Rattle.gl_each.specs.Key.{entry_keys};
+ghost use Rattle.gl_plain.specs.Binding.{first_value};
+ghost use Rattle.gl_plain.specs.Renew.{spot_pairs};
+ghost use Rattle.gl_plain.specs.Renew as r;
+ghost use Rattle.gl_vm.specs.Labels.{labelled};
+ghost use Rattle.gl_vm.specs.View.{Calm, state_of};
+ghost use Rattle.gl_vm.specs.Steps.{Does};
+ghost use Rattle.gl_update.specs.OldItems.{code_key};
+ghost use Rattle.gl_update.specs.Read.{Gives, IsOf, entries_now};
+
+use crate::old_items::are_keys_of;
+use crate::taken::{Listed, Ready, boxed_ready, value_now};
+use gl_append::{ItemCode, keyed_items_of};
+use gl_each::keys;
+use gl_value::{List, Text, Value};
+use gl_vm::Vm;
+use std::alloc::{AllocError, Global};
+
+/// A list with items, and its values of now where they have the keys of the items, in their order; else what it has now for
+/// other items.
+#[derive(Drop)]
+pub(crate) enum Read {
+    Same(Box<Listed>, List),
+    Other(Box<Listed>, Box<Ready>),
+}
+
+// Whether there are values, and they have the keys of the items, in their order.
+#[inline(never)]
+fn keys_stay(
+    alloc: Global,
+    key: &Text,
+    items: &[ItemCode],
+    values: &List,
+) -> Result<bool, AllocError>
+    ensures some { IfOk result (λ b. IsTrue b → values.now ≢ []) }
+    ensures keys { IfOk result (λ b. IsTrue b → entry_keys (entries_now key.now values.now) ≡ map code_key items.now) }
+{
+    if values.is_empty() {
+        return Ok(false);
+    }
+    let found = keys(alloc, values.as_slice(), key.as_str())?;
+    Ok(are_keys_of(found.as_slice(), items))
+}
+
+// The list with what it has now for other items.
+#[inline(never)]
+fn other(alloc: Global, list: Box<Listed>, value: Value) -> Result<Read, AllocError>
+    ensures is { IfOk result (IsOf list) }
+    ensures gives { IfOk result (Gives (labelled (view value)) list) }
+{
+    let found = keyed_items_of(alloc, value, &list.listing.key)?;
+    let ready = boxed_ready(alloc, found.0, found.1)?;
+    Ok(Read::Other(list, ready))
+}
+
+// The list with its values, where their keys are those of its items.
+#[inline(never)]
+fn same_or_other(alloc: Global, list: Box<Listed>, value: Value) -> Result<Read, AllocError>
+    ensures is { IfOk result (IsOf list) }
+    ensures gives { IfOk result (Gives (labelled (view value)) list) }
+{
+    match value {
+        Value::List(values) => {
+            if keys_stay(alloc, &list.listing.key, list.items.as_slice(), &values)? {
+                Ok(Read::Same(list, values))
+            } else {
+                other(alloc, list, Value::List(values))
+            }
+        }
+        value => other(alloc, list, value),
+    }
+}
+
+/// What a list with items has now. Its position is evaluated again where it is stale.
+#[inline(never)]
+pub(crate) fn read_listed(vm: &mut Vm, alloc: Global, list: Box<Listed>) -> Result<Read, AllocError>
+    requires calm { Calm vm.old }
+    ensures step { OnOk result (Does (λ n. r.reread list.value.spot.id.1) vm.old vm.new) }
+    ensures is { IfOk result (IsOf list) }
+    ensures gives { IfOk result (λ x. (n : _) (touched : _) → Gives (first_value (spot_pairs (state_of n vm.new touched) list.value.spot.id.1)) list x) }
+    ensures calm { Calm vm.new }
+{
+    let value = value_now(vm, list.spot.id)?;
+    same_or_other(alloc, list, value)
+}
