@@ -15,7 +15,7 @@ use crate::old_items::are_keys_of;
 use crate::taken::{Listed, Ready, boxed_ready, value_now};
 use gl_append::{ItemCode, keyed_items_of};
 use gl_each::keys;
-use gl_value::{List, Text, Value};
+use gl_value::{List, Text, Value, key_of};
 use gl_vm::Vm;
 use std::alloc::{AllocError, Global};
 
@@ -25,6 +25,25 @@ use std::alloc::{AllocError, Global};
 pub(crate) enum Read {
     Same(Box<Listed>, List),
     Other(Box<Listed>, Box<Ready>),
+}
+
+// Whether the value at a place has the key that the item there has. It is asked at both ends before all keys are made, since a list
+// that changed mostly differs there.
+#[inline(never)]
+fn is_alike(
+    key: &Text,
+    items: &[ItemCode],
+    values: &List,
+    place: usize,
+) -> Result<bool, AllocError> {
+    let Some(value) = values.get(place) else {
+        return Ok(false);
+    };
+    let Some(item) = items.get(place) else {
+        return Ok(false);
+    };
+    let found = key_of(value, place as u64, key.as_str())?;
+    Ok(found.same(&item.spot.key))
 }
 
 // Whether there are values, and they have the keys of the items, in their order.
@@ -38,7 +57,13 @@ fn keys_stay(
     ensures some { IfOk result (λ b. IsTrue b → values.now ≢ []) }
     ensures keys { IfOk result (λ b. IsTrue b → entry_keys (entries_now key.now values.now) ≡ map code_key items.now) }
 {
-    if values.is_empty() {
+    if values.is_empty() || values.len() != items.len() {
+        return Ok(false);
+    }
+    if !is_alike(key, items, values, 0)? {
+        return Ok(false);
+    }
+    if !is_alike(key, items, values, items.len().saturating_sub(1))? {
         return Ok(false);
     }
     let found = keys(alloc, values.as_slice(), key.as_str())?;
