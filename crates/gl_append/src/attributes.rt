@@ -402,6 +402,8 @@ fn give_all(alloc: Global, vm: &mut Vm, attributes: &[Attribute]) -> Result<Attr
         let taken = taken_by(alloc, name, attributes)?;
         all.give(alloc, vm, name, taken.as_slice())?;
     }
+    all.attrs.shrink_to_fit();
+    all.spots.shrink_to_fit();
     Ok(all)
 }
 

@@ -100,7 +100,9 @@ impl Machine {
         ensures { Ends self.old self.new here result }
     {
         let ended = mem::replace(&mut self.here, here);
-        Codes { list: ended.codes }
+        let mut list = ended.codes;
+        list.shrink_to_fit();
+        Codes { list }
     }
 
     /// Whether a call is under way.

@@ -89,7 +89,7 @@ impl Machine {
         vm.prepare(top.id)?;
         let value = vm.value(top.id)?;
         let main = takes(unless, &value);
-        let mut ids = Ids::new(self.alloc);
+        let mut ids = Ids::with_capacity(self.alloc, 1)?;
         ids.push(top.id)?;
         let sight = self.sight.copy()?;
         let first = after(self.pc)?;

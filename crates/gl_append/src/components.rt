@@ -102,7 +102,7 @@ fn lay_initial(vm: &mut Vm, alloc: Global, fields: &[(Text, Value)]) -> Result<I
     ensures step { IfOk result (λ ids. Lays (all_labelled (initial_values None 0 (seen_entries fields.now))) ids vm.old vm.new) }
     ensures calm { Calm vm.old → Calm vm.new }
 {
-    let mut ids = Ids::new(alloc);
+    let mut ids = Ids::with_capacity(alloc, fields.len())?;
     for field in fields {
         let value = field.1.data_of()?;
         lay(vm, &mut ids, value)?;
@@ -120,7 +120,7 @@ fn lay_held(
     ensures step { IfOk result (λ ids. Lays (all_labelled (initial_values (Some held.now) 0 (seen_entries fields.now))) ids vm.old vm.new) }
     ensures calm { Calm vm.old → Calm vm.new }
 {
-    let mut ids = Ids::new(alloc);
+    let mut ids = Ids::with_capacity(alloc, fields.len())?;
     for _field in fields {
         let value = value_at(held, ids.len())?;
         lay(vm, &mut ids, value)?;
@@ -223,9 +223,9 @@ impl Machine {
         let present = self.sight.level.owner.as_ref();
         let block = pass(vm, self.alloc, present.class, present.id)?;
         let ids = lay_cells(vm, self.alloc, cells, &path, class.fields.as_slice())?;
-        let here = path_copy(self.alloc, &path)?;
-        let owner = instantiate(vm, self.alloc, self.making.class, path, ids)?;
-        self.begin_component(owner, block, here)
+        let own = path_copy(self.alloc, &path)?;
+        let owner = instantiate(vm, self.alloc, self.making.class, own, ids)?;
+        self.begin_component(owner, block, path)
     }
 
     /// The program of a component is begun, of which the tag ends here.

@@ -181,7 +181,7 @@ impl Machine {
 fn ids_in(alloc: Global, locals: &[(u32, RefId)]) -> Result<Ids, AllocError>
     ensures { IfOk result (λ v. stamps v ≡ refs_in (seen_locals locals.now)) }
 {
-    let mut ids = Ids::new(alloc);
+    let mut ids = Ids::with_capacity(alloc, locals.len())?;
     for local in locals {
         ids.push(local.1)?;
     }

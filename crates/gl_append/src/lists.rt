@@ -130,7 +130,7 @@ impl Machine {
         vm.prepare(top.id)?;
         let value = vm.value(top.id)?;
         let left = items_of(self.alloc, value, key)?;
-        let mut ids = Ids::new(self.alloc);
+        let mut ids = Ids::with_capacity(self.alloc, 1)?;
         ids.push(top.id)?;
         let start = after(self.pc)?;
         let body = after(start)?;
@@ -174,7 +174,9 @@ impl Machine {
         if !iteration.left.is_empty() {
             return Err(AllocError);
         }
-        let code = Code::listed(iteration.listing, iteration.spot, iteration.done);
+        let mut done = iteration.done;
+        done.shrink_to_fit();
+        let code = Code::listed(iteration.listing, iteration.spot, done);
         self.show(code)
     }
 

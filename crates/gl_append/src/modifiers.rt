@@ -23,7 +23,7 @@ use std::alloc::{AllocError, Global};
 fn all_ids(alloc: Global, args: &[RefId], named: &[(Text, RefId)]) -> Result<Ids, AllocError>
     ensures { IfOk result (λ v. stamps v ≡ stamps args.now ++ map (λ y. y.1) (name_stamps named.now)) }
 {
-    let mut ids = Ids::new(alloc);
+    let mut ids = Ids::with_capacity(alloc, args.len().saturating_add(named.len()))?;
     for id in args {
         ids.push(*id)?;
     }
@@ -148,5 +148,6 @@ pub fn install_all(
     for part in parts {
         install_part(alloc, vm, node, &mut spots, part)?;
     }
+    spots.shrink_to_fit();
     Ok(spots)
 }

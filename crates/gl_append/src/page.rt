@@ -52,7 +52,9 @@ impl Machine {
         ensures { (n : _) → seen_codes n result ≡ m.all_of (seen_here n self.here).codes }
     {
         let Machine { here, .. } = self;
-        Codes { list: here.codes }
+        let mut list = here.codes;
+        list.shrink_to_fit();
+        Codes { list }
     }
 }
 

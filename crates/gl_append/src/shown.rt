@@ -63,7 +63,7 @@ impl Machine {
         vm.prepare(top.id)?;
         let value = vm.value(top.id)?;
         let text = value.text_of(self.alloc)?;
-        let mut ids = Ids::new(self.alloc);
+        let mut ids = Ids::with_capacity(self.alloc, 1)?;
         ids.push(top.id)?;
         let id = position(vm, ids)?;
         let node = vm.text(text.as_str())?;

@@ -35,7 +35,7 @@ pub fn take_last(stack: &mut Vec<Pushed>, count: u32) -> Result<Vec<Pushed>, All
 pub fn positional(alloc: Global, taken: &[Pushed]) -> Result<Ids, AllocError>
     ensures { IfOk result (λ v. stamps v ≡ s.positional (seen_stack taken.now)) }
 {
-    let mut ids = Ids::new(alloc);
+    let mut ids = Ids::with_capacity(alloc, taken.len())?;
     for pushed in taken {
         if pushed.name.is_none() {
             ids.push(pushed.id)?;

@@ -12,8 +12,8 @@ use std::marker::{Model, PhantomData};
 /// Values under ids of the mark `M`. Contracts see which value each id names, and how many were inserted.
 #[derive(Drop)]
 pub struct Arena<T, M> {
-    slab: Slab<(u128, T)>,
-    made: u128,
+    slab: Slab<(u64, T)>,
+    made: u64,
     mark: PhantomData<M>,
 }
 
@@ -111,7 +111,7 @@ impl<T, M> Arena<T, M> {
         ensures stamped { IsStamped self.now }
         ensures never { (i : _) → IsNever i → IsOwn self.now i → ⊥ }
     {
-        self.made
+        u128::from(self.made)
     }
 
     /// Whether the id names a value.
@@ -177,6 +177,6 @@ impl<T, M> Arena<T, M> {
         ensures below { result < self.now.made }
     {
         let _ = &self.made;
-        id.stamp
+        u128::from(id.stamp)
     }
 }

@@ -1,5 +1,5 @@
 // Lists of references.
-ghost use Rattle.std.specs.Prelude.{◌≡◌, [], ◌∷◌, ◌++◌, OnOk, OnErr, length};
+ghost use Rattle.std.specs.Prelude.{◌≡◌, [], ◌∷◌, ◌++◌, IfOk, OnOk, OnErr, length};
 
 use crate::RefId;
 use gl_value::Text;
@@ -29,6 +29,15 @@ impl Ids {
         Ids {
             list: Vec::new(alloc),
         }
+    }
+
+    /// The empty list, with room for just so many references.
+    pub fn with_capacity(alloc: Global, room: usize) -> Result<Ids, AllocError>
+        ensures { IfOk result (λ l. l ≡ []) }
+    {
+        Ok(Ids {
+            list: Vec::with_capacity(alloc, room)?,
+        })
     }
 
     /// The list of the references of a vector. It takes no memory.

@@ -20,7 +20,7 @@ pub(crate) struct Waiting {
 }
 
 // Those that wait, the next one last. Where they are few the list takes no memory.
-pub(crate) type Stack = SmallVec<Waiting, 6>;
+pub(crate) type Stack = SmallVec<Waiting, 2>;
 
 // A part that may not be used yet, with its place.
 #[derive(Clone, Copy)]

@@ -6,7 +6,7 @@ use smallvec::SmallVec;
 pub type TagId = Id<TagMark>;
 
 /// The dirtyable tags that a combined one leads to, sorted, each once.
-pub(crate) type Leads = SmallVec<TagId, 4>;
+pub(crate) type Leads = SmallVec<TagId, 2>;
 
 /// When something was touched last: the revision, and how many dirtyings there were when that one was over.
 /// The second tells apart what happened before and after within one revision.

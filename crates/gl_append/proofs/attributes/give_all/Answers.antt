@@ -41,6 +41,7 @@ returns-clause-step c =
     let ws = seen_attributes c.args.attributes.now in
     let names = c.as_slice-name-items.result.now in
     let x = c.loop-name.all in
-    subst (λ ks. Leads (λ n z y. give_attrs ws ks z ≡ record { attrs = x.attrs.items; spots = map seen_attr_spot x.spots.items; state = y }) c.args.vm.now c.loop-name.vm) (c.as_slice-name-items.ensures ∙ c.in_ok-names.ensures)
+    rw (c.shrink_to_fit.ensures.items, c.shrink_to_fit-2.ensures.items)
+    (subst (λ ks. Leads (λ n z y. give_attrs ws ks z ≡ record { attrs = x.attrs.items; spots = map seen_attr_spot x.spots.items; state = y }) c.args.vm.now c.loop-name.vm) (c.as_slice-name-items.ensures ∙ c.in_ok-names.ensures)
     (walk_ends (λ n. give_attrs ws names) (λ n ks z. given_after x.attrs.items (map seen_attr_spot x.spots.items) (give_attrs ws ks z)) (λ y. record { attrs = x.attrs.items; spots = map seen_attr_spot x.spots.items; state = y })
-    (λ n. drop c.loop-name.name-index names) c.args.vm.now c.loop-name.vm (λ n. drop_all c.loop-name.name-index names c.loop-name-test.false) (λ n y. given_end x.attrs.items (map seen_attr_spot x.spots.items) y) c.loop-name.invariant.leads)
+    (λ n. drop c.loop-name.name-index names) c.args.vm.now c.loop-name.vm (λ n. drop_all c.loop-name.name-index names c.loop-name-test.false) (λ n y. given_end x.attrs.items (map seen_attr_spot x.spots.items) y) c.loop-name.invariant.leads))

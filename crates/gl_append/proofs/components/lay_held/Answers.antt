@@ -8,7 +8,7 @@ use Rattle.gl_append.proofs.Laying.{StillLays, lays_begin, lays_step, lays_end}
 use Rattle.gl_append.proofs.components.lay_held.Goals as goal
 
 pub loop-field-init : goal.loop-field-init
-loop-field-init c = (lays_begin (Some c.args.held.now) (seen_entries c.args.fields.now) c.new-ids.result c.args.vm.now c.new-ids.ensures, λ calm. calm)
+loop-field-init c = (lays_begin (Some c.args.held.now) (seen_entries c.args.fields.now) c.in_ok-ids.ids c.args.vm.now c.in_ok-ids.ensures, λ calm. calm)
 
 pub loop-field-preserved : goal.loop-field-preserved
 loop-field-preserved c =

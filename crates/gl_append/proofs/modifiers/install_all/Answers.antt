@@ -34,6 +34,7 @@ loop-part-preserved c =
 pub returns-clause-step : goal.returns-clause-step
 returns-clause-step c =
     let x = c.loop-part.spots.items in
-    walk_ends (λ n. install_parts c.args.node.1 0 (seen_parts n c.args.parts.now)) (λ n ws z. grown_after (map seen_mod_spot x) (install_parts c.args.node.1 (length x) ws z)) (λ y. record { spots = map seen_mod_spot x; state = y })
+    rw c.shrink_to_fit.ensures.items
+    (walk_ends (λ n. install_parts c.args.node.1 0 (seen_parts n c.args.parts.now)) (λ n ws z. grown_after (map seen_mod_spot x) (install_parts c.args.node.1 (length x) ws z)) (λ y. record { spots = map seen_mod_spot x; state = y })
     (λ n. seen_parts n (drop c.loop-part.part-index c.args.parts.now)) c.args.vm.now c.loop-part.vm (λ n. ap (seen_parts n) (drop_all c.loop-part.part-index c.args.parts.now c.loop-part-test.false)) (λ n y. grown_end (map seen_mod_spot x) y)
-    c.loop-part.invariant.leads
+    c.loop-part.invariant.leads)

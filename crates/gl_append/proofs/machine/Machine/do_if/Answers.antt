@@ -22,7 +22,7 @@ returns-clause-step c =
     on_ok_weaker c.enter_branch.result
     (if_begun c.args.unless c.takes-main.result c.args.other c.args.vm.now c.position.new.vm c.args.self.now c.enter_branch.new.self c.args.top c.in_ok-id.id
     (record { unless = c.args.unless; first = c.in_ok-first.first; second = c.args.other; sight = c.in_ok-sight.sight }) c.in_ok-path-2.path
-    (prepared_does (λ n. placed_in (c.args.top.id.1 ∷ [])) c.args.vm.now c.prepare.new.self c.position.new.vm kept (subst (λ rs. Does (λ n. placed_in (stamps rs)) c.prepare.new.self c.position.new.vm) (c.in_ok-push.ensures.ok ∙ ap (λ x. x ++ c.args.top.id ∷ []) c.new-ids.ensures) c.in_ok-id.ensures.step))
+    (prepared_does (λ n. placed_in (c.args.top.id.1 ∷ [])) c.args.vm.now c.prepare.new.self c.position.new.vm kept (subst (λ rs. Does (λ n. placed_in (stamps rs)) c.prepare.new.self c.position.new.vm) (c.in_ok-push.ensures.ok ∙ ap (λ x. x ++ c.args.top.id ∷ []) c.in_ok-ids.ensures) c.in_ok-id.ensures.step))
     (prepared_numbers c.args.vm.now c.prepare.new.self c.position.new.vm c.in_ok-id.id kept c.in_ok-id.ensures.id)
     (λ n t. ap (λ v. takes_first c.args.unless v) (prepared_value c.args.vm.now c.prepare.new.self c.args.top.id.1 kept n t ∙ c.in_ok-value.ensures n t) ∙ (ap (λ b. if c.args.unless then not b else b) (rules_leave_owners owner_path (view c.in_ok-value.value)).0 ∙ sym c.takes-main.ensures))
     (λ n. ap₂ z c.in_ok-first.ensures (c.in_ok-sight.ensures n)) (λ n. c.in_ok-path-2.ensures ∙ ap₂ (λ x y. x ∷ y) c.side.ensures (c.in_ok-path.ensures n))) c.enter_branch.ensures

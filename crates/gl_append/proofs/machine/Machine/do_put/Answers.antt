@@ -22,7 +22,7 @@ returns-clause-step c =
     on_ok_weaker c.show.result
     (put_shown c.args.vm.now c.position.new.vm c.text-2.new.self c.args.self.now c.show.new.self c.args.top c.in_ok-id.id c.in_ok-node.node c.in_ok-text.text c.put-code.result
     (λ n. c.put-code.ensures n ∙ ap (λ x. put_code c.in_ok-node.node.1 (record { ref = c.in_ok-id.id.1; made = refs_made x ++ ref c.in_ok-id.id.1 ∷ [] })) c.replace-made.ensures.value)
-    (prepared_does (λ n. placed_in (c.args.top.id.1 ∷ [])) c.args.vm.now c.prepare.new.self c.position.new.vm kept (subst (λ rs. Does (λ n. placed_in (stamps rs)) c.prepare.new.self c.position.new.vm) (c.in_ok-push.ensures.ok ∙ ap (λ x. x ++ c.args.top.id ∷ []) c.new-ids.ensures) c.in_ok-id.ensures.step))
+    (prepared_does (λ n. placed_in (c.args.top.id.1 ∷ [])) c.args.vm.now c.prepare.new.self c.position.new.vm kept (subst (λ rs. Does (λ n. placed_in (stamps rs)) c.prepare.new.self c.position.new.vm) (c.in_ok-push.ensures.ok ∙ ap (λ x. x ++ c.args.top.id ∷ []) c.in_ok-ids.ensures) c.in_ok-id.ensures.step))
     (prepared_numbers c.args.vm.now c.prepare.new.self c.position.new.vm c.in_ok-id.id kept c.in_ok-id.ensures.id)
     (subst (λ x. Does (λ n. made_node (text_content x)) c.position.new.vm c.text-2.new.self) c.as_str.ensures.value c.in_ok-node.ensures.step) c.in_ok-node.ensures.id
     (λ n u. ap text_of (prepared_value c.args.vm.now c.prepare.new.self c.args.top.id.1 kept n u ∙ c.in_ok-value.ensures n u) ∙ ((rules_leave_owners owner_path (view c.in_ok-value.value)).1 ∙ sym c.in_ok-text.ensures))) c.show.ensures

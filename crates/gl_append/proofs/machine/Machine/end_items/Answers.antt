@@ -8,4 +8,4 @@ pub returns : goal.returns
 returns c =
     let l : vec_len c.args.iteration.left ≡ length c.args.iteration.left.items = search rules in
     on_ok_weaker c.show.result
-    (list_ended c.args.self.now c.show.new.self c.args.iteration c.listed-code.result (none_counted c.args.iteration.left.items (vec_len c.args.iteration.left) l (sym c.is_empty.ensures ∙ c.if-not-is_empty.false)) c.listed-code.ensures) c.show.ensures
+    (list_ended c.args.self.now c.show.new.self c.args.iteration c.listed-code.result (none_counted c.args.iteration.left.items (vec_len c.args.iteration.left) l (sym c.is_empty.ensures ∙ c.if-not-is_empty.false)) (λ n. rw c.shrink_to_fit.ensures.items at (c.listed-code.ensures n))) c.show.ensures
