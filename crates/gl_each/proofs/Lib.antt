@@ -1,5 +1,6 @@
 pub mod Carrying
 pub mod Feeding
+pub mod HashesApart
 pub mod Keyings
 pub mod Moving
 pub mod Plans

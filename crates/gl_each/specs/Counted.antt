@@ -1,8 +1,9 @@
 -- The keys of a list, step by step: the key of each item, and how many equal keys stand before each.
-use Rattle.std.specs.Prelude.{◌≡◌, ℕ, suc, List, [], ◌∷◌, ◌++◌, map, false, count_by, nat_eq}
+use Rattle.std.specs.Prelude.{◌≡◌, ℕ, suc, List, [], ◌∷◌, ◌++◌, map, false, codes, count_by, nat_eq}
 use Rattle.std.specs.List.{list_any}
+use Rattle.std.specs.Str.{bytes_eq}
 use Rattle.gl_base.specs.Texts.{Text}
-use Rattle.gl_value.specs.Value.{Value, same, key_of}
+use Rattle.gl_value.specs.Value.{Value, same, split, key_of}
 use Rattle.gl_value.specs.Proper.{IsProper}
 use Rattle.gl_each.specs.Key.{Key}
 
@@ -10,6 +11,12 @@ use Rattle.gl_each.specs.Key.{Key}
 abbrev pub item_keys : Text → ℕ → List (Value ℕ) → List (Value ℕ)
 item_keys k i [] = []
 item_keys k i (v ∷ vs) = key_of k i v ∷ item_keys k (suc i) vs
+
+-- a key text that is the name of one property
+pub record IsName (k : Text) : Type 0 where
+  pub index : bytes_eq k (codes "@index") ≡ false
+  pub identity : bytes_eq k (codes "@identity") ≡ false
+  pub piece : split 46 k ≡ k ∷ []
 
 -- how often a value stands in a list
 abbrev pub times : Value ℕ → List (Value ℕ) → ℕ

@@ -1,18 +1,19 @@
 // The keys of a list's items.
-ghost use Rattle.std.specs.Prelude.{◌≡◌, ◌<◌, ◌+◌, ◌^◌, ℕ, [], IfOk, IsTrue, map, cond, Some, unwrap_or};
+ghost use Rattle.std.specs.Prelude.{◌≡◌, ◌<◌, ◌+◌, ◌^◌, ℕ, [], IfOk, IfSome, IsTrue, map, cond, Some, unwrap_or};
 ghost use Rattle.indexmap.specs.IndexMap.{get};
 ghost use Rattle.gl_each.specs.Key as k;
-ghost use Rattle.std.specs.Str.{chars};
+ghost use Rattle.std.specs.Str.{bytes_eq, chars};
+ghost use Rattle.gl_base.specs.Texts.{is_ascii_text};
 ghost use Rattle.std.specs.List.{zip};
 ghost use Rattle.gl_value.specs.View.{view, seen_items};
-ghost use Rattle.gl_value.specs.Value.{values_of};
+ghost use Rattle.gl_value.specs.Value.{values_of, key_of};
 ghost use Rattle.gl_value.specs.Owners.{values_with};
 ghost use Rattle.gl_value.specs.Proper.{IsProper};
 ghost use Rattle.gl_meaning.specs.Path.{Path};
 ghost use Rattle.gl_meaning.specs.Render.{entries};
 ghost use Rattle.gl_meaning.specs.Laws.{NoRepeat};
 ghost use Rattle.gl_each.specs.Key.{entry_keys, same_key};
-ghost use Rattle.gl_each.specs.Counted.{item_keys, counts, first_keys, key_values, AreNew, put_counts, AreProper, KeysAreProper};
+ghost use Rattle.gl_each.specs.Counted.{item_keys, counts, first_keys, key_values, AreNew, IsName, put_counts, AreProper, KeysAreProper};
 ghost use Rattle.gl_each.specs.Hashed.{value_hash};
 ghost use Rattle.gl_each.specs.View.{seen_keys};
 
@@ -39,6 +40,39 @@ fn hash_of(value: &Value) -> u64
     state.finish()
 }
 
+// Whether a text is that word, a literal of ASCII.
+fn is_word(text: &str, word: &str) -> bool
+    requires { IsTrue (is_ascii_text word.now) }
+    ensures { result ≡ bytes_eq (chars text.now) word.now }
+{
+    text == word
+}
+
+// Whether a key text is the name of one property.
+fn is_name(key: &str) -> bool
+    ensures { IsTrue result → IsName (chars key.now) }
+{
+    if is_word(key, "@index") || is_word(key, "@identity") {
+        return false;
+    }
+    match key.split_once('.') {
+        Some(_) => false,
+        None => true,
+    }
+}
+
+// The key of an item. A name is told before, since to look through the key text for each item costs more than to find the property.
+fn item_key(item: &Value, index: u64, key: &str, named: bool) -> Result<Value, AllocError>
+    requires named { IsTrue named → IsName (chars key.now) }
+    ensures { IfOk result (λ v. view v ≡ key_of (chars key.now) index (view item.now)) }
+{
+    if named {
+        item.find(key).data_of()
+    } else {
+        key_of(item, index, key)
+    }
+}
+
 // The key of each item, with the occurrence 0. Its hash is computed while the value is at hand.
 fn keys_at(alloc: Global, items: &[Value], key: &str) -> Result<Made, AllocError>
     ensures keys { IfOk result (λ m. seen_keys m.keys.items ≡ first_keys (item_keys (chars key.now) 0 (seen_items items.now))) }
@@ -46,8 +80,9 @@ fn keys_at(alloc: Global, items: &[Value], key: &str) -> Result<Made, AllocError
 {
     let mut list = Vec::with_capacity(alloc, items.len())?;
     let mut hashes = Vec::with_capacity(alloc, items.len())?;
+    let named = is_name(key);
     for (index, item) in items.iter().enumerate() {
-        let value = key_of(item, index as u64, key)?;
+        let value = item_key(item, index as u64, key, named)?;
         hashes.push(hash_of(&value))?;
         list.push(Key {
             value,
@@ -138,6 +173,30 @@ fn numbered(alloc: Global, made: Made) -> Result<Vec<Key>, AllocError>
         return Ok(made.keys);
     }
     counted(alloc, made.keys)
+}
+
+// The hash of each key's value.
+fn hashes_of(alloc: Global, keys: &[Key]) -> Result<Vec<u64>, AllocError>
+    ensures { IfOk result (λ hs. hs.items ≡ map value_hash (key_values (seen_keys keys.now))) }
+{
+    let mut hashes = Vec::with_capacity(alloc, keys.len())?;
+    for key in keys {
+        hashes.push(hash_of(&key.value))?;
+    }
+    Ok(hashes)
+}
+
+/// These keys, where the hashes of their values show that none stands twice. It is not always shown: two values may have one hash.
+pub fn apart(alloc: Global, keys: Vec<Key>) -> Result<Option<Keys>, AllocError>
+    ensures keys { IfOk result (λ o. IfSome o (λ ks. ks ≡ seen_keys keys.items)) }
+    ensures distinct { IfOk result (λ o. IfSome o (λ ks. NoRepeat ks)) }
+{
+    let hashes = hashes_of(alloc, keys.as_slice())?;
+    if differ(alloc, hashes.as_slice())? {
+        Ok(Some(Keys::from_vec(keys)))
+    } else {
+        Ok(None)
+    }
 }
 
 /// The keys of a list's items for a key text: each item's key with how many items before it have an equal one.

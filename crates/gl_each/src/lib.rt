@@ -14,7 +14,7 @@ mod planning;
 mod step;
 
 pub use key::Key;
-pub use keying::keys;
+pub use keying::{apart, keys};
 pub use lists::{Keys, Places, PlanSteps};
 pub use planning::plan;
 pub use step::{Plan, PlanStep};

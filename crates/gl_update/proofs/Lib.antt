@@ -21,3 +21,4 @@ pub mod SyncCounts
 pub mod AlongCounts
 pub mod AlongItems
 pub mod StayingItems
+pub mod PlainKeys

@@ -24,6 +24,9 @@ use Rattle.gl_update.specs.declared.old_items.Work.{Work}
 abbrev pub raw_key : ItemCode → Key
 raw_key x = (view x.spot.key, x.spot.occurrence)
 
+abbrev pub plain_key : ItemCode → Key
+plain_key x = (plain (view x.spot.key), x.spot.occurrence)
+
 abbrev pub code_key : ItemCode → Key
 code_key x = (owned (plain (view x.spot.key)), x.spot.occurrence)
 

@@ -9,11 +9,11 @@ ghost use Rattle.gl_each.specs.View.{key_view, seen_keys, seen_steps, step_view}
 ghost use Rattle.gl_kept.specs.Between.{moves_between};
 ghost use Rattle.gl_append.specs.MachineView.{seen_left};
 ghost use Rattle.gl_update.specs.ListItems.{there};
-ghost use Rattle.gl_update.specs.OldItems.{raw_key, code_key, Plans, TakenAt, TakenBy, IsReady, is_move, unboxed};
+ghost use Rattle.gl_update.specs.OldItems.{raw_key, plain_key, code_key, Plans, TakenAt, TakenBy, IsReady, is_move, unboxed};
 ghost use Rattle.gl_update.specs.NextItem.{Follows};
 
 use gl_append::{Entry, ItemCode};
-use gl_each::{Key, Keys, PlanStep, keys, plan};
+use gl_each::{Key, Keys, PlanStep, apart, keys, plan};
 use std::alloc::{AllocError, Global};
 
 /// What is left to do of a list that is read again: the keys of all old items by their places, the entries that wait, the
@@ -57,9 +57,25 @@ pub(crate) fn are_keys_of(keys: &[Key], items: &[ItemCode]) -> bool
     true
 }
 
-/// The keys of the items. Where one stands twice, as in no list, it answers as for want of memory.
+// The plain forms of the items' keys.
 #[inline(never)]
-pub(crate) fn keys_of_items(alloc: Global, items: &[ItemCode]) -> Result<Keys, AllocError>
+fn plain_keys(alloc: Global, items: &[ItemCode]) -> Result<Vec<Key>, AllocError>
+    ensures { IfOk result (λ ks. seen_keys ks.items ≡ map plain_key items.now) }
+{
+    let mut list = Vec::with_capacity(alloc, items.len())?;
+    for item in items {
+        let value = item.spot.key.data_of()?;
+        list.push(Key {
+            value,
+            occurrence: item.spot.occurrence,
+        })?;
+    }
+    Ok(list)
+}
+
+// The keys of the items, counted again. Where one stands twice, as in no list, it answers as for want of memory.
+#[inline(never)]
+fn counted_keys(alloc: Global, items: &[ItemCode]) -> Result<Keys, AllocError>
     ensures once { IfOk result (λ ks. NoRepeat ks) }
     ensures keys { IfOk result (λ ks. ks ≡ map code_key items.now) }
 {
@@ -72,6 +88,18 @@ pub(crate) fn keys_of_items(alloc: Global, items: &[ItemCode]) -> Result<Keys, A
         Ok(found)
     } else {
         Err(AllocError)
+    }
+}
+
+/// The keys of the items. Where one stands twice, as in no list, it answers as for want of memory.
+#[inline(never)]
+pub(crate) fn keys_of_items(alloc: Global, items: &[ItemCode]) -> Result<Keys, AllocError>
+    ensures once { IfOk result (λ ks. NoRepeat ks) }
+    ensures keys { IfOk result (λ ks. ks ≡ map code_key items.now) }
+{
+    match apart(alloc, plain_keys(alloc, items)?)? {
+        Some(found) => Ok(found),
+        None => counted_keys(alloc, items),
     }
 }
 

@@ -239,7 +239,7 @@ pub(crate) fn read_unlisted(
     Ok((list, ready))
 }
 
-/// The same, in a box.
+/// Keys with their entries, in a box.
 pub(crate) fn boxed_ready(
     alloc: Global,
     keys: Keys,
