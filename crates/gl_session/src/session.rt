@@ -58,6 +58,13 @@ impl Session {
         self.counts
     }
 
+    /// How many questions the session asked: whether what one of its references read last still stands. It takes no memory.
+    pub fn asks(&self) -> u128
+        ensures { result ≡ self.now.page.vm.refs.asks }
+    {
+        self.page.vm.refs.asks()
+    }
+
     /// How many nodes and instances there are between two turns: as many as the rendering has, since nothing else is kept. It takes no
     /// memory.
     pub fn live(&self) -> Live
