@@ -47,9 +47,6 @@ fn cell_named(frame: &Frame, name: &Text) -> Result<RefId, AllocError>
 pub fn cell_for(alloc: Global, page: &Page, app: &App, set: &Set) -> Result<RefId, AllocError>
     ensures { IfOk result (λ r. (w : World) → Reads app.now page.now w → CellFor w page.now (seen_set set.now) r) }
 {
-    if !page.vm.instances.live(set.owner) {
-        return Err(AllocError);
-    }
     let none = Args::new(alloc);
     let turn = Turn {
         alloc,
@@ -57,7 +54,7 @@ pub fn cell_for(alloc: Global, page: &Page, app: &App, set: &Set) -> Result<RefI
         app,
         none: &none,
     };
-    let frame = frame_of(&turn, page.vm.instances.stamp(set.owner))?;
+    let frame = frame_of(&turn, set.owner.number())?;
     let name = name_at(&frame, set.field)?;
     cell_named(&frame, name)
 }

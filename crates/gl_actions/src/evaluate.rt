@@ -30,11 +30,9 @@ const HELPERS: u16 = 33;
 fn action(frame: &Frame, name: &Text) -> Result<Value, AllocError>
     ensures { IfOk result (λ x. view x ≡ v.action frame.now.number name.now v.no_values) }
 {
-    Ok(Value::Act(Act {
-        owner: frame.number,
-        name: name.copy()?,
-        fixed: List::new(frame.alloc)?,
-    }))
+    let fixed = List::new(frame.alloc)?;
+    let action = Act::new(frame.alloc, frame.number, name.copy()?, fixed)?;
+    Ok(Value::Act(action))
 }
 
 /// A member of the instance: a field, a getter or an action.

@@ -36,7 +36,7 @@ pub fn fire(
     page: &Page,
     app: &App,
     sofar: &Sets,
-    number: u128,
+    number: u64,
     event: &str,
     payload: &Value,
 ) -> Result<Fired, AllocError>

@@ -15,7 +15,6 @@ use crate::reading::read;
 use crate::sets::Set;
 use gl_refs::RefId;
 use gl_value::{Text, Value};
-use gl_vm::Vm;
 use std::alloc::AllocError;
 
 /// The field at a place.
@@ -26,19 +25,10 @@ pub fn field_at(fields: &[(Text, Value)], place: usize) -> Option<&(Text, Value)
 }
 
 /// Whether a field of the instance with a number is set, which has fields of these names.
-fn is_set(
-    vm: &Vm,
-    number: u128,
-    fields: &[(Text, Value)],
-    name: &Text,
-    set: &Set,
-) -> Result<bool, AllocError>
+fn is_set(number: u64, fields: &[(Text, Value)], name: &Text, set: &Set) -> Result<bool, AllocError>
     ensures { IfOk result (λ b. b ≡ (number == set.now.owner.1) && bytes_eq name.now (at_place [] set.now.field (field_names fields.now))) }
 {
-    if !vm.instances.live(set.owner) {
-        return Err(AllocError);
-    }
-    if number != vm.instances.stamp(set.owner) {
+    if number != set.owner.number() {
         return Ok(false);
     }
     match field_at(fields, set.field as usize) {
@@ -49,8 +39,7 @@ fn is_set(
 
 /// What a field of the instance with a number was set to last.
 fn last_value<'a>(
-    vm: &Vm,
-    number: u128,
+    number: u64,
     fields: &[(Text, Value)],
     name: &Text,
     sets: &'a [Set],
@@ -59,7 +48,7 @@ fn last_value<'a>(
 {
     let mut found = None;
     for set in sets {
-        if is_set(vm, number, fields, name, set)? {
+        if is_set(number, fields, name, set)? {
             found = Some(&set.to);
         }
     }
@@ -103,7 +92,7 @@ pub fn field_value(here: &Here, name: &Text) -> Result<Value, AllocError>
 {
     let frame = &here.frame;
     let fields = frame.class.fields.as_slice();
-    match last_value(frame.vm, frame.number, fields, name, here.sets.as_slice())? {
+    match last_value(frame.number, fields, name, here.sets.as_slice())? {
         Some(value) => value.copy(),
         None => held(frame, name),
     }

@@ -17,7 +17,7 @@ pub struct Frame<'a> {
     /// The class by its number, in the order of whose fields the cells are.
     pub numbered: &'a Class,
     pub owner: &'a Owner,
-    pub number: u128,
+    pub number: u64,
     pub args: &'a Args,
 }
 

@@ -24,7 +24,7 @@ const ON: u32 = 0;
 pub struct Heard<'a> {
     pub alloc: Global,
     pub vm: &'a Vm,
-    pub number: u128,
+    pub number: u64,
     pub event: &'a str,
 }
 
@@ -84,14 +84,10 @@ fn hear_spots(heard: &Heard, spots: &[ModSpot], acts: &mut Acts) -> Result<(), A
 }
 
 /// Whether a node has the number.
-fn has_number(heard: &Heard, node: NodeId) -> Result<bool, AllocError>
-    ensures { IfOk result (λ b. b ≡ nat_eq heard.now.number node.1) }
+fn has_number(heard: &Heard, node: NodeId) -> bool
+    ensures { result ≡ nat_eq heard.now.number node.1 }
 {
-    let tree = &heard.vm.tree;
-    if tree.find(node).is_none() {
-        return Err(AllocError);
-    }
-    Ok(heard.number == tree.stamp(node))
+    heard.number == node.number()
 }
 
 /// Adds what an element's own modifiers call, where it is the node.
@@ -103,7 +99,7 @@ fn hear_own(
 ) -> Result<(), AllocError>
     ensures { OnOk result (acts.new ≡ acts.old ++ called_of heard.now.vm.now.mods (chars heard.now.event.now) (if nat_eq heard.now.number node.1 then map seen_mod_spot mods.now else [])) }
 {
-    if has_number(heard, node)? {
+    if has_number(heard, node) {
         return hear_spots(heard, mods, acts);
     }
     Ok(())

@@ -16,14 +16,9 @@ use gl_value::{Text, Value};
 use std::alloc::{AllocError, Global};
 
 /// The number of the root's instance.
-fn root_number(page: &Page) -> Result<u128, AllocError> {
+fn root_number(page: &Page) -> Result<u64, AllocError> {
     match &page.code {
-        Code::Root { owner, .. } => {
-            if !page.vm.instances.live(owner.id) {
-                return Err(AllocError);
-            }
-            Ok(page.vm.instances.stamp(owner.id))
-        }
+        Code::Root { owner, .. } => Ok(owner.id.number()),
         _ => Err(AllocError),
     }
 }

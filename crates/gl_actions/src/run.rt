@@ -173,7 +173,7 @@ fn action_on(
         return Ok(());
     }
     let frame = frame_of(turn, act.owner)?;
-    match action_of(frame.class.actions.as_slice(), &act.name) {
+    match action_of(frame.class.actions.as_slice(), act.name.as_text()) {
         Some(action) => {
             let all = joined_values(turn.alloc, act.fixed.as_slice(), given)?;
             let params = bound(turn.alloc, action.params.as_slice(), all.as_slice())?;

@@ -9,7 +9,6 @@ ghost use Rattle.gl_actions.specs.FoundView.{seen_found};
 
 use gl_append::{Code, Codes, ItemCode, Owner};
 use gl_scope::Args;
-use gl_vm::Vm;
 use std::alloc::AllocError;
 
 /// An instance of the updating program with its arguments.
@@ -22,19 +21,15 @@ pub struct Found<'a> {
 /// What is sought: the instance with a number. The root has no arguments, which are lent.
 #[derive(Clone, Copy)]
 pub struct Sought<'a> {
-    pub vm: &'a Vm,
-    pub number: u128,
+    pub number: u64,
     pub none: &'a Args,
 }
 
 /// Whether an instance has the number.
-fn is_it(sought: &Sought, owner: &Owner) -> Result<bool, AllocError>
-    ensures { IfOk result (λ b. b ≡ nat_eq sought.now.number owner.now.id.1) }
+fn is_it(sought: &Sought, owner: &Owner) -> bool
+    ensures { result ≡ nat_eq sought.now.number owner.now.id.1 }
 {
-    if !sought.vm.instances.live(owner.id) {
-        return Err(AllocError);
-    }
-    Ok(sought.number == sought.vm.instances.stamp(owner.id))
+    sought.number == owner.id.number()
 }
 
 /// The first instance with the number in what was rendered of a body.
@@ -81,7 +76,7 @@ fn seek_owner<'a>(
     requires none { sought.now.none.now ≡ [] }
     ensures { IfOk result (λ o. (n : _) → option_map (seen_found n) o ≡ (if nat_eq sought.now.number owner.now.id.1 then Some (seen_owner n owner.now, name_stamps args.now) else instance_among sought.now.number (lives_of (seen_codes n body.now)))) }
 {
-    if is_it(sought, owner)? {
+    if is_it(sought, owner) {
         return Ok(Some(Found { owner, args }));
     }
     seek_codes(sought, body)

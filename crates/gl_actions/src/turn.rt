@@ -60,7 +60,7 @@ fn class_numbered(app: &App, class: u16) -> Result<&Class, AllocError>
 }
 
 /// The instance with a number. Where there is none, it answers as for want of memory.
-pub fn frame_of<'a>(turn: &Turn<'a>, number: u128) -> Result<Frame<'a>, AllocError>
+pub fn frame_of<'a>(turn: &Turn<'a>, number: u64) -> Result<Frame<'a>, AllocError>
     requires none { turn.now.none.now ≡ [] }
     ensures found { IfOk result (λ f. (n : _) → instance_in number (live_of (seen_code n turn.now.page.now.code)) ≡ Some (seen_owner n f.owner.now, name_stamps f.args.now)) }
     ensures fits { IfOk result (λ f. (w : World) → Reads turn.now.app.now turn.now.page.now w → Fits w f) }
@@ -68,7 +68,6 @@ pub fn frame_of<'a>(turn: &Turn<'a>, number: u128) -> Result<Frame<'a>, AllocErr
     ensures own { IfOk result (λ f. IsOnPage turn.now.app.now turn.now.page.now f) }
 {
     let sought = Sought {
-        vm: &turn.page.vm,
         number,
         none: turn.none,
     };

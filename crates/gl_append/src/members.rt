@@ -45,13 +45,10 @@ impl Machine {
         ensures step { OnOk result (Takes (λ n m. s.push_new (constant_form (v.action (by_number.owner (inst_in m.rest.sight)) name.now v.no_values)) m) vm.old self.old vm.new self.new) }
         ensures calm { Calm vm.old → Calm vm.new }
     {
-        let id = self.sight.level.owner.as_ref().id;
-        if !vm.instances.live(id) {
-            return Err(AllocError);
-        }
-        let owner = vm.instances.stamp(id);
+        let owner = self.sight.level.owner.as_ref().id.number();
         let name = name.copy()?;
         let fixed = List::new(self.alloc)?;
-        self.push_constant(vm, Value::Act(Act { owner, name, fixed }))
+        let action = Act::new(self.alloc, owner, name, fixed)?;
+        self.push_constant(vm, Value::Act(action))
     }
 }

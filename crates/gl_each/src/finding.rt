@@ -74,6 +74,6 @@ pub(crate) fn feed<H: Hasher>(value: &Value, state: &mut H)
                 feed(&pair.value, state);
             }
         }
-        Value::Act(action) => state.write_u128(action.owner),
+        Value::Act(action) => state.write_u128(u128::from(action.owner)),
     }
 }

@@ -60,7 +60,7 @@ fn fire_on(
         page,
         app,
         &applied.sets,
-        number as u128,
+        number,
         name.as_str(),
         payload,
     )?;

@@ -9,9 +9,9 @@ use Rattle.gl_vm.specs.declared.vm.Vm.{Vm}
 use Rattle.gl_gone.specs.View.{line_of, IsKept, AllKept}
 use Rattle.gl_gone.specs.declared.endings.Ending.{Ending}
 
--- a live modifier with its number
-pub modifier_kept : (a : Arena m.Installed) (i : Id) (x : m.Installed) (k j : ℕ) → IsStamped a → named a i ≡ Some x → k ≡ i.1 → j ≡ x.node.1 → option_map line_of (by_stamp a k) ≡ Some (j, x.name)
-modifier_kept a i x k j st h e f = ap (λ s. option_map line_of (by_stamp a s)) e ∙ (ap (option_map line_of) (by_stamp-live a i x st h) ∙ ap (λ s. Some (s, x.name)) (sym f))
+-- a live modifier
+pub modifier_kept : (a : Arena m.Installed) (i : Id) (x : m.Installed) → IsStamped a → named a i ≡ Some x → option_map line_of (by_stamp a i.1) ≡ Some (x.node.1, x.name)
+modifier_kept a i x st h = ap (option_map line_of) (by_stamp-live a i x st h)
 
 at_end : (vm : Vm) (xs : List Ending) (x : Ending) → IsKept vm x → AllKept vm xs → AllKept vm (xs ++ x ∷ [])
 at_end vm [] x k h = (k, tt)

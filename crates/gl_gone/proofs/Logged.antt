@@ -41,8 +41,8 @@ use Rattle.gl_gone.proofs.Going.{goes, goes_of, stays_told, tells_gone}
 -- Ids
 
 seen_id : (n : Tables) (vm : Vm) (x : Ending) → IsKept vm x → gone_id (seen_ending n x) ≡ id_of x
-seen_id n vm (ending.Modifier i k node name) h = refl
-seen_id n vm (ending.Instance i k o) h = ap instance_id h.1
+seen_id n vm (ending.Modifier i node name) h = refl
+seen_id n vm (ending.Instance o) h = refl
 
 seen_ids : (n : Tables) (vm : Vm) (xs : List Ending) → AllKept vm xs → map gone_id (all_seen n xs) ≡ map id_of xs
 seen_ids n vm [] h = refl
@@ -99,8 +99,8 @@ module _ (a : App) (templates : List Body) (vm : Vm) (touched : Source → Bool)
   Line g = gone_line (env_of a templates).app (state_of N vm touched).look (λ k. k) g
 
   line_told : (x : Ending) → IsKept vm x → ending_line M x ≡ Line (seen_ending N x)
-  line_told (ending.Modifier i k node name) h = modifier_told N _ (node, name) h.1
-  line_told (ending.Instance i k o) h = instance_told M templates (path_view o.value.path)
+  line_told (ending.Modifier i node name) h = modifier_told N _ (node.1, name) h
+  line_told (ending.Instance o) h = instance_told M templates (path_view o.value.path)
 
   one_told : (b c : Bool) (x : Ending) (xs : List Ending) (gs : List Gone) → b ≡ c → IsKept vm x → flat_map (ending_line M) xs ≡ flat_map Line gs
       → flat_map (ending_line M) (cond (not b) (x ∷ xs) xs) ≡ flat_map Line (cond (not c) (seen_ending N x ∷ gs) gs)
@@ -133,16 +133,16 @@ is_mapped : {A B : Type 0} (f : A → B) (o : Option A) → is_some (option_map 
 is_mapped f None = refl
 is_mapped f (Some x) = refl
 
-stamp_there : {T : Type 0} (a : Arena T) (i : Ident) (k : ℕ) → i.1 ≡ k → is_some (named a i) ≡ true → is_some (by_stamp a k) ≡ true
-stamp_there a i k e h = subst (λ s. is_some (by_stamp a s) ≡ true) e (at_stamp-there i.1 a.slots i.0 h)
+stamp_there : {T : Type 0} (a : Arena T) (i : Ident) → is_some (named a i) ≡ true → is_some (by_stamp a i.1) ≡ true
+stamp_there a i h = at_stamp-there i.1 a.slots i.0 h
 
 kept_there : (n : Tables) (touched : Source → Bool) (old new : Vm) (x : Ending) → IsKept old x → is_live new x ≡ true → is_some ((state_of n new touched).look (gone_id (seen_ending n x))) ≡ true
-kept_there n touched old new (ending.Modifier i k node name) h live =
-    let o = by_stamp new.mods.table k in
-    is_mapped modifier_row (option_map (seen_modifier n) o) ∙ (is_mapped (seen_modifier n) o ∙ stamp_there new.mods.table i k h.0 live)
-kept_there n touched old new (ending.Instance i k o) h live =
+kept_there n touched old new (ending.Modifier i node name) h live =
+    let o = by_stamp new.mods.table i.1 in
+    is_mapped modifier_row (option_map (seen_modifier n) o) ∙ (is_mapped (seen_modifier n) o ∙ stamp_there new.mods.table i live)
+kept_there n touched old new (ending.Instance o) h live =
     let j = o.value.id.1 in let x = by_stamp new.instances j in
-    is_mapped instance_row (option_map (seen_instance n j) x) ∙ (is_mapped (seen_instance n j) x ∙ stamp_there new.instances i j (h.0 ∙ sym h.1) live)
+    is_mapped instance_row (option_map (seen_instance n j) x) ∙ (is_mapped (seen_instance n j) x ∙ stamp_there new.instances o.value.id live)
 
 none_goes : (n : Tables) (lives : Id → Bool) (old new : Vm) → ((x : Ending) → IsKept old x → is_live new x ≡ true → lives (gone_id (seen_ending n x)) ≡ true)
     → (xs : List Ending) → AllKept old xs → list_all (is_live new) xs ≡ true → filter (goes lives) (all_seen n xs) ≡ []

@@ -25,16 +25,16 @@ number_put s t k u q = u.0 q ∙ by (nat_eq k q) (nat_eq q k) (contains nat_eq s
   by false true c e = absurd cc
 
 pub modifier_put : (s t : Numbers) (k : ℕ) → Updates nat_eq s.modifiers t.modifiers k true → t.instances ≡ s.instances → (x : Ending) → is_numbered t x ≡ (id_eq (id_of x) (modifier_id k) || is_numbered s x)
-modifier_put s t k u e (ending.Modifier i j node name) = number_put s.modifiers t.modifiers k u j
-modifier_put s t k u e (ending.Instance i j o) = ap (λ z. contains nat_eq z j) e
+modifier_put s t k u e (ending.Modifier i node name) = number_put s.modifiers t.modifiers k u i.1
+modifier_put s t k u e (ending.Instance o) = ap (λ z. contains nat_eq z o.value.id.1) e
 
 pub instance_put : (s t : Numbers) (k : ℕ) → Updates nat_eq s.instances t.instances k true → t.modifiers ≡ s.modifiers → (x : Ending) → is_numbered t x ≡ (id_eq (id_of x) (instance_id k) || is_numbered s x)
-instance_put s t k u e (ending.Modifier i j node name) = ap (λ z. contains nat_eq z j) e
-instance_put s t k u e (ending.Instance i j o) = number_put s.instances t.instances k u j
+instance_put s t k u e (ending.Modifier i node name) = ap (λ z. contains nat_eq z i.1) e
+instance_put s t k u e (ending.Instance o) = number_put s.instances t.instances k u o.value.id.1
 
 pub none_put : (s : Numbers) → s.modifiers.keys ≡ [] → s.instances.keys ≡ [] → (xs : List Ending) (x : Ending) → (is_numbered s x || stands_in xs x) ≡ stands_in xs x
-none_put s d e xs (ending.Modifier i j node name) = ap (λ ks. Rattle.std.specs.List.list_any (nat_eq j) ks || stands_in xs (ending.Modifier i j node name)) d
-none_put s d e xs (ending.Instance i j o) = ap (λ ks. Rattle.std.specs.List.list_any (nat_eq j) ks || stands_in xs (ending.Instance i j o)) e
+none_put s d e xs (ending.Modifier i node name) = ap (λ ks. Rattle.std.specs.List.list_any (nat_eq i.1) ks || stands_in xs (ending.Modifier i node name)) d
+none_put s d e xs (ending.Instance o) = ap (λ ks. Rattle.std.specs.List.list_any (nat_eq o.value.id.1) ks || stands_in xs (ending.Instance o)) e
 
 -- one more
 pub put_more : (s t : Numbers) (xs : List Ending) (i : ℕ) (y : Ending) → i < length xs → y ≡ get_or xs i y → ((x : Ending) → is_numbered t x ≡ (id_eq (id_of x) (id_of y) || is_numbered s x))

@@ -32,5 +32,5 @@ abbrev pub modifier_name : Manifest → ℕ → Text
 modifier_name m k = (tables_of m).modifier k
 
 abbrev pub ending_line : Manifest → Ending → Text
-ending_line m (ending.Modifier i k node name) = modifier_line (codes "destroy ") node (modifier_name m name) []
-ending_line m (ending.Instance i k o) = class_line (entry_at m (path_view o.value.path))
+ending_line m (ending.Modifier i node name) = modifier_line (codes "destroy ") node.1 (modifier_name m name) []
+ending_line m (ending.Instance o) = class_line (entry_at m (path_view o.value.path))

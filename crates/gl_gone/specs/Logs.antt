@@ -24,8 +24,8 @@ use Rattle.gl_gone.specs.declared.endings.Ending.TheVariants as ending
 use Rattle.gl_gone.specs.declared.numbers.Numbers.{Numbers}
 
 abbrev pub id_of : Ending → Id
-id_of (ending.Modifier i k node name) = modifier_id k
-id_of (ending.Instance i k o) = instance_id k
+id_of (ending.Modifier i node name) = modifier_id i.1
+id_of (ending.Instance o) = instance_id o.value.id.1
 
 -- it stands in the list, by its number
 abbrev pub stands_in : List Ending → Ending → Bool
@@ -33,8 +33,8 @@ stands_in xs x = has_id (id_of x) (map id_of xs)
 
 -- it has one of the numbers of its kind
 abbrev pub is_numbered : Numbers → Ending → Bool
-is_numbered s (ending.Modifier i k node name) = contains nat_eq s.modifiers k
-is_numbered s (ending.Instance i k o) = contains nat_eq s.instances k
+is_numbered s (ending.Modifier i node name) = contains nat_eq s.modifiers i.1
+is_numbered s (ending.Instance o) = contains nat_eq s.instances o.value.id.1
 
 -- nothing for what has one of the numbers, and for all else its line
 abbrev pub gone_text : Numbers → Manifest → Ending → Text

@@ -14,8 +14,8 @@ use Rattle.gl_gone.specs.declared.endings.Ending.TheVariants as ending
 
 -- what it is to a log: a modifier by its number, or an instance with its path
 abbrev pub seen_ending : Tables → Ending → Gone
-seen_ending n (ending.Modifier i k node name) = gone_modifier k
-seen_ending n (ending.Instance i k o) = gone_instance (seen_owner n o.value)
+seen_ending n (ending.Modifier i node name) = gone_modifier i.1
+seen_ending n (ending.Instance o) = gone_instance (seen_owner n o.value)
 
 abbrev pub all_seen : Tables → List Ending → List Gone
 all_seen n xs = map (seen_ending n) xs
@@ -24,11 +24,10 @@ all_seen n xs = map (seen_ending n) xs
 abbrev pub line_of : m.Installed → ℕ × ℕ
 line_of x = (x.node.1, x.name)
 
--- The number is that of the id. The node and the name of a modifier are those that are kept for its number, and the number of an instance is
--- its own.
+-- The node and the name of a modifier are those that are kept for its number.
 abbrev pub IsKept : Vm → Ending → Type 0
-IsKept vm (ending.Modifier i k node name) = (i.1 ≡ k) × (option_map line_of (by_stamp vm.mods.table k) ≡ Some (node, name))
-IsKept vm (ending.Instance i k o) = (i.1 ≡ k) × (o.value.id.1 ≡ k)
+IsKept vm (ending.Modifier i node name) = option_map line_of (by_stamp vm.mods.table i.1) ≡ Some (node.1, name)
+IsKept vm (ending.Instance o) = Unit {0}
 
 abbrev pub AllKept : Vm → List Ending → Type 0
 AllKept vm [] = Unit {0}
@@ -41,5 +40,5 @@ pub record Lists (page : Page) (xs : List Ending) : Type 0 where
 
 -- it lives in a machine, by its id
 abbrev pub is_live : Vm → Ending → Bool
-is_live vm (ending.Modifier i k node name) = is_some (named vm.mods.table i)
-is_live vm (ending.Instance i k o) = is_some (named vm.instances i)
+is_live vm (ending.Modifier i node name) = is_some (named vm.mods.table i)
+is_live vm (ending.Instance o) = is_some (named vm.instances o.value.id)

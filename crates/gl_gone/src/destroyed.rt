@@ -15,6 +15,7 @@ use crate::numbers::Numbers;
 use gl_append::Page;
 use gl_lines::{push_destroyed_instance, push_destroyed_modifier};
 use gl_meaning::{Class, Manifest, Path};
+use gl_nodes::NodeId;
 use gl_opc::App;
 use gl_value::Text;
 use gl_vm::Vm;
@@ -56,7 +57,7 @@ fn lives(vm: &Vm, ending: &Ending) -> bool
 {
     match ending {
         Ending::Modifier { id, .. } => vm.mods.live(*id),
-        Ending::Instance { id, .. } => vm.instances.live(*id),
+        Ending::Instance { owner } => vm.instances.live(owner.as_ref().id),
     }
 }
 
@@ -116,21 +117,21 @@ fn push_line(
 {
     match ending {
         Ending::Modifier { node, name, .. } => push_modifier(out, alloc, *node, *name, manifest),
-        Ending::Instance { owner, .. } => push_instance(out, &owner.as_ref().path, manifest),
+        Ending::Instance { owner } => push_instance(out, &owner.as_ref().path, manifest),
     }
 }
 
 fn push_modifier(
     out: &mut Text,
     alloc: Global,
-    node: u128,
+    node: NodeId,
     name: u32,
     manifest: &Manifest,
 ) -> Result<(), AllocError>
-    ensures { OnOk result (out.new ≡ out.old ++ modifier_line (codes "destroy ") node (modifier_name (manifest_view manifest.now) name) []) }
+    ensures { OnOk result (out.new ≡ out.old ++ modifier_line (codes "destroy ") node.1 (modifier_name (manifest_view manifest.now) name) []) }
 {
     let name = name_of(alloc, manifest, name)?;
-    push_destroyed_modifier(out, node, &name)
+    push_destroyed_modifier(out, u128::from(node.number()), &name)
 }
 
 fn push_instance(out: &mut Text, path: &Path, manifest: &Manifest) -> Result<(), AllocError>

@@ -13,8 +13,8 @@ use gl_vm::Vm;
 use std::alloc::{AllocError, Global};
 use std::rc::Rc;
 
-/// What stands in a page that an update may destroy. Where the page keeps nothing for a modifier or an instance of its
-/// program, it answers as for want of memory.
+/// What stands in a page that an update may destroy. Where the page keeps nothing for a modifier of its program, it
+/// answers as for want of memory.
 pub fn standing(alloc: Global, page: &Page) -> Result<Standing, AllocError>
     ensures { IfOk result (λ s. Lists page.now s.list.items) }
 {
@@ -90,7 +90,7 @@ fn list_component(
     ensures kept { OnOk result (AllKept vm.now list.old.items → AllKept vm.now list.new.items) }
 {
     list_codes(list, vm, body)?;
-    let ending = instance_ending(vm, owner)?;
+    let ending = instance_ending(owner)?;
     push_ending(list, vm, ending)
 }
 
@@ -113,7 +113,7 @@ fn push_ending(list: &mut Vec<Ending>, vm: &Vm, ending: Ending) -> Result<(), Al
     Ok(())
 }
 
-/// A modifier, with its number, that of its node and that of its name, as they are kept for it.
+/// A modifier, with its node and the number of its name, as they are kept for it.
 fn modifier_ending(vm: &Vm, id: ModId) -> Result<Ending, AllocError>
     ensures seen { IfOk result (λ e. (n : _) → seen_ending n e ≡ gone_modifier id.1) }
     ensures kept { IfOk result (λ e. IsKept vm.now e) }
@@ -123,29 +123,19 @@ fn modifier_ending(vm: &Vm, id: ModId) -> Result<Ending, AllocError>
         return Err(AllocError);
     }
     let installed = vm.mods.get(id);
-    if vm.tree.find(installed.node).is_none() {
-        return Err(AllocError);
-    }
     Ok(Ending::Modifier {
         id,
-        number: vm.mods.stamp(id),
-        node: vm.tree.stamp(installed.node),
+        node: installed.node,
         name: installed.name,
     })
 }
 
-/// An instance, with its number.
-fn instance_ending(vm: &Vm, owner: &Rc<Owner>) -> Result<Ending, AllocError>
+/// An instance.
+fn instance_ending(owner: &Rc<Owner>) -> Result<Ending, AllocError>
     ensures seen { IfOk result (λ e. (n : _) → seen_ending n e ≡ gone_instance (seen_owner n owner.now.value)) }
-    ensures kept { IfOk result (λ e. IsKept vm.now e) }
+    ensures kept { IfOk result (λ e. (vm : _) → IsKept vm e) }
 {
-    let id = owner.as_ref().id;
-    if !vm.instances.live(id) {
-        return Err(AllocError);
-    }
     Ok(Ending::Instance {
-        id,
-        number: vm.instances.stamp(id),
         owner: Rc::clone(owner)?,
     })
 }

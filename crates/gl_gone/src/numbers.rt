@@ -10,8 +10,8 @@ use std::collections::HashSet;
 /// The numbers of modifiers, and those of instances.
 #[derive(Drop)]
 pub struct Numbers {
-    pub modifiers: HashSet<u128>,
-    pub instances: HashSet<u128>,
+    pub modifiers: HashSet<u64>,
+    pub instances: HashSet<u64>,
 }
 
 impl Numbers {
@@ -33,8 +33,8 @@ impl Numbers {
         ensures { OnOk result ((x : _) → is_numbered self.new x ≡ (id_eq (id_of x) (id_of ending.now) || is_numbered self.old x)) }
     {
         match ending {
-            Ending::Modifier { number, .. } => self.modifiers.insert(*number)?,
-            Ending::Instance { number, .. } => self.instances.insert(*number)?,
+            Ending::Modifier { id, .. } => self.modifiers.insert(id.number())?,
+            Ending::Instance { owner } => self.instances.insert(owner.as_ref().id.number())?,
         };
         Ok(())
     }
@@ -44,8 +44,8 @@ impl Numbers {
         ensures { result ≡ is_numbered self.now ending.now }
     {
         match ending {
-            Ending::Modifier { number, .. } => self.modifiers.contains(number),
-            Ending::Instance { number, .. } => self.instances.contains(number),
+            Ending::Modifier { id, .. } => self.modifiers.contains(&id.number()),
+            Ending::Instance { owner } => self.instances.contains(&owner.as_ref().id.number()),
         }
     }
 }

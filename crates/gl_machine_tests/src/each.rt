@@ -1,5 +1,5 @@
 // Plans and keys, as callers meet them.
-use gl_each::{Key, Plan, PlanStep, keys, plan};
+use gl_each::{Key, Plan, PlanStep, apart, keys, plan};
 use gl_value::{List, Text, Value};
 use std::alloc::Global;
 use std::process::Abort;
@@ -140,6 +140,21 @@ fn check_keys(rt: &impl Abort, alloc: Global, row: &(&str, &str, &str)) -> Resul
 fn keyed(rt: HostRuntime) -> Result<(), Fail> {
     for row in &KEYS {
         check_keys(&rt, rt.alloc(), row)?;
+    }
+    Ok(())
+}
+
+// The JSON of a list, and whether hashes tell the keys of its items apart.
+static APART: [(&str, bool); 2] = [(r#"[1,"x",2]"#, true), (r#"[1,2,1]"#, false)];
+
+#[test]
+fn told_apart(rt: HostRuntime) -> Result<(), Fail> {
+    let alloc = rt.alloc();
+    for row in &APART {
+        let items = items(alloc, row.0)?;
+        let found = keys(alloc, items.as_slice(), "@identity")?;
+        let shown = apart(alloc, found.into_vec())?;
+        assert!(rt; shown.is_some() == row.1, "{}", row.0);
     }
     Ok(())
 }

@@ -35,7 +35,7 @@ meaning_of r i = meaning (forms_of r) i
 -- each of the counters is below its last value
 pub record HasRoom (r : Refs) : Type 0 where
   pub tags : t.HasRoom r.tags
-  pub made : r.rows.made + 1 < 2 ^ 128
+  pub made : r.rows.made + 1 < 2 ^ 64
   pub evals : r.evals + 1 < 2 ^ 128
   pub asks : r.asks + 1 < 2 ^ 128
 

@@ -19,7 +19,7 @@ use std::alloc::{AllocError, Global};
 type FewTags = SmallVec<TagId, 4>;
 
 // Whether the tag has not been dirtied since there were so many dirtyings.
-fn is_fresh(tags: &mut Tags, tag: TagId, order: u128) -> bool
+fn is_fresh(tags: &mut Tags, tag: TagId, order: u64) -> bool
     requires { IsSome (t.tag_at tags.old tag) }
     ensures value { result ≡ not (ltb order (t.order_of tags.old tag)) }
     ensures stays { tags.new ≡ tags.old }

@@ -299,7 +299,7 @@ impl Refs {
         ensures { IsTrue result ↔ HasRoom self.now }
     {
         self.tags.room()
-            && self.rows.made() < u128::MAX
+            && self.rows.made() < u128::from(u64::MAX)
             && self.evals < u128::MAX
             && self.asks < u128::MAX
     }

@@ -31,7 +31,7 @@ pub(crate) enum Kind {
 #[derive(Drop)]
 pub(crate) struct Last {
     pub(crate) value: Value,
-    pub(crate) order: u128,
+    pub(crate) order: u64,
     pub(crate) tag: TagId,
 }
 

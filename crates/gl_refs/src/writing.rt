@@ -27,7 +27,7 @@ pub(crate) fn holds(rows: &Rows, id: RefId, value: &Value) -> bool
 // Gives a source a value, and touches it.
 pub(crate) fn put(tags: &mut Tags, rows: &mut Rows, id: RefId, value: Value)
     requires sound { IsSound tags.old (rows_of rows.old) }
-    requires room { tags.old.count + 1 < 2 ^ 128 }
+    requires room { tags.old.count + 1 < 2 ^ 64 }
     requires source { is_source (rows_of rows.old id) ≡ true }
     ensures sound { IsSound tags.new (rows_of rows.new) }
     ensures tags { (kind : _) (tag : _) (was : _) (last : _) → rows_of rows.old id ≡ Some (record { form = source_form kind tag was; last = last }) → tags.new ≡ t.dirtied tags.old tag }

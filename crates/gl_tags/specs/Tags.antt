@@ -94,11 +94,11 @@ abbrev pub is_dirtyable : Option Tag → Bool
 is_dirtyable (Some (dirtyable r o)) = true
 is_dirtyable _ = false
 
--- each of the counters is below its last value
+-- each of the counters, which have 64 bits, is below its last value
 pub record HasRoom (t : Tags) : Type 0 where
-  pub clock : t.clock + 1 < 2 ^ 128
-  pub count : t.count + 1 < 2 ^ 128
-  pub made : t.tags.made + 1 < 2 ^ 128
+  pub clock : t.clock + 1 < 2 ^ 64
+  pub count : t.count + 1 < 2 ^ 64
+  pub made : t.tags.made + 1 < 2 ^ 64
 
 -- the tag is touched at the present revision, and the count of dirtyings rises
 abbrev pub dirtied : Tags → Id → Tags

@@ -58,7 +58,7 @@ pub(crate) fn look(tags: &Entries, id: TagId) -> Touch
 }
 
 // The kept touch, where it is marked with the present count.
-pub(crate) fn kept(tags: &Entries, id: TagId, count: u128) -> Option<Touch>
+pub(crate) fn kept(tags: &Entries, id: TagId, count: u64) -> Option<Touch>
     requires live { IsSome (named tags.now id) }
     requires kept { IsKept (tags_in tags.now) count (named tags.now id) }
     ensures { IfSome result (λ t. t ≡ touch_of (tags_in tags.now) (named (tags_in tags.now) id)) }
@@ -70,14 +70,14 @@ pub(crate) fn kept(tags: &Entries, id: TagId, count: u128) -> Option<Touch>
 }
 
 // Keeps a combined tag's touch, marked with the count.
-pub(crate) fn keep(tags: &mut Entries, id: TagId, touch: Touch, count: u128)
+pub(crate) fn keep(tags: &mut Entries, id: TagId, touch: Touch, count: u64)
     requires { IsSome (named tags.old id) }
     ensures { (tag : _) → named tags.old id ≡ Some tag → tags.new ≡ with_value tags.old id (kept_as tag touch count) }
 {
     keep_in(tags.get_mut(id), touch, count);
 }
 
-fn keep_in(tag: &mut Tag, touch: Touch, count: u128)
+fn keep_in(tag: &mut Tag, touch: Touch, count: u64)
     ensures { tag.new ≡ kept_as tag.old touch count }
 {
     match tag {

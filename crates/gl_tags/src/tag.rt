@@ -12,8 +12,8 @@ pub(crate) type Leads = SmallVec<TagId, 2>;
 /// The second tells apart what happened before and after within one revision.
 #[derive(Clone, Copy)]
 pub(crate) struct Touch {
-    pub(crate) revision: u128,
-    pub(crate) order: u128,
+    pub(crate) revision: u64,
+    pub(crate) order: u64,
 }
 
 impl Touch {
@@ -32,6 +32,6 @@ pub(crate) enum Tag {
     Combined {
         leads: Leads,
         kept: Touch,
-        mark: u128,
+        mark: u64,
     },
 }

@@ -17,8 +17,8 @@ pub struct Tags {
     alloc: Global,
     tags: Entries,
     still: TagId,
-    clock: u128,
-    count: u128,
+    clock: u64,
+    count: u64,
 }
 
 impl Model for Tags {
@@ -67,11 +67,11 @@ impl Tags {
     pub fn now(&self) -> u128
         ensures { result ≡ self.now.clock }
     {
-        self.clock
+        u128::from(self.clock)
     }
 
     /// How many dirtyings there were.
-    pub fn count(&self) -> u128
+    pub fn count(&self) -> u64
         ensures { result ≡ self.now.count }
     {
         self.count
@@ -82,12 +82,12 @@ impl Tags {
     pub fn room(&self) -> bool
         ensures { IsTrue result ↔ HasRoom self.now }
     {
-        self.clock < u128::MAX && self.count < u128::MAX && self.tags.made() < u128::MAX
+        self.clock < u64::MAX && self.count < u64::MAX && self.tags.made() < u128::from(u64::MAX)
     }
 
     /// The clock rises by 1, and no tag's value changes.
     pub fn advance(&mut self)
-        requires { self.old.clock + 1 < 2 ^ 128 }
+        requires { self.old.clock + 1 < 2 ^ 64 }
         ensures { self.new ≡ record self.old { clock = self.old.clock + 1 } }
     {
         self.clock += 1;
@@ -123,7 +123,7 @@ impl Tags {
     /// Sets the revision of a dirtyable tag to the clock. So that is the value of each tag that leads to it,
     /// and no other tag's value changes.
     pub fn dirty(&mut self, tag: TagId)
-        requires room { self.old.count + 1 < 2 ^ 128 }
+        requires room { self.old.count + 1 < 2 ^ 64 }
         requires dirtyable { is_dirtyable (tag_at self.old tag) ≡ true }
         ensures { self.new ≡ dirtied self.old tag }
     {
@@ -158,12 +158,12 @@ impl Tags {
         ensures value { result ≡ value_of self.old tag }
         ensures stays { self.new ≡ self.old }
     {
-        self.touch(tag).revision
+        u128::from(self.touch(tag).revision)
     }
 
     /// How many dirtyings there were when the last one of the tag was over, or when it was made; the greatest
     /// of these for a combined tag. It tells apart what one revision has before and after an evaluation.
-    pub fn order(&mut self, tag: TagId) -> u128
+    pub fn order(&mut self, tag: TagId) -> u64
         requires { IsSome (tag_at self.old tag) }
         ensures value { result ≡ order_of self.old tag }
         ensures stays { self.new ≡ self.old }

@@ -39,3 +39,14 @@ fn order(rt: HostRuntime) -> Result<(), Fail> {
     assert!(rt; upper.is_before(&lower) && !lower.is_before(&upper) && !lower.is_before(&lower));
     Ok(())
 }
+
+#[test]
+fn shared(rt: HostRuntime) -> Result<(), Fail> {
+    let alloc = rt.alloc();
+    let kept = {
+        let text = SharedText::new(alloc, text(alloc, "go")?)?;
+        text.copy()?
+    };
+    assert!(rt; kept.as_text().is("go"));
+    Ok(())
+}

@@ -44,7 +44,9 @@ impl Act {
     fn same(&self, other: &Act) -> bool
         ensures { result ≡ same nat_eq (view (Value.Act self.now)) (view (Value.Act other.now)) }
     {
-        self.owner == other.owner && self.name.same(&other.name) && self.fixed.same(&other.fixed)
+        self.owner == other.owner
+            && self.name.as_text().same(other.name.as_text())
+            && self.fixed.same(&other.fixed)
     }
 }
 

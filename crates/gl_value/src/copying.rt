@@ -28,7 +28,7 @@ impl Record {
 }
 
 impl Act {
-    /// Another action with the same owner, name and fixed arguments.
+    /// Another action with the same owner, name and fixed arguments. The two share them: it takes no memory.
     pub fn copy(&self) -> Result<Act, AllocError>
         ensures { IfOk result (λ a. a ≡ self.now) }
     {

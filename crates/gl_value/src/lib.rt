@@ -17,7 +17,7 @@ mod value;
 mod writing;
 
 pub use building::{ListBuilder, RecordBuilder};
-pub use gl_text::{Text, Texts};
+pub use gl_text::{SharedText, Text, Texts};
 pub use json::{JsonFault, json_fault};
 pub use named::NamedValues;
 pub use property::{Found, key_of};

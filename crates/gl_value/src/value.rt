@@ -1,9 +1,10 @@
 // The values of templates.
-ghost use Rattle.std.specs.Prelude.{◌≡◌, ◌<◌};
+ghost use Rattle.std.specs.Prelude.{◌≡◌, ◌<◌, IfOk};
 ghost use Rattle.gl_value.specs.Value.{truthy};
 ghost use Rattle.gl_value.specs.View.{view};
 
-use crate::Text;
+use crate::{SharedText, Text};
+use std::alloc::{AllocError, Global};
 use std::marker::Model;
 use std::rc::Rc;
 
@@ -52,12 +53,13 @@ pub struct Record {
     pub(crate) list: Rc<Vec<Pair>>,
 }
 
-/// An action: the number of the instance that owns it, its name and its fixed arguments.
+/// An action: the number of the instance that owns it, its name and its fixed arguments. Copies of an action
+/// share its name, so that a value takes no more room than a text.
 #[derive(Drop)]
 #[cycle(value)]
 pub struct Act {
-    pub owner: u128,
-    pub name: Text,
+    pub owner: u64,
+    pub name: SharedText,
     pub fixed: List,
 }
 
@@ -101,6 +103,18 @@ impl Model for Record {
     ghost use Rattle.gl_value.specs.Falls.{record_falls};
 
     ghost size_decreases = { λ a h. record_falls a };
+}
+
+impl Act {
+    /// An action of the instance with that number.
+    pub fn new(alloc: Global, owner: u64, name: Text, fixed: List) -> Result<Act, AllocError>
+        ensures owner { IfOk result (λ a. a.owner ≡ owner) }
+        ensures name { IfOk result (λ a. a.name ≡ name) }
+        ensures fixed { IfOk result (λ a. a.fixed ≡ fixed) }
+    {
+        let name = SharedText::new(alloc, name)?;
+        Ok(Act { owner, name, fixed })
+    }
 }
 
 impl Value {

@@ -34,7 +34,7 @@ impl Act {
         ensures { OnOk result (out.new ≡ out.old ++ text_of (view (Value.Act self.now))) }
     {
         out.push_ascii("[action ")?;
-        out.push_text(&self.name)?;
+        out.push_text(self.name.as_text())?;
         out.push_ascii("]")
     }
 }

@@ -204,11 +204,11 @@ fn member(alloc: Global, value: &Value) -> Result<Value, AllocError> {
     match value {
         Value::Text(text) if text.is("?") => Ok(Value::Undefined),
         Value::Record(record) => match record.get("@go") {
-            Some(Value::List(fixed)) => Ok(Value::Act(Act {
-                owner: 7,
-                name: Text::from_str(alloc, "go")?,
-                fixed: fixed.copy()?,
-            })),
+            Some(Value::List(fixed)) => {
+                let name = Text::from_str(alloc, "go")?;
+                let action = Act::new(alloc, 7, name, fixed.copy()?)?;
+                Ok(Value::Act(action))
+            }
             _ => value.copy(),
         },
         _ => value.copy(),

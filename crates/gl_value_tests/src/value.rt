@@ -385,11 +385,8 @@ fn action(alloc: Global) -> Result<Value, Fail> {
     let name = text(alloc, "go")?;
     let mut fixed = ListBuilder::new(alloc);
     fixed.push(Value::Int(1))?;
-    Ok(Value::Act(Act {
-        owner: 7,
-        name,
-        fixed: fixed.build()?,
-    }))
+    let action = Act::new(alloc, 7, name, fixed.build()?)?;
+    Ok(Value::Act(action))
 }
 
 // The text of an action, which is no attribute.

@@ -19,7 +19,7 @@ action_on-returns-in_ok-params-in-Some-clause-sets t c = on_ok_weaker c.steps_on
     let fits = c.in_ok-frame.ensures.fits w reads in
     let less = c.if-levels-eq0.false in
     act_some w f fits c.args.act.now.owner c.in_ok-frame.ensures.number c.args.act.now.name c.args.levels (action_view c.in-Some.action.now).1 c.args.act.now.fixed (seen_items c.args.given.items)
-    (seen_items c.in_ok-all-in-Some.all.items) c.in_ok-params-in-Some.params (sets_in w c.args.sets.now) _ (omega (arith, less)) (c.in-Some.ensures ∙ ap (named c.args.act.now.name) c.as_slice.ensures)
+    (seen_items c.in_ok-all-in-Some.all.items) c.in_ok-params-in-Some.params (sets_in w c.args.sets.now) _ (omega (arith, less)) (c.in-Some.ensures ∙ ap₂ named c.as_text.ensures c.as_slice.ensures)
     (c.in_ok-all-in-Some.ensures ∙ ap (λ vs. vs ++ seen_items c.args.given.items) c.as_slice-in-Some.ensures) (c.in_ok-params-in-Some.ensures ∙ ap₂ (λ ns xs. bind_values ns (seen_items xs)) c.as_slice-in-Some-2.ensures c.as_slice-in-Some-3.ensures.value)
     (e w reads fits ∙ ap (λ ss. run_steps (app_in w) w.store (calls_in w (c.args.levels - 1)) (scope_in w f c.in_ok-params-in-Some.params) ss (sets_in w c.args.sets.now)) c.as_slice-in-Some-4.ensures)) c.steps_on.ensures.sets
 

@@ -82,3 +82,7 @@ pub list_component-returns-clause-seen : goal.list_component-returns-clause-seen
 list_component-returns-clause-seen t c = λ n. on_ok_weaker c.push_ending.result
     (one_more (all_seen n c.args.list.now.items) (all_seen n c.list_codes.new.list.items) (all_seen n c.push_ending.new.list.items) (body_goes n c.args.body.now) (seen_ending n c.in_ok-ending.ending) (gone_instance (seen_owner n c.args.owner.now.value)) (c.in_ok-list_codes.ensures.seen n) (c.in_ok-ending.ensures.seen n))
     (c.push_ending.ensures.seen n)
+
+pub list_component-returns-clause-kept : goal.list_component-returns-clause-kept
+list_component-returns-clause-kept t c = on_ok_weaker c.push_ending.result
+    (λ keeps h. keeps (c.in_ok-ending.ensures.kept c.args.vm.now) (c.in_ok-list_codes.ensures.kept h)) c.push_ending.ensures.kept
