@@ -69,7 +69,7 @@ pub item_begun : (vm vm1 vm2 : Vm) (old new : Machine) (i : Iteration) (e : Entr
     → Does (λ n. made_source by_number (label vm.refs.rows.made) (labelled (view e.value))) vm vm1 → Numbers vm.refs.rows vm1.refs.rows v
     → Does (λ n. made_source by_number (label vm1.refs.rows.made) (labelled (view count))) vm1 vm2 → Numbers vm1.refs.rows vm2.refs.rows x → view count ≡ count_value e.index
     → ((n : Tables) → path_view path ≡ item (plain (view e.key)) e.occurrence ∷ items ∷ next_at (seen_here n old.here))
-    → ((n : Tables) → seen_sight n sight ≡ w.with_locals (item_locals (seen_listing n i.listing) v.1 x.1) (seen_sight n i.listing.sight))
+    → ((n : Tables) → seen_sight n sight ≡ w.with_locals (item_locals (seen_listing n i.listing) v.1 x.1) (seen_sight n i.listing.sight.value))
     → ((n : Tables) → stamps params ≡ refs_in (item_locals (seen_listing n i.listing) v.1 x.1))
     → Changes (λ n. body_entered (seen_sight n sight) (path_view path) i.listing.body (seen_kind n (kind.Item i (record { key = e.key; occurrence = e.occurrence; value = v; index = x; params = params })))) old new
     → ItemBegins vm old i e vm2 new
@@ -122,7 +122,7 @@ item_free n m xs fs h (call.Each i) = each_free m xs fs h (seen_listing n i.list
 
 -- An item that ends
 
-pub one_done : (old new : Machine) (i : Iteration) (done : Vec ItemCode Global) (x : ItemCode) (sight : Sight) (pc : ℕ) → done.items ≡ i.done.items ++ x ∷ [] → ((n : Tables) → seen_sight n sight ≡ seen_sight n i.listing.sight)
+pub one_done : (old new : Machine) (i : Iteration) (done : Vec ItemCode Global) (x : ItemCode) (sight : Sight) (pc : ℕ) → done.items ≡ i.done.items ++ x ∷ [] → ((n : Tables) → seen_sight n sight ≡ seen_sight n i.listing.sight.value)
     → pc ≡ s.next_item (seen_left i.left.items) i.start (suc old.pc)
     → Changes (λ n. list_waiting (in_each (seen_listing n i.listing) (seen_spot i.spot) i.start (seen_left i.left.items) (seen_items n done.items)) pc) (record old { sight = sight }) new → ItemDone old i x new
 one_done old new i done x sight pc e q r l n st =

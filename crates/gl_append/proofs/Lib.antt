@@ -43,3 +43,4 @@ pub mod Calming
 pub mod CodeNests
 pub mod PageHangs
 pub mod Preparing
+pub mod BlockRuns

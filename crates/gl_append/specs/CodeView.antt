@@ -35,10 +35,10 @@ abbrev pub seen_item_spot : ItemSpot → l.ItemSpot
 seen_item_spot x = record { key = plain (view x.key); occurrence = x.occurrence; value = x.value.1; index = x.index.1; more = []; params = stamps x.params }
 
 abbrev pub seen_choice : Tables → Choice → c.Choice
-seen_choice n z = record { unless = z.unless; first = z.first; second = z.second; sight = seen_sight n z.sight }
+seen_choice n z = record { unless = z.unless; first = z.first; second = z.second; sight = seen_sight n z.sight.value }
 
 abbrev pub seen_listing : Tables → Listing → c.Listing
-seen_listing n z = record { key = z.key; value = z.value; index = z.index; body = z.body; other = z.other; sight = seen_sight n z.sight }
+seen_listing n z = record { key = z.key; value = z.value; index = z.index; body = z.body; other = z.other; sight = seen_sight n z.sight.value }
 
 abbrev pub stamp_of : Option Id → Option ℕ
 stamp_of o = option_map (λ i. i.1) o

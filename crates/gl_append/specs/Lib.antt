@@ -8,6 +8,7 @@ pub mod Blocks
 pub mod Cells
 pub mod Components
 pub mod Page
+pub mod Renewing
 pub mod TagSteps
 pub mod ListSteps
 pub mod Hung

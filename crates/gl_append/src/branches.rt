@@ -91,7 +91,7 @@ impl Machine {
         let main = takes(unless, &value);
         let mut ids = Ids::with_capacity(self.alloc, 1)?;
         ids.push(top.id)?;
-        let sight = self.sight.copy()?;
+        let sight = self.sight.shared()?;
         let first = after(self.pc)?;
         let choice = Choice {
             unless,

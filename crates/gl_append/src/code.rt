@@ -8,7 +8,7 @@ use gl_arena::{BlockId, ModId};
 use gl_nodes::NodeId;
 use gl_refs::{Ids, RefId};
 use gl_scope::Args;
-use gl_value::{Text, Texts, Value};
+use gl_value::{SharedText, Text, Texts, Value};
 use std::rc::Rc;
 
 /// A position, with the references that were made for it.
@@ -51,19 +51,19 @@ pub struct Choice {
     pub unless: bool,
     pub first: u32,
     pub second: u32,
-    pub sight: Sight,
+    pub sight: Rc<Sight>,
 }
 
 /// The bodies of an `each`, by the addresses of their first words, its key, the operands of its Item, and what is seen
 /// there.
 #[derive(Drop)]
 pub struct Listing {
-    pub key: Text,
+    pub key: SharedText,
     pub value: u32,
     pub index: u32,
     pub body: u32,
     pub other: u32,
-    pub sight: Sight,
+    pub sight: Rc<Sight>,
 }
 
 /// What was rendered of a statement.

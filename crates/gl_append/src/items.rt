@@ -44,9 +44,9 @@ fn push_operand(locals: &mut Locals, operand: u32, id: RefId) -> Result<(), Allo
 
 /// What is seen in an item with these references of its value and its index.
 pub fn item_sight(listing: &Listing, value: RefId, index: RefId) -> Result<Sight, AllocError>
-    ensures { IfOk result (λ w. (n : _) → seen_sight n w ≡ with_locals (r.item_locals (seen_listing n listing.now) value.1 index.1) (seen_sight n listing.now.sight)) }
+    ensures { IfOk result (λ w. (n : _) → seen_sight n w ≡ with_locals (r.item_locals (seen_listing n listing.now) value.1 index.1) (seen_sight n listing.now.sight.value)) }
 {
-    let mut sight = listing.sight.copy()?;
+    let mut sight = listing.sight.as_ref().copy()?;
     push_operand(&mut sight.level.locals, listing.value, value)?;
     push_operand(&mut sight.level.locals, listing.index, index)?;
     Ok(sight)
@@ -200,7 +200,7 @@ impl Machine {
     {
         let mut iteration = iteration;
         iteration.done.push(item)?;
-        let sight = iteration.listing.sight.copy()?;
+        let sight = iteration.listing.sight.as_ref().copy()?;
         self.sight = sight;
         let pc = next_item(iteration.left.as_slice(), iteration.start, self.pc)?;
         self.wait_at(pc, iteration)

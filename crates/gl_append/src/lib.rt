@@ -2,6 +2,7 @@
 //! does to them and to what is kept is that machine's step.
 #![tactic(auto)]
 
+mod appending;
 mod attributes;
 mod blocks;
 mod bodies;
@@ -35,6 +36,7 @@ mod tags;
 mod values;
 mod words;
 
+pub use appending::append_block;
 pub use attributes::attribute_over;
 pub use bodies::{below, onward, path_copy};
 pub use branches::{chosen, side, takes};

@@ -22,10 +22,17 @@ use crate::machine::{Call, Entry, Frame, Iteration, Kind, Machine, Pushed};
 use gl_meaning::{Path, PathStep};
 use gl_nodes::NodeId;
 use gl_refs::{Ids, RefId};
-use gl_value::Text;
+use gl_value::{SharedText, Text};
 use gl_vm::Vm;
-use std::alloc::AllocError;
+use std::alloc::{AllocError, Global};
 use std::mem;
+
+// The key text of a list, as its part of the updating program keeps it.
+fn kept_key(alloc: Global, key: &Text) -> Result<SharedText, AllocError>
+    ensures { IfOk result (λ k. k ≡ key.now) }
+{
+    SharedText::new(alloc, key.copy()?)
+}
 
 impl Code {
     /// An `each` with items.
@@ -134,8 +141,8 @@ impl Machine {
         ids.push(top.id)?;
         let start = after(self.pc)?;
         let body = after(start)?;
-        let key = key.copy()?;
-        let sight = self.sight.copy()?;
+        let key = kept_key(self.alloc, key)?;
+        let sight = self.sight.shared()?;
         let listing = Listing {
             key,
             value: operands.0,

@@ -92,6 +92,15 @@ impl Sight {
             chain: copied(alloc, self.chain.as_slice())?,
         })
     }
+
+    /// A copy that stands by itself, for what is kept of a statement: so it takes no more room there than a place in memory.
+    pub fn shared(&self) -> Result<Rc<Sight>, AllocError>
+        ensures { IfOk result (λ r. (n : _) → seen_sight n r.value ≡ seen_sight n self.now) }
+    {
+        let alloc = *self.chain.allocator();
+        let sight = self.copy()?;
+        Ok(Rc::new(alloc, sight)?)
+    }
 }
 
 /// The same chain.

@@ -38,7 +38,7 @@ use Rattle.gl_fires.proofs.Own.{sets_are_own}
 use Rattle.gl_fires.proofs.Standing.{instance_is}
 use Rattle.gl_standing.specs.Standing.{StandsIn}
 use Rattle.gl_texts.specs.Lines.{destroyed_lines}
-use Rattle.gl_update.specs.Renewing.{Renews, RenewsDeep}
+use Rattle.gl_append.specs.Renewing.{Renews, RenewsDeep}
 use Rattle.gl_session.specs.Laying.{GivensFor, touch_of, touch_all}
 use Rattle.gl_session.specs.declared.laying.Given.{Given}
 use Rattle.gl_session.proofs.Laid.{laid_in}

@@ -36,7 +36,7 @@ use Rattle.gl_append.specs.declared.fault.VmFault.{VmFault}
 use Rattle.gl_append.specs.declared.fault.VmFault.TheVariants as fault
 use Rattle.gl_append.specs.declared.page.Page.{Page}
 use Rattle.gl_kept.specs.Between.{moved_between}
-use Rattle.gl_update.specs.Renewing.{Renews, RenewsDeep, RenewFails}
+use Rattle.gl_append.specs.Renewing.{Renews, RenewsDeep, RenewFails}
 use Rattle.gl_actions.specs.Sets as acts
 use Rattle.gl_actions.specs.Own.{AreOwnSets}
 use Rattle.gl_actions.specs.World.{sets_in}

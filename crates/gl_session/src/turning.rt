@@ -16,7 +16,7 @@ ghost use Rattle.gl_kept.specs.Between.{moved_between};
 ghost use Rattle.gl_vm.specs.View.{Calm};
 ghost use Rattle.gl_append.specs.CodeView.{seen_code};
 ghost use Rattle.gl_append.specs.Hung.{nest_of};
-ghost use Rattle.gl_update.specs.Renewing.{Renews, RenewFails};
+ghost use Rattle.gl_append.specs.Renewing.{Renews, RenewFails};
 ghost use Rattle.gl_standing.specs.Standing.{StandsIn};
 ghost use Rattle.gl_session.specs.Standing.{Goes, TurnFails};
 

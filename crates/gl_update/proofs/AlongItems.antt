@@ -26,7 +26,7 @@ use Rattle.gl_append.specs.declared.code.Codes.{Codes}
 use Rattle.gl_append.specs.declared.code.ItemCode.{ItemCode}
 use Rattle.gl_append.specs.declared.code.ItemSpot.{ItemSpot}
 use Rattle.gl_append.specs.declared.fault.VmFault.{VmFault}
-use Rattle.gl_update.specs.Renewing.{Renewal, Renews, RenewFails}
+use Rattle.gl_append.specs.Renewing.{Renewal, Renews, RenewFails}
 use Rattle.gl_update.specs.ListItems.{Item, AlongItem, AlongItems, EntersList, GoesAlong}
 use Rattle.gl_update.proofs.Onward.{renews_agreed, fails_agreed}
 use Rattle.gl_update.proofs.Renewing.{renews_same, renews_as, renews_by, renews_then, renews_still, renews_in, does_renews, fails_same, fails_first, fails_then, fails_in, does_fails}

@@ -24,7 +24,7 @@ use Rattle.gl_append.specs.declared.code.Codes.{Codes}
 use Rattle.gl_append.specs.declared.code.Code.TheVariants.{Still, Put, Element, Branch, Let, Component, Root, Yield}
 use Rattle.gl_append.specs.declared.fault.VmFault.{VmFault}
 use Rattle.gl_append.specs.declared.sight.Owner.{Owner}
-use Rattle.gl_update.specs.Renewing.{Renewal, Renews, RenewFails}
+use Rattle.gl_append.specs.Renewing.{Renewal, Renews, RenewFails}
 use Rattle.gl_update.proofs.Renewing.{renews_same, renews_as, renews_does, renews_in, does_renews, fails_same, fails_in, does_fails}
 
 module _ (n : Tables) where

@@ -25,7 +25,7 @@ use Rattle.gl_append.specs.Steps.{Commented}
 use Rattle.gl_append.specs.Tables.{tables_of}
 use Rattle.gl_meaning.specs.View.{manifest_view}
 use Rattle.gl_append.specs.declared.fault.VmFault.{VmFault}
-use Rattle.gl_update.specs.Renewing.{Renewal, Renews, RenewFails}
+use Rattle.gl_append.specs.Renewing.{Renewal, Renews, RenewFails}
 use Rattle.gl_update.proofs.Renewing.{renews_same, renews_then, renews_in, does_renews, fails_same, fails_first, fails_in, does_fails}
 
 abbrev pub side_of : Bool → Path → Path

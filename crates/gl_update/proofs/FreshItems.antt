@@ -34,7 +34,7 @@ use Rattle.gl_append.specs.declared.machine.Entry.{Entry}
 use Rattle.gl_append.specs.declared.sight.Sight.{Sight}
 use Rattle.gl_append.proofs.EntryLists.{next_left}
 use Rattle.gl_append.proofs.Taking.{does_then}
-use Rattle.gl_update.specs.Renewing.{Renewal, Renews, RenewFails}
+use Rattle.gl_append.specs.Renewing.{Renewal, Renews, RenewFails}
 use Rattle.gl_update.specs.ListItems.{Item, item_kept, one_item, onto, BodyItem, FreshItem, FreshItems}
 use Rattle.gl_update.proofs.Branching.{renews_commented}
 use Rattle.gl_update.proofs.ItemJoins.{item_then, onto_none, before_none, body_is}
@@ -68,7 +68,7 @@ module _ (a : App) (cells : CellList) where
   module _ (left : ℕ) (z : Listing) (e : Entry) (vm vm1 vm2 : Vm) (v x : Id) (count : Value) (params : List Id) (sight : Sight) (path : CodePath)
       (d1 : Does (λ n. made_source by_number (label vm.refs.rows.made) (labelled (view e.value))) vm vm1) (i1 : Numbers vm.refs.rows vm1.refs.rows v)
       (d2 : Does (λ n. made_source by_number (label vm1.refs.rows.made) (labelled (view count))) vm1 vm2) (i2 : Numbers vm1.refs.rows vm2.refs.rows x) (counts : view count ≡ count_value e.index)
-      (q : (n : Tables) → seen_sight n sight ≡ w.with_locals (item_locals (seen_listing n z) v.1 x.1) (seen_sight n z.sight))
+      (q : (n : Tables) → seen_sight n sight ≡ w.with_locals (item_locals (seen_listing n z) v.1 x.1) (seen_sight n z.sight.value))
       (r : (n : Tables) → stamps params ≡ refs_in (item_locals (seen_listing n z) v.1 x.1)) where
     abbrev pub spot : PlainSpot
     spot = record { key = plain (view e.key); occurrence = e.occurrence; value = v.1; index = x.1; more = []; params = stamps params }

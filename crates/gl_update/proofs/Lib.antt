@@ -1,6 +1,5 @@
 pub mod Renewing
 pub mod Regions
-pub mod Bodies
 pub mod Walking
 pub mod Arms
 pub mod Branching

@@ -32,7 +32,7 @@ use Rattle.gl_append.specs.declared.code.Codes.{Codes}
 use Rattle.gl_append.specs.declared.code.ItemCode.{ItemCode}
 use Rattle.gl_append.specs.declared.code.Code.TheVariants.{Listed, Unlisted}
 use Rattle.gl_append.specs.declared.fault.VmFault.{VmFault}
-use Rattle.gl_update.specs.Renewing.{Renewal, Renews, RenewFails}
+use Rattle.gl_append.specs.Renewing.{Renewal, Renews, RenewFails}
 use Rattle.gl_update.specs.ListItems.{Item, FreshItems, ListsFresh, ListsNone, StaysNone, Syncs, Relists, GoesAlong}
 use Rattle.gl_update.proofs.Branching.{renews_commented}
 use Rattle.gl_update.proofs.ItemJoins.{handles_are}

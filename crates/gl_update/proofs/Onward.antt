@@ -15,7 +15,7 @@ use Rattle.gl_append.specs.Tables.{tables_of}
 use Rattle.gl_append.specs.Stepping.{env_of}
 use Rattle.gl_append.specs.declared.fault.VmFault.{VmFault}
 use Rattle.gl_append.specs.declared.fault.VmFault.TheVariants as fault
-use Rattle.gl_update.specs.Renewing.{Renewal, Renews, RenewFails}
+use Rattle.gl_append.specs.Renewing.{Renewal, Renews, RenewFails}
 use Rattle.gl_update.proofs.Renewing.{renews_same, renews_then, fails_same, fails_first, fails_then}
 
 module _ (a : App) (cells : CellList) where

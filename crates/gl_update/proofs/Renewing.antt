@@ -16,7 +16,7 @@ use Rattle.gl_append.specs.Tables.{tables_of}
 use Rattle.gl_append.specs.Stepping.{env_of}
 use Rattle.gl_append.specs.declared.fault.VmFault.{VmFault}
 use Rattle.gl_append.specs.declared.fault.VmFault.TheVariants as fault
-use Rattle.gl_update.specs.Renewing.{Renewal, Renews, RenewFails}
+use Rattle.gl_append.specs.Renewing.{Renewal, Renews, RenewFails}
 
 module _ (a : App) (cells : CellList) where
   -- What is done needs no body.

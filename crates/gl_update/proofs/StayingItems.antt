@@ -34,7 +34,7 @@ use Rattle.gl_append.specs.declared.fault.VmFault.{VmFault}
 use Rattle.gl_update.specs.ListItems.{Item, one_item, handle, there, AlongItem, KeptItem}
 use Rattle.gl_update.specs.OldItems.{code_key}
 use Rattle.gl_update.specs.Read.{entries_now}
-use Rattle.gl_update.specs.Renewing.{Renews, RenewFails}
+use Rattle.gl_append.specs.Renewing.{Renews, RenewFails}
 use Rattle.gl_update.proofs.ItemJoins.{item_renewed}
 use Rattle.gl_update.proofs.OldKeys.{there_all}
 use Rattle.gl_update.proofs.Onward.{Onward}

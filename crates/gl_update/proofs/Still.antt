@@ -12,7 +12,7 @@ use Rattle.gl_append.specs.Cells.{CellList}
 use Rattle.gl_append.specs.Steps.{Commented}
 use Rattle.gl_append.specs.Tables.{tables_of}
 use Rattle.gl_append.proofs.PageRuns.{hung_follows}
-use Rattle.gl_update.specs.Renewing.{Renewal, Renews}
+use Rattle.gl_append.specs.Renewing.{Renewal, Renews}
 
 -- the tree alone is another, with the same nodes
 pub tree_does : (old new : Vm) → new ≡ record old { tree = new.tree } → new.tree.nodes ≡ old.tree.nodes → Does (λ n st. st) old new

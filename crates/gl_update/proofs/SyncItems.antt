@@ -40,7 +40,7 @@ use Rattle.gl_append.specs.declared.machine.Entry.{Entry}
 use Rattle.gl_append.proofs.EntryLists.{next_left}
 use Rattle.gl_append.proofs.Taking.{does_then}
 use Rattle.gl_update.specs.declared.old_items.Work.{Work}
-use Rattle.gl_update.specs.Renewing.{Renewal, Renews, RenewFails}
+use Rattle.gl_append.specs.Renewing.{Renewal, Renews, RenewFails}
 use Rattle.gl_update.specs.ListItems.{Item, one_item, onto, handle, handles, spot_key, there, HasKeys, KeptItem, SyncItems, Syncs}
 use Rattle.gl_update.specs.OldItems.{code_key, Picks, Plans, CodeKeys, TakenAt, TakenBy, IsReady, OneItem}
 use Rattle.gl_update.proofs.ItemJoins.{item_synced, item_renewed, onto_none, before_none}

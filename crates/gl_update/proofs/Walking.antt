@@ -16,7 +16,7 @@ use Rattle.gl_append.specs.declared.code.Code.{Code}
 use Rattle.gl_append.specs.declared.code.Codes.{Codes}
 use Rattle.gl_append.specs.declared.fault.VmFault.{VmFault}
 use Rattle.gl_append.proofs.CodeNests.{body_is}
-use Rattle.gl_update.specs.Renewing.{Renewal, Renews, RenewFails}
+use Rattle.gl_append.specs.Renewing.{Renewal, Renews, RenewFails}
 use Rattle.gl_update.proofs.Renewing.{renews_same, renews_as, renews_then, renews_still, renews_in, fails_same, fails_first, fails_then, fails_in}
 
 abbrev pub seen_all : List Code → Tables → PlainCodes

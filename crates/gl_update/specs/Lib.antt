@@ -2,7 +2,6 @@ pub mod Asked
 pub mod Counted
 pub mod ListItems
 pub mod OldItems
-pub mod Renewing
 pub mod View
 pub mod NextItem
 pub mod TakenLists

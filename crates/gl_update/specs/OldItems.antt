@@ -17,7 +17,7 @@ use Rattle.gl_append.specs.CodeView.{seen_item_code}
 use Rattle.gl_append.specs.MachineView.{seen_left}
 use Rattle.gl_append.specs.declared.code.ItemCode.{ItemCode}
 use Rattle.gl_update.specs.ListItems.{Item, FreshItem, KeptItem}
-use Rattle.gl_update.specs.Renewing.{Renewal}
+use Rattle.gl_append.specs.Renewing.{Renewal}
 use Rattle.gl_update.specs.declared.old_items.Work.{Work}
 
 -- the key of an item, and its plain form

@@ -10,7 +10,7 @@ ghost use Rattle.gl_append.specs.CodeView.{seen_code, seen_listing, seen_spot, s
 ghost use Rattle.gl_update.specs.View.{trail_view};
 ghost use Rattle.gl_update.specs.Counted.{CodeMoved, ItemsAlong, KeptMoved};
 ghost use Rattle.gl_update.specs.ListItems.{Item, AlongItem, AlongItems, EntersList, GoesAlong, spot_key};
-ghost use Rattle.gl_update.specs.Renewing.{Renews, RenewFails};
+ghost use Rattle.gl_append.specs.Renewing.{Renews, RenewFails};
 
 use crate::codes::renew_codes;
 use crate::counting::Moved;

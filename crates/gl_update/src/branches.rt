@@ -11,16 +11,15 @@ ghost use Rattle.gl_vm.specs.View.{Calm};
 ghost use Rattle.gl_append.specs.CodeView.{seen_choice, seen_codes, seen_spot};
 ghost use Rattle.gl_update.specs.Counted.{CodeMoved};
 ghost use Rattle.gl_update.specs.View.{trail_view};
-ghost use Rattle.gl_update.specs.Renewing.{Renews, RenewFails};
+ghost use Rattle.gl_append.specs.Renewing.{Renews, RenewFails};
 
-use crate::appending::append_body;
 use crate::codes::renew_side;
 use crate::counting::Moved;
 use crate::ending::end_branch;
 use crate::positions::condition;
 use crate::standing::{behind, seat_with_comment};
 use crate::trail::Trail;
-use gl_append::{Cells, Choice, Codes, Spot, VmFault, chosen, side};
+use gl_append::{Cells, Choice, Codes, Spot, VmFault, append_block, chosen, side};
 use gl_nodes::NodeId;
 use gl_opc::App;
 use gl_vm::Vm;
@@ -93,12 +92,12 @@ fn flip(
     ensures fails { (s : _) → IfErr result (RenewFails {A = PlainCode} app.now cells.now (λ n run st. fresh_branch run (seen_choice n choice.now) s shows (trail_view trail.now) left (dropped_as by_number (λ q. times_in q (lives_of (seen_codes n body.old)) + times_comment q (stamp_of comment.old)) st)) vm.old) }
     ensures calm { Calm vm.new }
 {
-    let sight = choice.sight.copy()?;
+    let sight = choice.sight.as_ref().copy()?;
     let path = trail.below(alloc, side(shows))?;
     let seat = behind(vm, parent, body, comment)?;
     end_branch(vm, body, comment)?;
     let pc = chosen(shows, choice.first, choice.second);
-    match append_body(vm, alloc, app, cells, sight, pc, path, left) {
+    match append_block(vm, alloc, app, cells, sight, pc, path, left) {
         Ok(codes) => {
             *comment = seat_with_comment(vm, &seat, &codes)?;
             *body = codes;

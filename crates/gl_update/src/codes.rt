@@ -10,7 +10,7 @@ ghost use Rattle.gl_vm.specs.View.{Calm};
 ghost use Rattle.gl_append.specs.CodeView.{seen_attr_spot, seen_code, seen_codes, seen_mod_spot};
 ghost use Rattle.gl_update.specs.Counted.{CodeMoved, CodesMoved};
 ghost use Rattle.gl_update.specs.View.{trail_view};
-ghost use Rattle.gl_update.specs.Renewing.{Renews, RenewFails};
+ghost use Rattle.gl_append.specs.Renewing.{Renews, RenewFails};
 
 use crate::branches::renew_branch;
 use crate::counting::Moved;

@@ -12,14 +12,13 @@ ghost use Rattle.gl_append.specs.View.{seen_sight};
 ghost use Rattle.gl_append.specs.CodeView.{seen_listing, seen_item_spot, seen_item_code, all_items};
 ghost use Rattle.gl_append.specs.MachineView.{seen_entry, seen_left};
 ghost use Rattle.gl_update.specs.ListItems.{Item, spot_key, BodyItem, FreshItem, FreshItems};
-ghost use Rattle.gl_update.specs.Renewing.{Renews, RenewFails};
+ghost use Rattle.gl_append.specs.Renewing.{Renews, RenewFails};
 
-use crate::appending::append_body;
 use crate::seating::Seat;
 use crate::standing::seat_with_comment;
 use gl_append::{
-    Cells, Entry, ItemCode, ItemSpot, Listing, Sight, VmFault, below, counted, item_params,
-    item_sight,
+    Cells, Entry, ItemCode, ItemSpot, Listing, Sight, VmFault, append_block, below, counted,
+    item_params, item_sight,
 };
 use gl_meaning::{Path, PathStep};
 use gl_opc::App;
@@ -70,7 +69,7 @@ fn item_body(
     ensures key { IfOk result (λ r. (n : _) → (seen_item_code n r).0 ≡ seen_item_spot spot) }
     ensures calm { Calm vm.new }
 {
-    match append_body(vm, alloc, app, cells, sight, pc, path, left) {
+    match append_block(vm, alloc, app, cells, sight, pc, path, left) {
         Ok(body) => {
             let comment = seat_with_comment(vm, seat, &body)?;
             Ok(ItemCode::rendered(spot, comment, body))

@@ -2,7 +2,6 @@
 #![tactic(auto)]
 
 mod along;
-mod appending;
 mod asks;
 mod branches;
 mod codes;

@@ -12,10 +12,9 @@ ghost use Rattle.gl_append.specs.MachineView.{seen_left};
 ghost use Rattle.gl_update.specs.Counted.{CodeMoved, IsListed, IsUnlisted};
 ghost use Rattle.gl_update.specs.View.{trail_view};
 ghost use Rattle.gl_update.specs.ListItems.{ListsFresh, ListsNone, Relists};
-ghost use Rattle.gl_update.specs.Renewing.{Renews, RenewFails};
+ghost use Rattle.gl_append.specs.Renewing.{Renews, RenewFails};
 
 use crate::along::walk_list;
-use crate::appending::append_body;
 use crate::codes::renew_else;
 use crate::counting::Moved;
 use crate::ending::end_branch;
@@ -30,7 +29,7 @@ use crate::taken::{
     read_unlisted, take_list, without_items,
 };
 use crate::trail::Trail;
-use gl_append::{Cells, Code, Codes, Entry, ItemCode, Listing, Spot, VmFault};
+use gl_append::{Cells, Code, Codes, Entry, ItemCode, Listing, Spot, VmFault, append_block};
 use gl_meaning::PathStep;
 use gl_nodes::NodeId;
 use gl_opc::App;
@@ -209,11 +208,11 @@ fn unlist(
     ensures none { IfOk result (λ r. (n : _) → IsUnlisted (live_of (seen_code n r))) }
     ensures calm { Calm vm.new }
 {
-    let sight = listing.sight.copy()?;
+    let sight = listing.sight.as_ref().copy()?;
     let path = trail.below(alloc, PathStep::Else)?;
     let seat = behind_items(vm, parent, items.as_slice())?;
     end_items(vm, items.as_slice())?;
-    match append_body(vm, alloc, app, cells, sight, listing.other, path, left) {
+    match append_block(vm, alloc, app, cells, sight, listing.other, path, left) {
         Ok(codes) => {
             let comment = seat_with_comment(vm, &seat, &codes)?;
             Ok(Code::unlisted(listing, spot, comment, codes))

@@ -9,7 +9,7 @@ ghost use Rattle.gl_kept.specs.Between.{moved_between};
 ghost use Rattle.gl_vm.specs.View.{Calm};
 ghost use Rattle.gl_append.specs.CodeView.{seen_code};
 ghost use Rattle.gl_append.specs.Hung.{nest_of};
-ghost use Rattle.gl_update.specs.Renewing.{Renews, RenewFails};
+ghost use Rattle.gl_append.specs.Renewing.{Renews, RenewFails};
 
 use crate::codes::renew_body;
 use crate::counting::Moved;

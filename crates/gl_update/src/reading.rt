@@ -76,7 +76,7 @@ fn other(alloc: Global, list: Box<Listed>, value: Value) -> Result<Read, AllocEr
     ensures is { IfOk result (IsOf list) }
     ensures gives { IfOk result (Gives (labelled (view value)) list) }
 {
-    let found = keyed_items_of(alloc, value, &list.listing.key)?;
+    let found = keyed_items_of(alloc, value, list.listing.key.as_text())?;
     let ready = boxed_ready(alloc, found.0, found.1)?;
     Ok(Read::Other(list, ready))
 }
@@ -89,7 +89,8 @@ fn same_or_other(alloc: Global, list: Box<Listed>, value: Value) -> Result<Read,
 {
     match value {
         Value::List(values) => {
-            if keys_stay(alloc, &list.listing.key, list.items.as_slice(), &values)? {
+            let key = list.listing.key.as_text();
+            if keys_stay(alloc, key, list.items.as_slice(), &values)? {
                 Ok(Read::Same(list, values))
             } else {
                 other(alloc, list, Value::List(values))

@@ -19,7 +19,7 @@ ghost use Rattle.gl_update.specs.Counted.{CodeMoved, ItemsAlong};
 ghost use Rattle.gl_update.specs.ListItems.{SyncItems, Syncs};
 ghost use Rattle.gl_update.specs.OldItems.{code_key};
 ghost use Rattle.gl_update.specs.Read.{entries_now};
-ghost use Rattle.gl_update.specs.Renewing.{Renews, RenewFails};
+ghost use Rattle.gl_append.specs.Renewing.{Renews, RenewFails};
 
 use crate::along::{walk_item, with_items};
 use crate::counting::Moved;

@@ -22,7 +22,7 @@ ghost use Rattle.gl_update.specs.View.{trail_view};
 ghost use Rattle.gl_update.specs.ListItems.{Item, spot_key, there, FreshItem, KeptItem, SyncItems, Syncs};
 ghost use Rattle.gl_update.specs.Counted.{CodeMoved, HasKey, ItemMoved, ItemsMoved, KeptMoved, one_if};
 ghost use Rattle.gl_update.specs.OldItems.{IsReady, OneItem, unboxed};
-ghost use Rattle.gl_update.specs.Renewing.{Renews, RenewFails};
+ghost use Rattle.gl_append.specs.Renewing.{Renews, RenewFails};
 
 use crate::codes::renew_body;
 use crate::counting::Moved;

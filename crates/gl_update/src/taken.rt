@@ -235,7 +235,7 @@ pub(crate) fn read_unlisted(
     ensures keys { IfOk result (λ x. x.1.value.keys ≡ entry_keys (seen_left x.1.value.entries.items)) }
     ensures calm { Calm vm.new }
 {
-    let ready = read_list(vm, alloc, &list.listing.key, list.spot.id)?;
+    let ready = read_list(vm, alloc, list.listing.key.as_text(), list.spot.id)?;
     Ok((list, ready))
 }
 

@@ -30,7 +30,7 @@ use Rattle.gl_append.specs.View.{refs_made, seen_owner}
 use Rattle.gl_append.specs.declared.code.Code.{the_lemmas}
 use Rattle.gl_append.specs.CodeView.{seen_attr_spot, seen_choice, seen_code, seen_codes, seen_mod_spot, seen_spot, seen_listing, seen_item_code, all_items, seen_item_spot}
 use Rattle.gl_update.specs.View.{trail_view}
-use Rattle.gl_update.specs.Renewing.{Renews, RenewFails}
+use Rattle.gl_append.specs.Renewing.{Renews, RenewFails}
 use Rattle.gl_update.proofs.Renewing.{renews_by, renews_still, renews_in, renews_at, fails_in, fails_at, renews_as}
 use Rattle.gl_update.proofs.Arms.{arm, arm_fails, still_is, put_is, element_is, branch_is, let_is, component_is, yield_is, Below, element_renews, element_fails, component_renews, component_fails}
 use Rattle.gl_update.proofs.Branching.{branch_kept, branch_kept_fails, branch_flips, branch_flip_fails}

@@ -15,10 +15,10 @@ returns-in_ok-comment-in-Ok-clause-ok c = λ s.
     let b = c.args.shows in
     let path = path_view c.in_ok-path.path in
     let pc = if b then c.args.choice.now.first else c.args.choice.now.second in
-    fresh_renews c.args.app.now c.args.cells.now c.args.left p (λ n. seen_choice n c.args.choice.now) s (stamp_of c.args.comment.now) (λ n. seen_codes n c.args.body.now) b c.args.vm.now c.end_branch.new.vm c.append_body.new.vm c.seat_with_comment.new.vm
+    fresh_renews c.args.app.now c.args.cells.now c.args.left p (λ n. seen_choice n c.args.choice.now) s (stamp_of c.args.comment.now) (λ n. seen_codes n c.args.body.now) b c.args.vm.now c.end_branch.new.vm c.append_block.new.vm c.seat_with_comment.new.vm
     (λ n. start (seen_sight n c.in_ok-sight.sight) c.chosen-pc.result path c.args.left) (λ n. seen_codes n c.in-Ok.codes) c.in_ok-comment-in-Ok.field-0 c.in_ok-end_branch.ensures.step
-    (λ n. ap (λ w. start w c.chosen-pc.result path c.args.left) (c.in_ok-sight.ensures n)
-    ∙ (ap (λ x. start (seen_sight n c.args.choice.now.sight) x path c.args.left) c.chosen-pc.ensures ∙ ap (λ y. start (seen_sight n c.args.choice.now.sight) pc y c.args.left) (c.in_ok-path.ensures ∙ ap (λ x. x ∷ p) c.side.ensures)))
+    (λ n. ap (λ w. start w c.chosen-pc.result path c.args.left) (c.in_ok-sight.ensures n ∙ ap (seen_sight n) c.as_ref.ensures)
+    ∙ (ap (λ x. start (seen_sight n c.args.choice.now.sight.value) x path c.args.left) c.chosen-pc.ensures ∙ ap (λ y. start (seen_sight n c.args.choice.now.sight.value) pc y c.args.left) (c.in_ok-path.ensures ∙ ap (λ x. x ∷ p) c.side.ensures)))
     c.in-Ok.ensures.ok (λ n u ag. c.in_ok-comment-in-Ok.ensures.step n u ag)
 
 pub returns-in-Err-clause-fails : goal.returns-in-Err-clause-fails
@@ -29,6 +29,6 @@ returns-in-Err-clause-fails c = λ s.
     let pc = if b then c.args.choice.now.first else c.args.choice.now.second in
     fresh_fails c.args.app.now c.args.cells.now c.args.left p (λ n. seen_choice n c.args.choice.now) s (stamp_of c.args.comment.now) (λ n. seen_codes n c.args.body.now) b c.args.vm.now c.end_branch.new.vm
     (λ n. start (seen_sight n c.in_ok-sight.sight) c.chosen-pc.result path c.args.left) c.in-Err.fault c.in_ok-end_branch.ensures.step
-    (λ n. ap (λ w. start w c.chosen-pc.result path c.args.left) (c.in_ok-sight.ensures n)
-    ∙ (ap (λ x. start (seen_sight n c.args.choice.now.sight) x path c.args.left) c.chosen-pc.ensures ∙ ap (λ y. start (seen_sight n c.args.choice.now.sight) pc y c.args.left) (c.in_ok-path.ensures ∙ ap (λ x. x ∷ p) c.side.ensures)))
+    (λ n. ap (λ w. start w c.chosen-pc.result path c.args.left) (c.in_ok-sight.ensures n ∙ ap (seen_sight n) c.as_ref.ensures)
+    ∙ (ap (λ x. start (seen_sight n c.args.choice.now.sight.value) x path c.args.left) c.chosen-pc.ensures ∙ ap (λ y. start (seen_sight n c.args.choice.now.sight.value) pc y c.args.left) (c.in_ok-path.ensures ∙ ap (λ x. x ∷ p) c.side.ensures)))
     c.in-Err.ensures.fails

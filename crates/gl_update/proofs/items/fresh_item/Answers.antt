@@ -10,7 +10,7 @@ use Rattle.gl_plain.specs.Live.{ItemSpot as PlainItemSpot}
 use Rattle.gl_vm.specs.View.{Tables}
 use Rattle.gl_append.specs.View.{seen_sight}
 use Rattle.gl_update.specs.ListItems.{Item, spot_key, BodyItem, FreshItem}
-use Rattle.gl_update.specs.Renewing.{Renews, RenewFails}
+use Rattle.gl_append.specs.Renewing.{Renews, RenewFails}
 use Rattle.gl_update.proofs.FreshItems.{fresh_renews, fresh_fails}
 use Rattle.gl_update.proofs.items.fresh_item.Goals as goal
 

@@ -10,7 +10,7 @@ use Rattle.gl_update.proofs.items.item_body.Goals as goal
 pub returns-in_ok-comment-in-Ok-clause-ok : goal.returns-in_ok-comment-in-Ok-clause-ok
 returns-in_ok-comment-in-Ok-clause-ok c =
     body_renews c.args.app.now c.args.cells.now (seen_item_spot c.args.spot) (λ n. start (seen_sight n c.args.sight) c.args.pc (path_view c.args.path) c.args.left) (λ n. seen_codes n c.in-Ok.body) c.in_ok-comment-in-Ok.comment
-    (λ n. seen_item_code n c.rendered.result) c.args.vm.now c.append_body.new.vm c.seat_with_comment.new.vm c.in-Ok.ensures.ok c.in_ok-comment-in-Ok.ensures.step c.rendered.ensures
+    (λ n. seen_item_code n c.rendered.result) c.args.vm.now c.append_block.new.vm c.seat_with_comment.new.vm c.in-Ok.ensures.ok c.in_ok-comment-in-Ok.ensures.step c.rendered.ensures
 
 pub returns-in-Err-clause-fails : goal.returns-in-Err-clause-fails
 returns-in-Err-clause-fails c =

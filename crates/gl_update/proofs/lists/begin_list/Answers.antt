@@ -8,7 +8,7 @@ use Rattle.gl_append.specs.declared.code.Code.{Code}
 use Rattle.gl_update.specs.Counted.{IsListed}
 use Rattle.gl_update.specs.View.{trail_view}
 use Rattle.gl_update.specs.ListItems.{ListsFresh}
-use Rattle.gl_update.specs.Renewing.{Renews, RenewFails}
+use Rattle.gl_append.specs.Renewing.{Renews, RenewFails}
 use Rattle.gl_update.specs.declared.taken.Ready.{Ready}
 use Rattle.gl_update.specs.declared.taken.Unlisted.{Unlisted}
 use Rattle.gl_update.proofs.lists.begin_list.Goals as goal

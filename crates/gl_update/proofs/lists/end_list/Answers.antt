@@ -6,7 +6,7 @@ use Rattle.gl_append.specs.declared.code.Code.{Code}
 use Rattle.gl_update.specs.Counted.{IsUnlisted}
 use Rattle.gl_update.specs.View.{trail_view}
 use Rattle.gl_update.specs.ListItems.{ListsNone}
-use Rattle.gl_update.specs.Renewing.{Renews, RenewFails}
+use Rattle.gl_append.specs.Renewing.{Renews, RenewFails}
 use Rattle.gl_update.specs.declared.taken.Listed.{Listed}
 use Rattle.gl_update.proofs.lists.end_list.Goals as goal
 

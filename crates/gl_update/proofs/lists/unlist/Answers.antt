@@ -1,4 +1,4 @@
-use Rattle.std.proofs.Common.{ℕ, map, refl, sym, ap₂, subst}
+use Rattle.std.proofs.Common.{ℕ, map, refl, sym, ap, ap₂, subst, ◌∙◌}
 use Rattle.gl_nodes.specs.Flat.{stamp_of}
 use Rattle.gl_meaning.specs.View.{path_view}
 use Rattle.gl_plain.specs.Ids.{Id}
@@ -27,8 +27,8 @@ returns-in_ok-comment-in-Ok-clause-ok c =
     let from : Tables → Start = λ n. start (seen_sight n c.in_ok-sight.sight) c.args.listing.other (path_view c.in_ok-path.path) c.args.left in
     let ended = subst (λ xs. Does (λ n. dropped_as by_number (λ q. times_items q (items_of (all_items (map (seen_item_code n) xs))))) c.args.vm.now c.end_items.new.vm) c.as_slice-2.ensures.value c.in_ok-end_items.ensures.step in
     renews_as c.args.app.now c.args.cells.now (ListsNone z s c.args.left p gone) (λ n. unlisted_code (z n) s (stamp_of c.in_ok-comment-in-Ok.comment) (ds n)) (λ n. seen_code n c.unlisted.result) c.args.vm.now c.seat_with_comment.new.vm (λ n. sym (c.unlisted.ensures n))
-    (lists_none c.args.app.now c.args.cells.now z c.args.listing.key (λ n. refl) s c.args.left p gone c.args.vm.now c.end_items.new.vm c.append_body.new.vm c.seat_with_comment.new.vm from ds c.in_ok-comment-in-Ok.comment ended
-    (λ n. ap₂ (λ w q. start w c.args.listing.other q c.args.left) (c.in_ok-sight.ensures n) c.in_ok-path.ensures) c.in-Ok.ensures.ok c.in_ok-comment-in-Ok.ensures.step)
+    (lists_none c.args.app.now c.args.cells.now z c.args.listing.key (λ n. refl) s c.args.left p gone c.args.vm.now c.end_items.new.vm c.append_block.new.vm c.seat_with_comment.new.vm from ds c.in_ok-comment-in-Ok.comment ended
+    (λ n. ap₂ (λ w q. start w c.args.listing.other q c.args.left) (c.in_ok-sight.ensures n ∙ ap (seen_sight n) c.as_ref.ensures) c.in_ok-path.ensures) c.in-Ok.ensures.ok c.in_ok-comment-in-Ok.ensures.step)
 
 pub returns-in-Err-clause-fails : goal.returns-in-Err-clause-fails
 returns-in-Err-clause-fails c =
@@ -39,7 +39,7 @@ returns-in-Err-clause-fails c =
     let from : Tables → Start = λ n. start (seen_sight n c.in_ok-sight.sight) c.args.listing.other (path_view c.in_ok-path.path) c.args.left in
     let ended = subst (λ xs. Does (λ n. dropped_as by_number (λ q. times_items q (items_of (all_items (map (seen_item_code n) xs))))) c.args.vm.now c.end_items.new.vm) c.as_slice-2.ensures.value c.in_ok-end_items.ensures.step in
     lists_none_fails c.args.app.now c.args.cells.now z c.args.listing.key (λ n. refl) s c.args.left p gone c.args.vm.now c.end_items.new.vm from c.in-Err.fault ended
-    (λ n. ap₂ (λ w q. start w c.args.listing.other q c.args.left) (c.in_ok-sight.ensures n) c.in_ok-path.ensures) c.in-Err.ensures.fails
+    (λ n. ap₂ (λ w q. start w c.args.listing.other q c.args.left) (c.in_ok-sight.ensures n ∙ ap (seen_sight n) c.as_ref.ensures) c.in_ok-path.ensures) c.in-Err.ensures.fails
 
 pub returns-in_ok-comment-in-Ok-clause-none : goal.returns-in_ok-comment-in-Ok-clause-none
 returns-in_ok-comment-in-Ok-clause-none c = λ n. is_unlisted (seen_code n c.unlisted.result) (seen_listing n c.args.listing) (seen_spot c.args.spot) (stamp_of c.in_ok-comment-in-Ok.comment) (seen_codes n c.in-Ok.codes) (c.unlisted.ensures n)

@@ -10,7 +10,7 @@ use Rattle.gl_vm.specs.View.{Tables}
 use Rattle.gl_append.specs.View.{refs_made, seen_owner}
 use Rattle.gl_update.specs.Counted.{CodesMoved}
 use Rattle.gl_update.specs.View.{trail_view}
-use Rattle.gl_update.specs.Renewing.{Renews, RenewFails}
+use Rattle.gl_append.specs.Renewing.{Renews, RenewFails}
 use Rattle.gl_update.proofs.Arms.{root_is, page_renews, page_fails}
 use Rattle.gl_update.proofs.MovedCodes.{page_moved}
 use Rattle.gl_update.proofs.pages.renew_page.Goals as goal

@@ -9,7 +9,7 @@ use Rattle.gl_append.specs.MachineView.{seen_entry}
 use Rattle.gl_append.specs.declared.code.ItemCode.{ItemCode}
 use Rattle.gl_append.specs.declared.machine.Entry.{Entry}
 use Rattle.gl_update.specs.ListItems.{Item, spot_key, FreshItem}
-use Rattle.gl_update.specs.Renewing.{Renews, RenewFails}
+use Rattle.gl_append.specs.Renewing.{Renews, RenewFails}
 use Rattle.gl_update.proofs.syncing.new_item.Goals as goal
 
 pub returns-in_ok-boxed-in-Ok-clause-ok : goal.returns-in_ok-boxed-in-Ok-clause-ok

@@ -13,6 +13,8 @@ returns-clause-step c = subst (λ (l : Unlisted). Does (λ n. r.reread l.spot.id
 
 pub returns-clause-entries : goal.returns-clause-entries
 returns-clause-entries c = λ n u.
+    let vs = values_listed (first_value (spot_pairs (state_of n c.read_list.new.vm u) c.deref-2.result.now.spot.id.1)) in
     c.in_ok-ready.ensures.entries n u
-    ∙ (ap (λ (l : Unlisted). entries l.listing.key 0 [] (values_listed (first_value (spot_pairs (state_of n c.read_list.new.vm u) c.deref-2.result.now.spot.id.1)))) c.deref.ensures
-    ∙ ap (λ (l : Unlisted). entries c.args.list.value.listing.key 0 [] (values_listed (first_value (spot_pairs (state_of n c.read_list.new.vm u) l.spot.id.1)))) c.deref-2.ensures)
+    ∙ (ap (λ t. entries t 0 [] vs) c.as_text.ensures
+    ∙ (ap (λ (l : Unlisted). entries l.listing.key 0 [] vs) c.deref.ensures
+    ∙ ap (λ (l : Unlisted). entries c.args.list.value.listing.key 0 [] (values_listed (first_value (spot_pairs (state_of n c.read_list.new.vm u) l.spot.id.1)))) c.deref-2.ensures))

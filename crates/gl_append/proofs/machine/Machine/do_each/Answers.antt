@@ -21,7 +21,7 @@ returns-clause-step c =
     (record { key = c.in_ok-key.key; value = c.args.operands.0; index = c.args.operands.1; body = c.in_ok-body.body; other = c.args.other; sight = c.in_ok-sight.sight }) c.in_ok-start.start c.in_ok-left.left.items
     (prepared_does (λ n. placed_in (c.args.top.id.1 ∷ [])) c.args.vm.now c.prepare.new.self c.position.new.vm kept (subst (λ rs. Does (λ n. placed_in (stamps rs)) c.prepare.new.self c.position.new.vm) (c.in_ok-push.ensures.ok ∙ ap (λ x. x ++ c.args.top.id ∷ []) c.in_ok-ids.ensures) c.in_ok-id.ensures.step))
     (prepared_numbers c.args.vm.now c.prepare.new.self c.position.new.vm c.in_ok-id.id kept c.in_ok-id.ensures.id) (λ n t. prepared_value c.args.vm.now c.prepare.new.self c.args.top.id.1 kept n t ∙ c.in_ok-value.ensures n t)
-    (λ n. ap₂ (λ t b. z t b (seen_sight n c.in_ok-sight.sight)) c.in_ok-key.ensures (c.in_ok-body.ensures ∙ ap suc c.in_ok-start.ensures) ∙ ap (λ w. z c.args.key.now (suc (suc c.args.self.now.pc)) w) (c.in_ok-sight.ensures n)) c.in_ok-start.ensures
+    (λ n. ap₂ (λ t b. z t b (seen_sight n c.in_ok-sight.sight.value)) c.in_ok-key.ensures (c.in_ok-body.ensures ∙ ap suc c.in_ok-start.ensures) ∙ ap (λ w. z c.args.key.now (suc (suc c.args.self.now.pc)) w) (c.in_ok-sight.ensures n)) c.in_ok-start.ensures
     c.in_ok-left.ensures) c.enter_list.ensures
 
 pub value-requires : goal.value-requires

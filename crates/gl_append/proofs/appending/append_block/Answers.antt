@@ -1,8 +1,8 @@
 use Rattle.gl_meaning.specs.View.{path_view}
 use Rattle.gl_machine.specs.RenewCode.{start}
 use Rattle.gl_append.specs.View.{seen_sight}
-use Rattle.gl_update.proofs.Bodies.{appends, append_stops}
-use Rattle.gl_update.proofs.appending.append_body.Goals as goal
+use Rattle.gl_append.proofs.BlockRuns.{appends, append_stops}
+use Rattle.gl_append.proofs.appending.append_block.Goals as goal
 
 pub returns-in-Ok-clause-ok : goal.returns-in-Ok-clause-ok
 returns-in-Ok-clause-ok c =

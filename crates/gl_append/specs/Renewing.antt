@@ -1,4 +1,4 @@
--- What an update of the code's program does.
+-- What an update of the code's program does, and what is appended in one.
 use Rattle.std.specs.Prelude.{◌≡◌, ◌≤◌, ℕ, List, Bool, ⊤}
 use Rattle.gl_ast.specs.Template.{Body}
 use Rattle.gl_meaning.specs.Eval.{Store}

@@ -6,18 +6,21 @@ ghost use Rattle.gl_machine.specs.RenewCode.{start};
 ghost use Rattle.gl_vm.specs.View.{Calm};
 ghost use Rattle.gl_append.specs.View.{seen_sight};
 ghost use Rattle.gl_append.specs.CodeView.{seen_codes};
-ghost use Rattle.gl_update.specs.Renewing.{Renews, RenewFails};
+ghost use Rattle.gl_append.specs.Renewing.{Renews, RenewFails};
 
-use gl_append::{Cells, Codes, Machine, Sight, VmFault};
+use crate::machine::Machine;
+use crate::{Cells, Codes, Sight, VmFault};
 use gl_meaning::Path;
 use gl_opc::App;
 use gl_vm::Vm;
 use std::alloc::Global;
 
-/// Appends a body, of which the nodes stand nowhere yet: what is seen there, the address of its first word, its path, and
-/// how deep components may still nest.
+/// Appends one block in the middle of a page, over the cells of now and those that are given for paths: from the address of its first
+/// word, with what is seen there, at its path, where components may still nest so deep. Its nodes are made, and stand nowhere yet: the
+/// caller puts them into the tree ([`crate::hang`] in an element). The answer is the part of the updating program that was recorded.
+/// `NestingLimit` comes where a component of it would stand deeper.
 #[inline(never)]
-pub(crate) fn append_body(
+pub fn append_block(
     vm: &mut Vm,
     alloc: Global,
     app: &App,

@@ -22,7 +22,7 @@ use Rattle.gl_append.specs.declared.code.Codes.{Codes}
 use Rattle.gl_append.specs.declared.fault.VmFault.{VmFault}
 use Rattle.gl_append.specs.declared.fault.VmFault.TheVariants as fault
 use Rattle.gl_append.specs.declared.machine.Machine.{Machine}
-use Rattle.gl_update.specs.Renewing.{Renews, RenewFails}
+use Rattle.gl_append.specs.Renewing.{Renews, RenewFails}
 
 module _ (env : Env) (store : Store) where
   -- what is over stays so
