@@ -180,6 +180,7 @@ pub fn play_sample(alloc: Global, rows: u32) -> Result<(Session, Text), AllocErr
     ensures ends { IfOk result (λ r. EndsWith r.0 (sample_whole rows)) }
 {
     let loaded = load_sample(alloc, rows)?;
+    drop(loaded.templates);
     let (session, tally) = play_tallied(alloc, loaded.app, &loaded.script)?;
     let line = tally.line(alloc)?;
     Ok((session, line))

@@ -45,6 +45,7 @@ fn play_app<S: Shelf, K: Sink>(
     ensures kept { OnErr result (last.new ≡ last.old) }
 {
     let loaded = load(alloc, shelf, manifest, script)?;
+    drop(loaded.templates);
     let session = play(alloc, told, loaded.app, &loaded.script, out)?;
     last.hold(session);
     Ok(())
