@@ -221,7 +221,7 @@ pub fn value(here: &Here, left: usize, room: u32, expr: &Expr) -> Result<Value, 
         ),
         Expr::Arg { name, rest } => along(argument(&here.frame, name)?, rest.as_slice()),
         Expr::Bare { name, rest } => bare(here, name, rest),
-        Expr::Call { name, args, named } => call(here, left, room - 1, name, args, named),
+        Expr::Call { name, args, named } => call(here, left, room - 1, name, args, &**named),
         Expr::Cat(parts) => {
             let values = values(here, left, room - 1, parts.as_slice())?;
             joined(here.frame.alloc, values.as_slice())

@@ -30,7 +30,7 @@ expr_view (expr.Lit l) = t.literal (lit_view l)
 expr_view (expr.This s ts) = t.this s ts
 expr_view (expr.Arg s ts) = t.argument s ts
 expr_view (expr.Bare s ts) = t.bare s ts
-expr_view (expr.Call s es ns) = t.call s (t.exprs_of es) (t.named_of ns)
+expr_view (expr.Call s es ns) = t.call s (t.exprs_of es) (t.named_of ns.value)
 expr_view (expr.Cat es) = t.cat (t.exprs_of es)
 
 abbrev pub seen_exprs : List Expr → List t.Expr
@@ -44,11 +44,11 @@ seen_pairs ns = map named_view ns
 
 abbrev pub attr_view : AttrValue → t.AttrValue
 attr_view (attr.Fixed s) = t.fixed s
-attr_view (attr.Live e) = t.live (expr_view e)
+attr_view (attr.Live e) = t.live (expr_view e.value)
 
 abbrev pub part_view : Part → t.Part
 part_view (part.Attr n a) = t.attribute n (attr_view a)
-part_view (part.Mod n es ns) = t.modifier n (t.exprs_of es) (t.named_of ns)
+part_view (part.Mod n es ns) = t.modifier n (t.exprs_of es) (t.named_of ns.value)
 part_view part.Spread = t.spread
 
 abbrev pub seen_parts : List Part → List t.Part
@@ -65,9 +65,9 @@ stmt_view (stmt.Text s) = t.text_stmt s
 stmt_view (stmt.Comment s) = t.comment_stmt s
 stmt_view (stmt.Put e) = t.put (expr_view e)
 stmt_view (stmt.Element n ps b) = t.element n ps (t.body_of b)
-stmt_view (stmt.Component c ps es bs) = t.component_stmt c ps es (t.slots_of bs)
-stmt_view (stmt.If e u b c) = t.if_stmt (expr_view e) u (t.body_of b) (t.body_of c)
-stmt_view (stmt.Each e k ts b c) = t.each (expr_view e) k ts (t.body_of b) (t.body_of c)
+stmt_view (stmt.Component c ps es bs) = t.component_stmt c ps es.value (t.slots_of bs.value)
+stmt_view (stmt.If e u b c) = t.if_stmt (expr_view e.value) u (t.body_of b) (t.body_of c)
+stmt_view (stmt.Each h b c) = t.each (expr_view h.value.list) h.value.key h.value.params (t.body_of b) (t.body_of c)
 stmt_view (stmt.Let es ts b) = t.let_stmt (t.exprs_of es) ts (t.body_of b)
 stmt_view (stmt.Yield es s) = t.yield (t.exprs_of es) s
 

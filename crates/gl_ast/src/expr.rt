@@ -39,7 +39,7 @@ pub enum Expr {
     Call {
         name: Str,
         args: Exprs,
-        named: Pairs,
+        named: Box<Pairs>,
     },
     Cat(Exprs),
 }

@@ -22,7 +22,7 @@ pub use expr::{Expr, Exprs, Lit, NamedExpr, Names, Pairs, Str};
 pub use mode::{Around, Mode, Quote};
 pub use part::{Args, Argument, AttrValue, Part, Parts};
 pub use slice::Slice;
-pub use stmt::{Block, Body, Slot, Slots, Stmt};
+pub use stmt::{Block, Body, EachHead, Slot, Slots, Stmt};
 pub use template::Template;
 pub use tight::push_tight;
 pub use token::{Token, TokenKind, Tokens};

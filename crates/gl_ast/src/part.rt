@@ -6,7 +6,7 @@ use std::marker::Model;
 #[derive(Drop)]
 pub enum AttrValue {
     Fixed(Str),
-    Live(Expr),
+    Live(Box<Expr>),
 }
 
 /// A part of a tag: an attribute, a modifier, or `...attributes`.
@@ -19,7 +19,7 @@ pub enum Part {
     Mod {
         name: Str,
         args: Exprs,
-        named: Pairs,
+        named: Box<Pairs>,
     },
     Spread,
 }

@@ -19,19 +19,17 @@ pub enum Stmt {
     Component {
         class: Str,
         parts: Parts,
-        args: Args,
-        slots: Slots,
+        args: Box<Args>,
+        slots: Box<Slots>,
     },
     If {
-        test: Expr,
+        test: Box<Expr>,
         unless: bool,
         body: Body,
         otherwise: Body,
     },
     Each {
-        list: Expr,
-        key: Str,
-        params: Names,
+        head: Box<EachHead>,
         body: Body,
         otherwise: Body,
     },
@@ -44,6 +42,14 @@ pub enum Stmt {
         values: Exprs,
         to: Str,
     },
+}
+
+/// What an `each` goes through: its list, the name of its key, and the names of its parameters.
+#[derive(Drop)]
+pub struct EachHead {
+    pub list: Expr,
+    pub key: Str,
+    pub params: Names,
 }
 
 /// A list of statements. Contracts see the statements as definitions see them.

@@ -41,7 +41,7 @@ fn mark_expr(getters: &[NamedExpr], expr: &Expr, marks: Marks) -> Marks
             name: _,
             args,
             named,
-        } => mark_named(getters, named, mark_exprs(getters, args, marks)),
+        } => mark_named(getters, &**named, mark_exprs(getters, args, marks)),
         Expr::Cat(parts) => mark_exprs(getters, parts, marks),
         _ => marks,
     }

@@ -1,5 +1,5 @@
 // Expressions.
-ghost use Rattle.std.specs.Prelude.{◌≡◌, length};
+ghost use Rattle.std.specs.Prelude.{◌≡◌, length, IfOk};
 ghost use Rattle.gl_base.specs.Answers.{Gives};
 ghost use Rattle.gl_ast.specs.Template.{exprs_of, named_of};
 ghost use Rattle.gl_ast.specs.View.{expr_view, named_view};
@@ -11,7 +11,7 @@ use crate::cursor::Cursor;
 use crate::name::{name, stands_name};
 use crate::operand::operand;
 use gl_ast::{Expr, Exprs, NamedExpr, Names, Pairs, Str, TokenKind};
-use std::alloc::Global;
+use std::alloc::{AllocError, Global};
 
 /// How deep calls in parentheses may nest in a template or an expression.
 pub const DEEPEST_CALLS: u32 = 16;
@@ -68,7 +68,7 @@ fn call(alloc: Global, tokens: &mut Cursor, calls: u32) -> Result<Expr, Misread>
     Ok(Expr::Call {
         name,
         args: given.args,
-        named: given.named,
+        named: Box::new(alloc, given.named)?,
     })
 }
 
@@ -122,20 +122,20 @@ fn pair(alloc: Global, tokens: &mut Cursor, calls: u32) -> Result<NamedExpr, Mis
 }
 
 // A name with arguments is a call, and a lone name is bare.
-fn called(alloc: Global, name: Str, given: Given) -> Expr
-    ensures { expr_view result ≡ read.called name (exprs_of given.args) (named_of given.named) }
+fn called(alloc: Global, name: Str, given: Given) -> Result<Expr, AllocError>
+    ensures { IfOk result (λ e. expr_view e ≡ read.called name (exprs_of given.args) (named_of given.named)) }
 {
     if given.args.is_empty() && given.named.is_empty() {
-        Expr::Bare {
+        Ok(Expr::Bare {
             name,
             rest: Names::new(alloc),
-        }
+        })
     } else {
-        Expr::Call {
+        Ok(Expr::Call {
             name,
             args: given.args,
-            named: given.named,
-        }
+            named: Box::new(alloc, given.named)?,
+        })
     }
 }
 
@@ -146,7 +146,7 @@ fn read_called(alloc: Global, tokens: &mut Cursor) -> Result<Expr, Misread>
 {
     let name = name(alloc, tokens)?;
     let given = arguments(alloc, tokens, DEEPEST_CALLS)?;
-    Ok(called(alloc, name, given))
+    Ok(called(alloc, name, given)?)
 }
 
 // What stands in a mustache.

@@ -35,7 +35,7 @@ fn call(alloc: Global, args: Exprs, named: Pairs) -> Result<Expr, Fail> {
     Ok(Expr::Call {
         name: Text::from_str(alloc, "if")?,
         args,
-        named,
+        named: Box::new(alloc, named)?,
     })
 }
 

@@ -172,7 +172,9 @@ pub fn link_expr(
         WireExpr::This(name) => link_member(context, place, name, out),
         WireExpr::Get { of, rest } => link_get(context, place, of, rest, out),
         WireExpr::Free(name) => known(place, Kind::Local, name, None),
-        WireExpr::Call { name, args, named } => link_call(context, place, name, args, named, out),
+        WireExpr::Call { name, args, named } => link_call(
+            context, place, name, args, &**named, out,
+        ),
         WireExpr::Cat(parts) => link_cat(context, place, parts, out),
     }
 }

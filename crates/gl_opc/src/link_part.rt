@@ -62,9 +62,9 @@ fn link_part(
             let b = out.push_text(value)?;
             Ok(out.push_op(Op::Attr { a, b })?)
         }
-        WirePart::Live { name, value } => link_live(context, place, name, value, out),
+        WirePart::Live { name, value } => link_live(context, place, name, &**value, out),
         WirePart::Mod { name, args, named } => {
-            link_modifier(context, place, name, args, named, out)
+            link_modifier(context, place, name, args, &**named, out)
         }
         WirePart::Spread => Ok(out.push_op(Op::Spread)?),
     }

@@ -12,7 +12,7 @@ use crate::names::NameSet;
 use crate::slot::{SlotOpening, open_slot, skip_gaps, stands_next, stands_slot};
 use crate::statement::{flat, stands_opened};
 use crate::tag::{open_tag, take_end_of, take_end_tag};
-use gl_ast::{Block, Body, Slot, Slots, Stmt, Token, TokenKind};
+use gl_ast::{Block, Body, EachHead, Slot, Slots, Stmt, Token, TokenKind};
 use gl_exprs::{Cursor, Misread};
 use std::alloc::Global;
 
@@ -101,16 +101,16 @@ fn tag(alloc: Global, tokens: &mut Cursor, depth: u32) -> Result<Stmt, Misread>
     let opening = open_tag(alloc, tokens)?;
     if tokens.stands(TokenKind::SelfEnd) {
         tokens.take(TokenKind::SelfEnd)?;
-        return Ok(opening.into_empty(alloc));
+        return Ok(opening.into_empty(alloc)?);
     }
     tokens.take(TokenKind::TagEnd)?;
     if opening.is_void() {
-        return Ok(opening.into_empty(alloc));
+        return Ok(opening.into_empty(alloc)?);
     }
     if opening.takes_slots() && stands_next(tokens) {
         let slots = filling(alloc, tokens, depth)?;
         take_end_tag(tokens, opening.name())?;
-        return Ok(opening.into_filled(alloc, slots));
+        return Ok(opening.into_filled(alloc, slots)?);
     }
     let body = body(alloc, tokens, depth)?;
     take_end_tag(tokens, opening.name())?;
@@ -187,7 +187,7 @@ fn head(alloc: Global, tokens: &mut Cursor, depth: u32) -> Result<Stmt, Misread>
         Front::If { test, unless } => {
             let otherwise = otherwise(alloc, tokens, depth)?;
             Ok(Stmt::If {
-                test,
+                test: Box::new(alloc, test)?,
                 unless,
                 body,
                 otherwise,
@@ -195,10 +195,9 @@ fn head(alloc: Global, tokens: &mut Cursor, depth: u32) -> Result<Stmt, Misread>
         }
         Front::Each { list, key, params } => {
             let otherwise = otherwise(alloc, tokens, depth)?;
+            let head = EachHead { list, key, params };
             Ok(Stmt::Each {
-                list,
-                key,
-                params,
+                head: Box::new(alloc, head)?,
                 body,
                 otherwise,
             })

@@ -70,7 +70,7 @@ fn modifier(alloc: Global, tokens: &mut Cursor) -> Result<Item, Misread>
     Ok(Item::Part(Part::Mod {
         name,
         args: given.args,
-        named: given.named,
+        named: Box::new(alloc, given.named)?,
     }))
 }
 

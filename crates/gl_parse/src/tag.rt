@@ -65,27 +65,11 @@ impl Opening {
     }
 
     /// The statement without a body.
-    pub fn into_empty(self, alloc: Global) -> Stmt
-        ensures { stmt_view result ≡ empty_tag (opening_view self) }
+    pub fn into_empty(self, alloc: Global) -> Result<Stmt, AllocError>
+        ensures { IfOk result (λ s. stmt_view s ≡ empty_tag (opening_view self)) }
     {
-        match self {
-            Opening::Element { tag, parts } => Stmt::Element {
-                tag,
-                parts,
-                body: Body::new(alloc),
-            },
-            Opening::Component {
-                class,
-                parts,
-                args,
-                params: _,
-            } => Stmt::Component {
-                class,
-                parts,
-                args,
-                slots: Slots::new(alloc),
-            },
-        }
+        let slots = Slots::new(alloc);
+        self.into_filled(alloc, slots)
     }
 
     /// The statement with a body, which is a component's block `default`.
@@ -102,33 +86,33 @@ impl Opening {
             } => Ok(Stmt::Component {
                 class,
                 parts,
-                args,
-                slots: default_slot(alloc, params, body)?,
+                args: Box::new(alloc, args)?,
+                slots: Box::new(alloc, default_slot(alloc, params, body)?)?,
             }),
         }
     }
 
     /// A component with these blocks.
-    pub fn into_filled(self, alloc: Global, slots: Slots) -> Stmt
-        ensures { stmt_view result ≡ filled_tag (opening_view self) (slots_of slots) }
+    pub fn into_filled(self, alloc: Global, slots: Slots) -> Result<Stmt, AllocError>
+        ensures { IfOk result (λ s. stmt_view s ≡ filled_tag (opening_view self) (slots_of slots)) }
     {
         match self {
-            Opening::Element { tag, parts } => Stmt::Element {
+            Opening::Element { tag, parts } => Ok(Stmt::Element {
                 tag,
                 parts,
                 body: Body::new(alloc),
-            },
+            }),
             Opening::Component {
                 class,
                 parts,
                 args,
                 params: _,
-            } => Stmt::Component {
+            } => Ok(Stmt::Component {
                 class,
                 parts,
-                args,
-                slots,
-            },
+                args: Box::new(alloc, args)?,
+                slots: Box::new(alloc, slots)?,
+            }),
         }
     }
 }

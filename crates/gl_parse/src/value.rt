@@ -90,7 +90,7 @@ fn cat(alloc: Global, tokens: &mut Cursor) -> Result<AttrValue, Misread>
     let first = mustache(alloc, tokens)?;
     list.push(first)?;
     add_quoted(alloc, tokens, &mut list)?;
-    Ok(AttrValue::Live(Expr::Cat(list)))
+    Ok(AttrValue::Live(Box::new(alloc, Expr::Cat(list))?))
 }
 
 // What stands between quotes.
@@ -126,7 +126,8 @@ fn any_value(alloc: Global, tokens: &mut Cursor) -> Result<AttrValue, Misread>
     if tokens.stands(TokenKind::Unquoted) {
         fixed(alloc, tokens, TokenKind::Unquoted)
     } else if tokens.stands(TokenKind::OpenMustache) {
-        Ok(AttrValue::Live(mustache(alloc, tokens)?))
+        let shown = mustache(alloc, tokens)?;
+        Ok(AttrValue::Live(Box::new(alloc, shown)?))
     } else {
         quote(alloc, tokens)
     }

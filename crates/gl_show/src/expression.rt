@@ -68,7 +68,7 @@ pub fn write_expr(expr: &Expr, out: &mut Text) -> Result<(), AllocError>
             out.push_text(name)?;
             write_segments(rest, out)
         }
-        Expr::Call { name, args, named } => write_call(name, args, named, out),
+        Expr::Call { name, args, named } => write_call(name, args, &**named, out),
         Expr::Cat(_) => Ok(()),
     }
 }
@@ -114,10 +114,10 @@ fn write_inner(expr: &Expr, out: &mut Text) -> Result<(), AllocError>
     ensures { OnOk result (out.new ≡ out.old ++ inner_text (expr_view expr.now)) }
 {
     match expr {
-        Expr::Call { name, args, named } if has_argument(args, named) => {
+        Expr::Call { name, args, named } if has_argument(args, &**named) => {
             out.push_text(name)?;
             write_exprs(args, out)?;
-            write_named(named, out)
+            write_named(&**named, out)
         }
         _ => write_expr(expr, out),
     }

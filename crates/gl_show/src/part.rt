@@ -22,7 +22,7 @@ fn write_part(part: &Part, out: &mut Text) -> Result<(), AllocError>
             out.push_ascii("{{")?;
             out.push_text(name)?;
             write_exprs(args, out)?;
-            write_named(named, out)?;
+            write_named(&**named, out)?;
             out.push_ascii("}}")
         }
         Part::Spread => out.push_ascii("...attributes"),

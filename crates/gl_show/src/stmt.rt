@@ -255,9 +255,9 @@ pub fn write_stmt(stmt: &Stmt, out: &mut Text) -> Result<(), AllocError>
         } => {
             out.push_ascii("<")?;
             out.push_text(class)?;
-            write_args(args, out)?;
+            write_args(&**args, out)?;
             write_parts(parts, out)?;
-            write_slots(class, slots, out)
+            write_slots(class, &**slots, out)
         }
         Stmt::If {
             test,
@@ -265,17 +265,15 @@ pub fn write_stmt(stmt: &Stmt, out: &mut Text) -> Result<(), AllocError>
             body,
             otherwise,
         } => {
-            write_if_head(test, *unless, out)?;
+            write_if_head(&**test, *unless, out)?;
             write_bodies(body, otherwise, if_word(*unless), out)
         }
         Stmt::Each {
-            list,
-            key,
-            params,
+            head,
             body,
             otherwise,
         } => {
-            write_each_head(list, key, params, out)?;
+            write_each_head(&head.list, &head.key, &head.params, out)?;
             write_bodies(body, otherwise, "each", out)
         }
         Stmt::Let {

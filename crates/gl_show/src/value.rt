@@ -1,7 +1,7 @@
 // The spelling of the values of attributes and arguments.
 ghost use Rattle.std.specs.Prelude.{◌≡◌, ◌∷◌, ◌++◌, ◌<◌, OnOk, codes};
 ghost use Rattle.gl_ast.specs.Canon.{is_string, begins_string, is_plain_part, part_of_value, cat_text, given_text};
-ghost use Rattle.gl_ast.specs.Template.{exprs_of};
+ghost use Rattle.gl_ast.specs.Template.{exprs_of, live};
 ghost use Rattle.gl_ast.specs.View.{expr_view, seen_exprs, attr_view};
 
 use crate::expression::write_mustache;
@@ -59,6 +59,23 @@ fn write_cat(exprs: &Exprs, out: &mut Text) -> Result<(), AllocError>
     Ok(())
 }
 
+// Adds `=` and an expression as a value.
+fn write_live(expr: &Expr, out: &mut Text) -> Result<(), AllocError>
+    ensures { OnOk result (out.new ≡ out.old ++ given_text (live (expr_view expr.now))) }
+{
+    match expr {
+        Expr::Cat(exprs) => {
+            out.push_ascii("=\"")?;
+            write_cat(exprs, out)?;
+            out.push_ascii("\"")
+        }
+        _ => {
+            out.push_ascii("=")?;
+            write_mustache(expr, out)
+        }
+    }
+}
+
 /// Adds `=` and the value of an attribute or an argument.
 pub fn write_given(value: &AttrValue, out: &mut Text) -> Result<(), AllocError>
     ensures { OnOk result (out.new ≡ out.old ++ given_text (attr_view value.now)) }
@@ -69,14 +86,6 @@ pub fn write_given(value: &AttrValue, out: &mut Text) -> Result<(), AllocError>
             write_value_text(text, out)?;
             out.push_ascii("\"")
         }
-        AttrValue::Live(Expr::Cat(exprs)) => {
-            out.push_ascii("=\"")?;
-            write_cat(exprs, out)?;
-            out.push_ascii("\"")
-        }
-        AttrValue::Live(expr) => {
-            out.push_ascii("=")?;
-            write_mustache(expr, out)
-        }
+        AttrValue::Live(expr) => write_live(&**expr, out),
     }
 }

@@ -1,7 +1,7 @@
 // Trees with each kind of expression, part and statement.
 use gl_ast::{
-    Args, Argument, AttrValue, Block, Body, Expr, Exprs, Lit, NamedExpr, Names, Pairs, Part, Parts,
-    Slot, Slots, Stmt, Str,
+    Args, Argument, AttrValue, Block, Body, EachHead, Expr, Exprs, Lit, NamedExpr, Names, Pairs,
+    Part, Parts, Slot, Slots, Stmt, Str,
 };
 use std::alloc::Global;
 use std::process::Abort;
@@ -39,7 +39,7 @@ fn call(alloc: Global, name: &str) -> Result<Expr, Fail> {
     Ok(Expr::Call {
         name: text(alloc, name)?,
         args,
-        named: pairs(alloc, "n")?,
+        named: Box::new(alloc, pairs(alloc, "n")?)?,
     })
 }
 
@@ -69,7 +69,7 @@ fn parts(alloc: Global) -> Result<Parts, Fail> {
     parts.push(Part::Mod {
         name: text(alloc, "on")?,
         args: Exprs::new(alloc),
-        named: Pairs::new(alloc),
+        named: Box::new(alloc, Pairs::new(alloc))?,
     })?;
     parts.push(Part::Spread)?;
     Ok(parts)
@@ -79,7 +79,7 @@ fn args(alloc: Global) -> Result<Args, Fail> {
     let mut args = Args::new(alloc);
     args.push(Argument {
         name: text(alloc, "a")?,
-        value: AttrValue::Live(this(alloc, "m")?),
+        value: AttrValue::Live(Box::new(alloc, this(alloc, "m")?)?),
     })?;
     Ok(args)
 }
@@ -98,7 +98,7 @@ fn slots(alloc: Global) -> Result<Slots, Fail> {
 
 fn branch(alloc: Global, unless: bool) -> Result<Stmt, Fail> {
     Ok(Stmt::If {
-        test: this(alloc, "t")?,
+        test: Box::new(alloc, this(alloc, "t")?)?,
         unless,
         body: Body::new(alloc),
         otherwise: Body::new(alloc),
@@ -106,10 +106,13 @@ fn branch(alloc: Global, unless: bool) -> Result<Stmt, Fail> {
 }
 
 fn each(alloc: Global, key: &str) -> Result<Stmt, Fail> {
-    Ok(Stmt::Each {
+    let head = EachHead {
         list: this(alloc, "l")?,
         key: text(alloc, key)?,
         params: names(alloc, "x")?,
+    };
+    Ok(Stmt::Each {
+        head: Box::new(alloc, head)?,
         body: Body::new(alloc),
         otherwise: Body::new(alloc),
     })
@@ -127,8 +130,8 @@ fn component(alloc: Global, class: &str) -> Result<Stmt, Fail> {
     Ok(Stmt::Component {
         class: text(alloc, class)?,
         parts: Parts::new(alloc),
-        args: args(alloc)?,
-        slots: slots(alloc)?,
+        args: Box::new(alloc, args(alloc)?)?,
+        slots: Box::new(alloc, slots(alloc)?)?,
     })
 }
 

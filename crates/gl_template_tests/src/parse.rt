@@ -489,7 +489,7 @@ fn is_tree(body: &Body) -> bool {
             Stmt::Put(e),
             d,
         ] => is_text(a, "a\n")
-            && is_member(test, "n")
+            && is_member(&**test, "n")
             && is_block(body)
             && otherwise.is_empty()
             && is_text(c, "c")

@@ -1,7 +1,7 @@
 // Trees, each with its spelling.
 use gl_ast::{
-    Args, Argument, AttrValue, Block, Body, Expr, Exprs, Lit, NamedExpr, Names, Pairs, Part, Parts,
-    Slot, Slots, Stmt, Template,
+    Args, Argument, AttrValue, Block, Body, EachHead, Expr, Exprs, Lit, NamedExpr, Names, Pairs,
+    Part, Parts, Slot, Slots, Stmt, Template,
 };
 use gl_show::{show, show_body};
 use gl_value::Text;
@@ -178,7 +178,7 @@ fn call(alloc: Global, args: Exprs, named: bool) -> Result<Expr, Fail> {
     Ok(Expr::Call {
         name: Text::from_str(alloc, "f")?,
         args,
-        named: integer(alloc, named)?,
+        named: Box::new(alloc, integer(alloc, named)?)?,
     })
 }
 
@@ -260,13 +260,13 @@ fn exprs(alloc: Global, signs: &str) -> Result<Exprs, Fail> {
 fn part(alloc: Global, piece: &Piece) -> Result<Part, Fail> {
     let value = match piece {
         Piece::Fixed(text) => AttrValue::Fixed(Text::from_str(alloc, text)?),
-        Piece::Live(sign) => AttrValue::Live(expr(alloc, *sign)?),
-        Piece::Cat(signs) => AttrValue::Live(Expr::Cat(exprs(alloc, signs)?)),
+        Piece::Live(sign) => AttrValue::Live(Box::new(alloc, expr(alloc, *sign)?)?),
+        Piece::Cat(signs) => AttrValue::Live(Box::new(alloc, Expr::Cat(exprs(alloc, signs)?))?),
         Piece::Modifier(signs) => {
             return Ok(Part::Mod {
                 name: Text::from_str(alloc, "on")?,
                 args: exprs(alloc, signs)?,
-                named: integer(alloc, true)?,
+                named: Box::new(alloc, integer(alloc, true)?)?,
             });
         }
         Piece::Spread => return Ok(Part::Spread),
@@ -327,10 +327,13 @@ fn slots(alloc: Global, named: &[&'static str]) -> Result<Slots, Fail> {
 }
 
 fn each(alloc: Global, key: &str, params: &[&'static str]) -> Result<Stmt, Fail> {
-    Ok(Stmt::Each {
+    let head = EachHead {
         list: bare(alloc)?,
         key: Text::from_str(alloc, key)?,
         params: names(alloc, params)?,
+    };
+    Ok(Stmt::Each {
+        head: Box::new(alloc, head)?,
         body: content(alloc, "t")?,
         otherwise: content(alloc, "n")?,
     })
@@ -345,14 +348,14 @@ fn component(
     Ok(Stmt::Component {
         class: Text::from_str(alloc, "Kid")?,
         parts: parts(alloc, pieces)?,
-        args: given(alloc, args)?,
-        slots: slots(alloc, named)?,
+        args: Box::new(alloc, given(alloc, args)?)?,
+        slots: Box::new(alloc, slots(alloc, named)?)?,
     })
 }
 
 fn branch(alloc: Global, unless: bool, otherwise: &'static str) -> Result<Stmt, Fail> {
     Ok(Stmt::If {
-        test: bare(alloc)?,
+        test: Box::new(alloc, bare(alloc)?)?,
         unless,
         body: content(alloc, "t")?,
         otherwise: content(alloc, otherwise)?,

@@ -19,7 +19,7 @@ stmt_falls (code.Put e) = omega arith
 stmt_falls (code.Element t ps b) = omega arith
 stmt_falls (code.Component c ps es bs) = omega arith
 stmt_falls (code.If e u b c) = omega arith
-stmt_falls (code.Each e k is b c) = omega arith
+stmt_falls (code.Each h b c) = omega arith
 stmt_falls (code.Let es is b) = omega arith
 stmt_falls (code.Yield es s) = omega arith
 

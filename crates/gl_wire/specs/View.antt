@@ -20,7 +20,7 @@ expr_view (expr.Sym i) = w.symbol i
 expr_view (expr.This s) = w.this s
 expr_view (expr.Get e ts) = w.get e ts
 expr_view (expr.Free s) = w.free s
-expr_view (expr.Call s es ns) = w.call s (w.exprs_of es) (w.named_of ns)
+expr_view (expr.Call s es ns) = w.call s (w.exprs_of es) (w.named_of ns.value)
 expr_view (expr.Cat es) = w.cat (w.exprs_of es)
 
 abbrev pub seen_exprs : List WireExpr → List w.Expr
@@ -34,8 +34,8 @@ seen_pairs ns = map pair_view ns
 
 abbrev pub part_view : WirePart → w.Part
 part_view (part.Attr n s) = w.attribute n s
-part_view (part.Live n e) = w.live n (expr_view e)
-part_view (part.Mod n es ns) = w.modifier n (w.exprs_of es) (w.named_of ns)
+part_view (part.Live n e) = w.live n (expr_view e.value)
+part_view (part.Mod n es ns) = w.modifier n (w.exprs_of es) (w.named_of ns.value)
 part_view part.Spread = w.spread
 
 abbrev pub seen_parts : List WirePart → List w.Part
@@ -46,9 +46,9 @@ stmt_view (stmt.Text s) = w.text_stmt s
 stmt_view (stmt.Comment s) = w.comment_stmt s
 stmt_view (stmt.Put e) = w.put (expr_view e)
 stmt_view (stmt.Element n ps b) = w.element n ps (w.body_of b)
-stmt_view (stmt.Component c ps es bs) = w.component_stmt c ps (w.named_of es) (w.slots_of bs)
-stmt_view (stmt.If e u b c) = w.if_stmt (expr_view e) u (w.body_of b) (w.body_of c)
-stmt_view (stmt.Each e k is b c) = w.each (expr_view e) k is (w.body_of b) (w.body_of c)
+stmt_view (stmt.Component c ps es bs) = w.component_stmt c ps (w.named_of es.value) (w.slots_of bs.value)
+stmt_view (stmt.If e u b c) = w.if_stmt (expr_view e.value) u (w.body_of b) (w.body_of c)
+stmt_view (stmt.Each h b c) = w.each (expr_view h.value.list) h.value.key h.value.params (w.body_of b) (w.body_of c)
 stmt_view (stmt.Let es is b) = w.let_stmt (w.exprs_of es) is (w.body_of b)
 stmt_view (stmt.Yield es s) = w.yield (w.exprs_of es) s
 

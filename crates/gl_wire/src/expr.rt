@@ -20,7 +20,7 @@ pub enum WireExpr {
     Call {
         name: Text,
         args: WireExprs,
-        named: WirePairs,
+        named: Box<WirePairs>,
     },
     Cat(WireExprs),
 }

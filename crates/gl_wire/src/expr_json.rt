@@ -95,7 +95,7 @@ pub fn expr_value(alloc: Global, expr: &WireExpr) -> Result<Value, AllocError>
         WireExpr::This(name) => Ok(named_row(alloc, "this", name)?.into_value()),
         WireExpr::Get { of, rest } => get_value(alloc, of, rest),
         WireExpr::Free(name) => Ok(named_row(alloc, "free", name)?.into_value()),
-        WireExpr::Call { name, args, named } => call_value(alloc, "call", name, args, named),
+        WireExpr::Call { name, args, named } => call_value(alloc, "call", name, args, &**named),
         WireExpr::Cat(parts) => cat_value(alloc, parts),
     }
 }

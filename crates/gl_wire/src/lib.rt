@@ -22,7 +22,7 @@ mod wire;
 pub use expr::{Head, WireExpr, WireExprs, WirePair, WirePairs};
 pub use json::{into_text, json_in, to_json, to_text};
 pub use part::{WirePart, WireParts};
-pub use stmt::{WireBody, WireSlot, WireSlots, WireStmt};
+pub use stmt::{WireBody, WireEachHead, WireSlot, WireSlots, WireStmt};
 pub use symbols::Symbols;
 pub use unnamed::is_unnamed;
 pub use version::Version;

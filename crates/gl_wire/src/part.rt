@@ -13,12 +13,12 @@ pub enum WirePart {
     },
     Live {
         name: Text,
-        value: WireExpr,
+        value: Box<WireExpr>,
     },
     Mod {
         name: Text,
         args: WireExprs,
-        named: WirePairs,
+        named: Box<WirePairs>,
     },
     Spread,
 }

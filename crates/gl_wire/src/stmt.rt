@@ -20,19 +20,17 @@ pub enum WireStmt {
     Component {
         class: Text,
         parts: WireParts,
-        args: WirePairs,
-        slots: WireSlots,
+        args: Box<WirePairs>,
+        slots: Box<WireSlots>,
     },
     If {
-        test: WireExpr,
+        test: Box<WireExpr>,
         unless: bool,
         body: WireBody,
         otherwise: WireBody,
     },
     Each {
-        list: WireExpr,
-        key: Text,
-        params: Symbols,
+        head: Box<WireEachHead>,
         body: WireBody,
         otherwise: WireBody,
     },
@@ -45,6 +43,14 @@ pub enum WireStmt {
         values: WireExprs,
         to: Text,
     },
+}
+
+/// What an `each` goes through: its list, the name of its key, and its parameters by their places among the symbols.
+#[derive(Drop)]
+pub struct WireEachHead {
+    pub list: WireExpr,
+    pub key: Text,
+    pub params: Symbols,
 }
 
 /// A list of statements. Contracts see the statements as definitions see them.

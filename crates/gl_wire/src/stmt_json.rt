@@ -28,10 +28,10 @@ fn part_value(alloc: Global, part: &WirePart) -> Result<Value, AllocError>
         }
         WirePart::Live { name, value } => {
             let mut row = named_row(alloc, "dyn", name)?;
-            row.push(expr_value(alloc, value)?)?;
+            row.push(expr_value(alloc, &**value)?)?;
             Ok(row.into_value())
         }
-        WirePart::Mod { name, args, named } => call_value(alloc, "mod", name, args, named),
+        WirePart::Mod { name, args, named } => call_value(alloc, "mod", name, args, &**named),
         WirePart::Spread => Ok(Row::of(alloc, "spread")?.into_value()),
     }
 }
@@ -287,24 +287,22 @@ fn push_stmt(
             parts,
             args,
             slots,
-        } => push_component(alloc, version, class, parts, args, slots, out),
+        } => push_component(alloc, version, class, parts, &**args, &**slots, out),
         WireStmt::If {
             test,
             unless,
             body,
             otherwise,
         } => {
-            push_expr_row(alloc, if_word(*unless), test, out)?;
+            push_expr_row(alloc, if_word(*unless), &**test, out)?;
             push_bodies(alloc, version, body, otherwise, out)
         }
         WireStmt::Each {
-            list,
-            key,
-            params,
+            head,
             body,
             otherwise,
         } => {
-            push_each(alloc, list, key, params, out)?;
+            push_each(alloc, &head.list, &head.key, &head.params, out)?;
             push_bodies(alloc, version, body, otherwise, out)
         }
         WireStmt::Let {

@@ -31,7 +31,7 @@ fn is_unnamed_stmt(stmt: &WireStmt) -> bool
     match stmt {
         WireStmt::Text(_) | WireStmt::Comment(_) | WireStmt::Put(_) => true,
         WireStmt::Element { body, .. } => is_unnamed_body(body),
-        WireStmt::Component { slots, .. } => is_unnamed_slots(slots),
+        WireStmt::Component { slots, .. } => is_unnamed_slots(&**slots),
         WireStmt::If {
             body,
             otherwise,

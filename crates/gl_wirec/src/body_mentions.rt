@@ -14,7 +14,7 @@ fn note_value(alloc: Global, value: &AttrValue, symbols: &mut Names) -> Result<(
 {
     match value {
         AttrValue::Fixed(_) => Ok(()),
-        AttrValue::Live(expr) => note_expr(alloc, &Names::new(alloc), expr, symbols),
+        AttrValue::Live(expr) => note_expr(alloc, &Names::new(alloc), &**expr, symbols),
     }
 }
 
@@ -23,7 +23,9 @@ fn note_part(alloc: Global, part: &Part, symbols: &mut Names) -> Result<(), Allo
 {
     match part {
         Part::Attr { value, .. } => note_value(alloc, value, symbols),
-        Part::Mod { args, named, .. } => note_call(alloc, &Names::new(alloc), args, named, symbols),
+        Part::Mod { args, named, .. } => {
+            note_call(alloc, &Names::new(alloc), args, &**named, symbols)
+        }
         Part::Spread => Ok(()),
     }
 }
@@ -79,9 +81,9 @@ fn note_stmt(alloc: Global, stmt: &Stmt, symbols: &mut Names) -> Result<(), Allo
             slots,
             ..
         } => {
-            note_args(alloc, args, symbols)?;
+            note_args(alloc, &**args, symbols)?;
             note_parts(alloc, parts, symbols)?;
-            note_slots(alloc, slots, symbols)
+            note_slots(alloc, &**slots, symbols)
         }
         Stmt::If {
             test,
@@ -89,18 +91,16 @@ fn note_stmt(alloc: Global, stmt: &Stmt, symbols: &mut Names) -> Result<(), Allo
             otherwise,
             ..
         } => {
-            note_expr(alloc, &Names::new(alloc), test, symbols)?;
+            note_expr(alloc, &Names::new(alloc), &**test, symbols)?;
             note_bodies(alloc, body, otherwise, symbols)
         }
         Stmt::Each {
-            list,
-            params,
+            head,
             body,
             otherwise,
-            ..
         } => {
-            note_expr(alloc, &Names::new(alloc), list, symbols)?;
-            symbols.add_all(alloc, params)?;
+            note_expr(alloc, &Names::new(alloc), &head.list, symbols)?;
+            symbols.add_all(alloc, &head.params)?;
             note_bodies(alloc, body, otherwise, symbols)
         }
         Stmt::Let {

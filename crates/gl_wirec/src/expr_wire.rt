@@ -68,7 +68,7 @@ fn call_alone(alloc: Global, name: &Text) -> Result<WireExpr, AllocError>
     Ok(WireExpr::Call {
         name: name.copy()?,
         args: WireExprs::new(alloc),
-        named: WirePairs::new(alloc),
+        named: Box::new(alloc, WirePairs::new(alloc))?,
     })
 }
 
@@ -126,7 +126,7 @@ fn call_wire(
     Ok(WireExpr::Call {
         name: name.copy()?,
         args: exprs_wire(alloc, symbols, scope, false, args)?,
-        named: named_wire(alloc, symbols, scope, named)?,
+        named: Box::new(alloc, named_wire(alloc, symbols, scope, named)?)?,
     })
 }
 
@@ -146,7 +146,7 @@ pub fn expr_wire(
         Expr::This { member, rest } => followed(alloc, WireExpr::This(member.copy()?), rest),
         Expr::Arg { name, rest } => argument_path(alloc, symbols, name, rest),
         Expr::Bare { name, rest } => path_of(alloc, symbols, scope, whole, name, rest),
-        Expr::Call { name, args, named } => call_wire(alloc, symbols, scope, name, args, named),
+        Expr::Call { name, args, named } => call_wire(alloc, symbols, scope, name, args, &**named),
         Expr::Cat(parts) => Ok(WireExpr::Cat(exprs_wire(alloc, symbols, scope, true, parts)?)),
     }
 }

@@ -73,7 +73,7 @@ pub fn note_expr(
         Expr::Lit(_) | Expr::This { .. } => Ok(()),
         Expr::Arg { name, .. } => note_argument(alloc, name, symbols),
         Expr::Bare { name, .. } => note_name(alloc, known, name, symbols),
-        Expr::Call { args, named, .. } => note_call(alloc, known, args, named, symbols),
+        Expr::Call { args, named, .. } => note_call(alloc, known, args, &**named, symbols),
         Expr::Cat(parts) => note_exprs(alloc, known, parts, symbols),
     }
 }

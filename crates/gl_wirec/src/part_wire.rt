@@ -32,12 +32,12 @@ fn part_wire(
             value: AttrValue::Live(expr),
         } => Ok(WirePart::Live {
             name: name.copy()?,
-            value: expr_wire(alloc, symbols, scope, true, expr)?,
+            value: Box::new(alloc, expr_wire(alloc, symbols, scope, true, &**expr)?)?,
         }),
         Part::Mod { name, args, named } => Ok(WirePart::Mod {
             name: name.copy()?,
             args: exprs_wire(alloc, symbols, scope, false, args)?,
-            named: named_wire(alloc, symbols, scope, named)?,
+            named: Box::new(alloc, named_wire(alloc, symbols, scope, &**named)?)?,
         }),
         Part::Spread => Ok(WirePart::Spread),
     }
@@ -70,7 +70,7 @@ fn value_wire(
 {
     match value {
         AttrValue::Fixed(text) => Ok(WireExpr::Lit(Lit::Str(text.copy()?))),
-        AttrValue::Live(expr) => expr_wire(alloc, symbols, scope, true, expr),
+        AttrValue::Live(expr) => expr_wire(alloc, symbols, scope, true, &**expr),
     }
 }
 

@@ -12,7 +12,7 @@ use crate::names::Names;
 use crate::part_wire::{arguments_wire, parts_wire};
 use gl_ast::{Args, Body, Expr, Exprs, Parts, Slots, Stmt};
 use gl_value::{Text, Texts};
-use gl_wire::{WireBody, WireSlot, WireSlots, WireStmt};
+use gl_wire::{WireBody, WireEachHead, WireSlot, WireSlots, WireStmt};
 use std::alloc::{AllocError, Global};
 
 // The body of a block, in which its parameters are in scope.
@@ -73,8 +73,8 @@ fn component_wire(
     Ok(WireStmt::Component {
         class,
         parts,
-        args,
-        slots,
+        args: Box::new(alloc, args)?,
+        slots: Box::new(alloc, slots)?,
     })
 }
 
@@ -95,7 +95,7 @@ fn if_wire(
     let body = body_wire(alloc, symbols, scope, body)?;
     let otherwise = body_wire(alloc, symbols, scope, otherwise)?;
     Ok(WireStmt::If {
-        test,
+        test: Box::new(alloc, test)?,
         unless,
         body,
         otherwise,
@@ -121,10 +121,9 @@ fn each_wire(
     let body = block_wire(alloc, symbols, scope, params, body)?;
     let params = places_of(alloc, symbols, params)?;
     let otherwise = body_wire(alloc, symbols, scope, otherwise)?;
+    let head = WireEachHead { list, key, params };
     Ok(WireStmt::Each {
-        list,
-        key,
-        params,
+        head: Box::new(alloc, head)?,
         body,
         otherwise,
     })
@@ -172,20 +171,27 @@ fn stmt_wire(
             parts,
             args,
             slots,
-        } => component_wire(alloc, symbols, scope, class, parts, args, slots),
+        } => component_wire(alloc, symbols, scope, class, parts, &**args, &**slots),
         Stmt::If {
             test,
             unless,
             body,
             otherwise,
-        } => if_wire(alloc, symbols, scope, test, *unless, body, otherwise),
+        } => if_wire(alloc, symbols, scope, &**test, *unless, body, otherwise),
         Stmt::Each {
-            list,
-            key,
-            params,
+            head,
             body,
             otherwise,
-        } => each_wire(alloc, symbols, scope, list, key, params, body, otherwise),
+        } => each_wire(
+            alloc,
+            symbols,
+            scope,
+            &head.list,
+            &head.key,
+            &head.params,
+            body,
+            otherwise,
+        ),
         Stmt::Let {
             values,
             params,

@@ -166,6 +166,7 @@ fn call(alloc: Global, symbols: &Texts, fields: &[Value], calls: u32) -> Result<
             let name = text(alloc, name)?;
             let args = exprs(alloc, symbols, args, calls)?;
             let named = pairs(alloc, symbols, named, calls)?;
+            let named = Box::new(alloc, named)?;
             Ok(Expr::Call { name, args, named })
         }
         _ => Err(WireFault::BadWire),

@@ -12,7 +12,7 @@ use crate::WireFault;
 use crate::pieces::{symbols_at, text};
 use crate::rows::Open;
 use crate::tag::{arguments, inner, inners, parts, whole};
-use gl_ast::{Block, Slot, Slots, Stmt};
+use gl_ast::{Block, EachHead, Slot, Slots, Stmt};
 use gl_value::{Text, Texts};
 use serde_json::Value;
 use std::alloc::Global;
@@ -57,8 +57,8 @@ fn leaf(alloc: Global, symbols: &Texts, fields: &[Value]) -> Result<Stmt, WireFa
             Ok(Stmt::Component {
                 class,
                 parts,
-                args,
-                slots,
+                args: Box::new(alloc, args)?,
+                slots: Box::new(alloc, slots)?,
             })
         }
         _ => Err(WireFault::BadWire),
@@ -197,8 +197,8 @@ fn component(
             Ok(Stmt::Component {
                 class,
                 parts,
-                args,
-                slots,
+                args: Box::new(alloc, args)?,
+                slots: Box::new(alloc, slots)?,
             })
         }
         _ => Err(WireFault::BadWire),
@@ -240,7 +240,7 @@ fn choice(
             let test = inner(alloc, symbols, test)?;
             let (body, otherwise) = inside.into_bodies();
             Ok(Stmt::If {
-                test,
+                test: Box::new(alloc, test)?,
                 unless,
                 body,
                 otherwise,
@@ -259,10 +259,9 @@ fn each(alloc: Global, symbols: &Texts, fields: &[Value], inside: Open) -> Resul
             let key = text(alloc, key)?;
             let params = symbols_at(alloc, symbols, params)?;
             let (body, otherwise) = inside.into_bodies();
+            let head = EachHead { list, key, params };
             Ok(Stmt::Each {
-                list,
-                key,
-                params,
+                head: Box::new(alloc, head)?,
                 body,
                 otherwise,
             })

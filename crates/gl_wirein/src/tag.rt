@@ -1,5 +1,5 @@
 // Values, parts of a tag and arguments that are read from their JSON.
-ghost use Rattle.std.specs.Prelude.{◌≡◌, map, option_map};
+ghost use Rattle.std.specs.Prelude.{◌≡◌, map, option_map, IfOk};
 ghost use Rattle.serde_json.specs.View.{view};
 ghost use Rattle.gl_base.specs.Answers.{Gives};
 ghost use Rattle.gl_ast.specs.View.{expr_view, attr_view, part_view, argument_view};
@@ -13,7 +13,7 @@ use crate::pieces::{Reader, fields, items, read_all, text, word};
 use gl_ast::{Args, Argument, AttrValue, Expr, Exprs, Lit, Part, Parts};
 use gl_value::Texts;
 use serde_json::Value;
-use std::alloc::Global;
+use std::alloc::{AllocError, Global};
 
 /// How deep calls may nest.
 pub const DEEPEST_CALLS: u32 = 16;
@@ -80,7 +80,8 @@ fn live(alloc: Global, symbols: &Texts, fields: &[Value]) -> Result<Part, WireFa
     match fields {
         [name, shown] => {
             let name = text(alloc, name)?;
-            let value = AttrValue::Live(value(alloc, symbols, shown)?);
+            let shown = value(alloc, symbols, shown)?;
+            let value = AttrValue::Live(Box::new(alloc, shown)?);
             Ok(Part::Attr { name, value })
         }
         _ => Err(WireFault::BadWire),
@@ -95,6 +96,7 @@ fn modifier(alloc: Global, symbols: &Texts, fields: &[Value]) -> Result<Part, Wi
             let name = text(alloc, name)?;
             let args = exprs(alloc, symbols, args, DEEPEST_CALLS)?;
             let named = pairs(alloc, symbols, named, DEEPEST_CALLS)?;
+            let named = Box::new(alloc, named)?;
             Ok(Part::Mod { name, args, named })
         }
         _ => Err(WireFault::BadWire),
@@ -151,12 +153,12 @@ pub fn parts(alloc: Global, symbols: &Texts, json: &Value) -> Result<Parts, Wire
 }
 
 // The value of an argument: a literal text is a fixed one.
-fn given(expr: Expr) -> AttrValue
-    ensures { attr_view result ≡ given (expr_view expr) }
+fn given(alloc: Global, expr: Expr) -> Result<AttrValue, AllocError>
+    ensures { IfOk result (λ v. attr_view v ≡ given (expr_view expr)) }
 {
     match expr {
-        Expr::Lit(Lit::Str(text)) => AttrValue::Fixed(text),
-        expr => AttrValue::Live(expr),
+        Expr::Lit(Lit::Str(text)) => Ok(AttrValue::Fixed(text)),
+        expr => Ok(AttrValue::Live(Box::new(alloc, expr)?)),
     }
 }
 
@@ -166,7 +168,7 @@ fn argument(alloc: Global, symbols: &Texts, row: &[Value]) -> Result<Argument, W
     match row {
         [name, shown] => {
             let name = text(alloc, name)?;
-            let value = given(value(alloc, symbols, shown)?);
+            let value = given(alloc, value(alloc, symbols, shown)?)?;
             Ok(Argument { name, value })
         }
         _ => Err(WireFault::BadWire),
