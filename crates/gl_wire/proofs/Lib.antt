@@ -1,4 +1,5 @@
 pub mod Elses
 pub mod Named
 pub mod NoFloats
+pub mod RowTexts
 mod WireRows

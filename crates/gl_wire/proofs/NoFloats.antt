@@ -39,7 +39,7 @@ have-append : (ds es : List Data) → have ds ≡ false → have es ≡ false �
 have-append [] es h k = k
 have-append (d ∷ ds) es h k = both _ _ (first (has_float d) (have ds) h) (have-append ds es (second (has_float d) (have ds) h) k)
 
-texts : (ts : List Text) → have (map text_json ts) ≡ false
+pub texts : (ts : List Text) → have (map text_json ts) ≡ false
 texts [] = refl
 texts (t ∷ ts) = texts ts
 
@@ -110,7 +110,7 @@ names First to = refl
 names Second to = refl
 
 mutual
-  statement : (version : Version) (s : Stmt) → have (stmt_rows version s) ≡ false
+  pub statement : (version : Version) (s : Stmt) → have (stmt_rows version s) ≡ false
   statement version (text_stmt s) = refl
   statement version (comment_stmt s) = refl
   statement version (put e) = both _ _ (both _ _ (expression e) refl) refl

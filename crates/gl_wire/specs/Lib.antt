@@ -14,3 +14,4 @@ pub mod Versions
 pub mod View
 pub mod Wire
 pub mod WireOf
+pub mod Written

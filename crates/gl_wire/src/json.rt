@@ -7,8 +7,9 @@ ghost use Rattle.gl_wire.specs.View.{wire_view};
 
 use crate::row::{Row, texts_value};
 use crate::stmt_json::push_body;
+use crate::writing::{write_body, write_value};
 use crate::{Version, Wire, WireBody};
-use gl_value::Text;
+use gl_value::{Text, Texts};
 use serde_json::{Map, Value, put};
 use std::alloc::{AllocError, Global};
 
@@ -64,17 +65,23 @@ pub fn to_text(alloc: Global, wire: &Wire) -> Result<Text, AllocError>
     Ok(Text::from_string(json.to_string(alloc)?))
 }
 
-// The JSON of a wire, which is let go.
-fn into_json(alloc: Global, wire: Wire) -> Result<Value, AllocError>
-    ensures { IfOk result (λ v. view v ≡ json_of (wire_view wire)) }
+// The text of the wire with these symbols and statements. It is written statement by statement.
+fn text_of(alloc: Global, symbols: &Texts, body: WireBody) -> Result<Text, AllocError>
+    ensures { IfOk result (λ t. t ≡ wire_text (record { symbols = symbols.now; body = body_of body })) }
 {
-    to_json(alloc, &wire)
+    let mut text = String::from_str(alloc, r#"{"body":["#)?;
+    write_body(alloc, &mut text, body)?;
+    text.push_str(r#"],"symbols":"#)?;
+    write_value(alloc, &mut text, &texts_value(alloc, symbols)?)?;
+    text.push_str(r#","v":2}"#)?;
+    Ok(Text::from_string(text))
 }
 
-/// The JSON of a wire as text, without white space. The wire is let go before the text is written.
+/// The JSON of a wire as text, without white space. The JSON of one top-level statement stands in memory at a time,
+/// and each statement is let go when its JSON is there.
 pub fn into_text(alloc: Global, wire: Wire) -> Result<Text, AllocError>
     ensures { IfOk result (λ t. t ≡ wire_text (wire_view wire)) }
 {
-    let json = into_json(alloc, wire)?;
-    Ok(Text::from_string(json.to_string(alloc)?))
+    let (symbols, body) = wire.into_parts();
+    text_of(alloc, &symbols, body)
 }

@@ -18,6 +18,7 @@ mod symbols;
 mod unnamed;
 mod version;
 mod wire;
+mod writing;
 
 pub use expr::{Head, WireExpr, WireExprs, WirePair, WirePairs};
 pub use json::{into_text, json_in, to_json, to_text};

@@ -265,7 +265,7 @@ fn push_bodies(
 
 /// Adds the rows of a statement.
 #[cycle(statement)]
-fn push_stmt(
+pub(crate) fn push_stmt(
     alloc: Global,
     version: Version,
     stmt: &WireStmt,

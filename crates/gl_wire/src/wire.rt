@@ -37,6 +37,14 @@ impl Wire {
         &self.symbols
     }
 
+    /// The symbols and the statements. It takes no memory.
+    pub fn into_parts(self) -> (Texts, WireBody)
+        ensures symbols { result.0 ≡ self.symbols }
+        ensures body { result.1 ≡ self.body }
+    {
+        (self.symbols, self.body)
+    }
+
     pub fn body(&self) -> &WireBody
         ensures { result.now ≡ self.now.body }
     {
