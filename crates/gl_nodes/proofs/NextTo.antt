@@ -1,10 +1,10 @@
 -- Where a node stands that links to a parent, and where a walk along siblings leads.
-use Rattle.std.proofs.Common.{is_some, ◌≡◌, ◌≢◌, ℕ, zero, suc, ◌+◌, ◌<◌, ◌≤◌, true, false, Option, Some, None, IsSome, refl, sym, ap, subst, ◌∙◌, inl, inr, arith}
+use Rattle.std.proofs.Common.{is_some, ◌≡◌, ◌≢◌, ℕ, zero, suc, ◌<◌, ◌≤◌, Option, Some, None, refl, sym, ap, subst, ◌∙◌, inl, inr, arith}
 use Rattle.std.specs.Prelude.{unwrap_or, if◌then◌else◌}
-use Rattle.gl_arena.specs.Id.{Id, same_id}
+use Rattle.gl_arena.specs.Id.{Id}
 use Rattle.gl_arena.specs.Arena.{Arena}
 use Rattle.gl_arena.proofs.Ids.{same_id-refl, same_id-other, id_cases}
-use Rattle.gl_nodes.specs.Forest.{Forest, end, tree, joined, first_or, hit, times, times_top, below, below_node, until, from, past, without, IsAmong, IsRun}
+use Rattle.gl_nodes.specs.Forest.{Forest, end, tree, joined, hit, times_top, below, below_node, until, from, past, without, IsAmong}
 use Rattle.gl_nodes.specs.Links.{Look, Linked, rooted, parent_of, next_of, AreBeside, Walks, Leads}
 use Rattle.gl_nodes.specs.Tree.{Tree, IsPlace, CanMove}
 use Rattle.gl_nodes.specs.View.{links_of, IsTree}

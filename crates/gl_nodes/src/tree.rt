@@ -8,7 +8,7 @@ ghost use Rattle.gl_nodes.specs.View.{seen_node, AddsEntry};
 ghost use Rattle.gl_nodes.specs.Flat.{IsFlat, MakesFlat, IsNextOf, children, node_by, stamp_of, head_of, IsRead, walked, order};
 ghost use Rattle.gl_arena.specs.Arena.{IsOwn};
 
-use crate::links::{Entries, Entry, first_at, links_below, next_at, parent_at};
+use crate::links::{Entries, Entry, first_at, links_below, next_at, packed, parent_at};
 use crate::{Attrs, Node, NodeId};
 use gl_arena::Arena;
 use gl_value::Text;
@@ -268,7 +268,7 @@ fn add(entries: &mut Entries, node: Option<Node>) -> Result<NodeId, AllocError>
 {
     let entry = Entry {
         node,
-        links: links_below(None),
+        links: packed(&links_below(None)),
     };
     match entries.insert(entry) {
         Ok(id) => Ok(id),

@@ -1,4 +1,5 @@
 use Rattle.std.proofs.Common.{◌≡◌, [], Some, refl, sym, ◌∙◌, ap, subst}
+use Rattle.std.proofs.lemmas.Result.{err_from_is_err_and}
 use Rattle.std.proofs.lemmas.Slice.Eq.{bytes_eq-Decides}
 use Rattle.gl_meaning.specs.View.{manifest_view}
 use Rattle.gl_meaning.specs.declared.manifest.Manifest.{Manifest}
@@ -62,3 +63,8 @@ returns-in-Err-clause-fails c =
     (ap (λ (m : Manifest). m.limit) (sym manifest) ∙ c.in_ok-left.ensures) (subst (λ (m : Manifest). class_number (manifest_view m) m.root ≡ Some number) manifest c.in_ok-number.ensures) c.in_ok-owner.ensures.class
     (λ ts rise. let env = env_of c.args.app.now ts in let suits : Suits env = record { templates = ts; app = refl; rise = rise } in let n = tables_of (manifest_view c.args.app.now.manifest) in
     (c.in_ok-vm.ensures.state n, c.in_ok-owner.ensures.step env suits c.in_ok-class.ensures named empty.touched (c.in_ok-vm.ensures.state n).agrees))
+
+pub returns-in_err-hang_page-in-Ok-clause-fails : goal.returns-in_err-hang_page-in-Ok-clause-fails
+returns-in_err-hang_page-in-Ok-clause-fails c =
+    let p = err_from_is_err_and c.from_residual-in_err-hang_page-in-Ok.result c.from_residual-in_err-hang_page-in-Ok.ensures.1 in
+    rw (p.1, p.2) tt

@@ -1,6 +1,6 @@
-use Rattle.std.proofs.Common.{is_some, not, false, true, ◌≡◌, sym, ap, subst, ◌∙◌}
+use Rattle.std.proofs.Common.{is_some, not, sym, ap, ◌∙◌}
 use Rattle.gl_nodes.specs.Forest.{after_node}
-use Rattle.gl_nodes.specs.Links.{forest_in, parent_of}
+use Rattle.gl_nodes.specs.Links.{forest_in}
 use Rattle.gl_nodes.specs.Tree.{first_in}
 use Rattle.gl_nodes.specs.View.{links_of}
 use Rattle.gl_nodes.proofs.Asked.{out_of}
