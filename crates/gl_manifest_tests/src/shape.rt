@@ -7,7 +7,7 @@ ghost use Rattle.std.specs.Prelude.{true};
 use gl_shape::{
     ItemReader, ItemRule, MemberReader, MemberRule, PlaceFault, check_array, check_object,
     check_value, has_inner, has_key, is_class_name, is_free_name, is_name, item_count, json_of,
-    member_count, read_items_at, read_members_at, value_of,
+    member_count, read_items_at, read_members_at, take_items, value_of,
 };
 use gl_value::{Text, Value};
 use std::alloc::Global;
@@ -117,6 +117,22 @@ fn items(rt: HostRuntime) -> Result<(), Fail> {
     check_at(&rt, check_array(alloc, true, &AnyText, &wrong), "/1");
     check_at(&rt, check_array(alloc, false, &AnyText, &right), "");
     assert_eq!(rt; item_count(&wrong), 2);
+    Ok(())
+}
+
+// How many texts an array holds that is let go while it is read.
+fn taken(alloc: Global, json: serde_json::Value) -> Result<usize, Fail> {
+    match json {
+        serde_json::Value::Array(items) => Ok(take_items(alloc, &AnyText, items)?.len()),
+        _ => Ok(0),
+    }
+}
+
+#[test]
+fn taken_items(rt: HostRuntime) -> Result<(), Fail> {
+    let alloc = rt.alloc();
+    let found = json(alloc, r#"["x","y"]"#)?;
+    assert_eq!(rt; taken(alloc, found)?, 2);
     Ok(())
 }
 

@@ -4,13 +4,12 @@ use Rattle.std.specs.Prelude.{Result, IfOk, option_map, is_some}
 use Rattle.serde_json.specs.Data as json
 use Rattle.gl_base.specs.Names.{named, or_else}
 use Rattle.gl_base.specs.Texts.{Text}
-use Rattle.gl_meaning.specs.App.{Event, set_event, fire, batch, Events, no_events, event, events_of}
+use Rattle.gl_meaning.specs.App.{Event, set_event, fire, batch, Events, events_of}
 use Rattle.gl_meaning.specs.ManifestIs.{ItemsAre}
-use Rattle.gl_meaning.specs.ManifestRules.{Each}
 use Rattle.gl_meaning.specs.ScriptOf.{Fields, unless_field, unknown_in, unknown_among, first_unknown, script_reading, script}
 use Rattle.gl_meaning.specs.View.{script_view}
 use Rattle.gl_meaning.specs.declared.script.Script.{Script}
-use Rattle.gl_script.specs.ScriptIs.{IsSimple, IsBatch, IsEvent, IsScript, Holds}
+use Rattle.gl_script.specs.ScriptIs.{IsSimple, IsBatch, IsEvent, IsScript}
 use Rattle.gl_script.specs.ScriptOver.{IsSimpleOver, AreSimpleOver, IsEventOver, IsScriptOver}
 use Rattle.gl_script.specs.View.{Answers}
 use Rattle.gl_script.specs.declared.fault.ScriptFault.{ScriptFault}

@@ -12,7 +12,9 @@ ghost use Rattle.gl_meaning.specs.Walk.{given, ◌then◌, value_at};
 ghost use Rattle.gl_shape.specs.View.{Tells};
 
 use gl_meaning::{Event, Events};
-use gl_shape::{ItemReader, PlaceFault, at_key, has_key, member_count, read_items, value_of};
+use gl_shape::{
+    ItemReader, PlaceFault, at_key, has_key, member_count, read_items, take_items, value_of,
+};
 use gl_value::{Text, Value};
 use std::alloc::Global;
 
@@ -211,11 +213,15 @@ impl ItemReader for Any {
     }
 }
 
-/// The events of a script.
-pub fn read_events(alloc: Global, json: &serde_json::Value) -> Result<Events, PlaceFault>
-    ensures { Tells (λ es. es) result (s.script_found (view json.now)) }
+/// The events of a script. The JSON of each event is let go once it is read.
+pub fn read_events(alloc: Global, json: serde_json::Value) -> Result<Events, PlaceFault>
+    ensures { Tells (λ es. es) result (s.script_found (view json)) }
 {
-    let items = items_of(alloc, json)?;
-    let events = read_items(alloc, &Any, items)?;
-    Ok(Events::from_vec(events))
+    match json {
+        serde_json::Value::Array(items) => {
+            let events = take_items(alloc, &Any, items)?;
+            Ok(Events::from_vec(events))
+        }
+        _ => Err(PlaceFault::here(alloc)),
+    }
 }

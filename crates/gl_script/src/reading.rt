@@ -20,7 +20,7 @@ fn script_of(alloc: Global, bytes: &[u8], root: &Class) -> Result<Script, Script
         Some(json) => json,
         None => return Err(ScriptFault::BadJson),
     };
-    let events = read_events(alloc, &json)?;
+    let events = read_events(alloc, json)?;
     match first_unknown(&root.fields, &events) {
         Some((index, name)) => Err(ScriptFault::UnknownName {
             index: index as u64,

@@ -19,5 +19,5 @@ pub use names::{is_class_name, is_free_name, is_name};
 pub use pointer::{at_item, at_key};
 pub use walk::{
     ItemReader, ItemRule, MemberReader, MemberRule, check_array, check_items, check_members,
-    check_object, read_items, read_items_at, read_members, read_members_at,
+    check_object, read_items, read_items_at, read_members, read_members_at, take_items,
 };

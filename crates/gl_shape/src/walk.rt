@@ -4,7 +4,7 @@ ghost use Rattle.serde_json.specs.Data.{Data};
 ghost use Rattle.serde_json.specs.View.{view, members_view, items_view};
 ghost use Rattle.gl_meaning.specs.Walk.{Found, check_members, check_items, read_members, read_items, object_check, array_check, under};
 ghost use Rattle.gl_meaning.specs.JsonText.{members_at, items_at};
-ghost use Rattle.gl_meaning.specs.Pointer.{key_step};
+ghost use Rattle.gl_meaning.specs.Pointer.{key_step, item_step};
 ghost use Rattle.gl_shape.specs.View.{Tells};
 
 use crate::{PlaceFault, at_item, at_key, items_at, members_at};
@@ -160,6 +160,38 @@ pub fn read_items<R: ItemReader>(
     for (place, value) in items.iter().enumerate() {
         let read = reader.read(alloc, value);
         let item = at_item(alloc, place, read)?;
+        list.push(item)?;
+    }
+    Ok(list)
+}
+
+// The item at a place, which is let go once it is read.
+#[tactic(auto, using(crate::proofs::Walks::tells_under))]
+fn take_item<R: ItemReader>(
+    alloc: Global,
+    reader: &R,
+    place: usize,
+    value: serde_json::Value,
+) -> Result<R::Item, PlaceFault>
+    ensures { Tells R.seen result (under (item_step place) (R.reads reader.now (view value))) }
+{
+    let read = reader.read(alloc, &value);
+    at_item(alloc, place, read)
+}
+
+/// Reads each item, in order, and lets it go once it is read. The pointer of a fault begins at the array.
+pub fn take_items<R: ItemReader>(
+    alloc: Global,
+    reader: &R,
+    items: Vec<serde_json::Value>,
+) -> Result<Vec<R::Item>, PlaceFault>
+    ensures { Tells (λ v. map R.seen v.items) result (read_items (R.reads reader.now) 0 (items_view items.items)) }
+{
+    let mut waiting = items;
+    waiting.reverse();
+    let mut list = Vec::new(alloc);
+    while let Some(value) = waiting.pop() {
+        let item = take_item(alloc, reader, list.len(), value)?;
         list.push(item)?;
     }
     Ok(list)
