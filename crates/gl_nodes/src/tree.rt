@@ -8,7 +8,7 @@ ghost use Rattle.gl_nodes.specs.View.{seen_node, AddsEntry};
 ghost use Rattle.gl_nodes.specs.Flat.{IsFlat, MakesFlat, IsNextOf, children, node_by, stamp_of, head_of, IsRead, walked, order};
 ghost use Rattle.gl_arena.specs.Arena.{IsOwn};
 
-use crate::links::{Entries, Entry, first_at, links_below, next_at, packed, parent_at};
+use crate::links::{Entries, Entry, first_at, links_below, next_at, next_below, packed};
 use crate::{Attrs, Node, NodeId};
 use gl_arena::Arena;
 use gl_value::Text;
@@ -194,10 +194,7 @@ impl NodeTree {
     pub fn after(&self, node: NodeId) -> Option<NodeId>
         ensures { result ≡ first_in (f.after_node node self.now.forest) }
     {
-        if parent_at(&self.entries, node).is_none() {
-            return None;
-        }
-        next_at(&self.entries, node)
+        next_below(&self.entries, node)
     }
 
     /// How many nodes were put into the tree's store before a node.
