@@ -1,5 +1,6 @@
 pub mod Walks
 pub mod Indents
+pub mod Plains
 pub mod Looking
 pub mod Givens
 pub mod Printings
