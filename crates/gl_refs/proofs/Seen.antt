@@ -15,7 +15,7 @@ use Rattle.gl_arena.specs.Arena.{Arena, named, with_value, Ends}
 use Rattle.gl_arena.proofs.Values.{with_value-writes}
 use Rattle.gl_arena.proofs.Mapped.{named-mapped, with_value-mapped}
 use Rattle.gl_tags.specs.Tags as t
-use Rattle.gl_refs.specs.Forms.{V, Form, constant_form, source_form, prop_form, call_form, cat_form, all_form, called, IsReadFor, IsUnread}
+use Rattle.gl_refs.specs.Forms.{V, Form, constant_form, source_form, prop_form, call_form, cat_form, all_form, form_or, form_at, called, IsReadFor, IsUnread}
 use Rattle.gl_refs.specs.State as s
 use Rattle.gl_refs.specs.State.{forms, held, is_source, is_cell, is_item, IsKept, IsSound, Settles, Puts}
 use Rattle.gl_refs.specs.Refs as r
@@ -45,6 +45,16 @@ of_seen P a h = subst P (rows-seen a) h
 -- and where both see the same
 pub rows_same : (P : s.Rows → Type 0) (a b : Arena Row) → rows_in b ≡ rows_in a → P (rows_of a) → P (rows_of b)
 rows_same P a b e h = of_seen P b (subst (λ x. P (λ i. named x i)) (sym e) (to_seen P a h))
+
+-- a row that was found
+pub row_is : {B : Type 0} (f : B → Row) (a : Arena Row) (id : Id) (o : Option B) (x : B) → option_map f o ≡ named a id → o ≡ Some x → named a id ≡ Some (f x)
+row_is f a id o x e h = sym e ∙ ap (option_map f) h
+
+pub seen_is : {B : Type 0} (f : B → Row) (a : Arena Row) (id : Id) (o : Option B) (x : B) → option_map f o ≡ named a id → o ≡ Some x → rows_of a id ≡ Some (seen_row (f x))
+seen_is f a id o x e h = ap (option_map seen_row) (row_is f a id o x e h)
+
+pub kind_at : {B : Type 0} (f : B → Row) (a : Arena Row) (id : Id) (o : Option B) (x : B) → option_map f o ≡ named a id → o ≡ Some x → form_at (forms (rows_of a)) id ≡ seen_kind (f x).kind
+kind_at f a id o x e h = ap (λ o. form_or (option_map (λ (q : s.Row). q.form) o)) (seen_is f a id o x e h)
 
 -- a last evaluation is put in a row
 pub puts_last : (a : Arena Row) (id : Id) (row new : Row) (last : Last) → named a id ≡ Some row → new ≡ record row { last = Some last } → Puts (rows_of a) (rows_of (with_value a id new)) id (seen_last last)

@@ -2,13 +2,13 @@
 ghost use Rattle.std.specs.Prelude.{◌≡◌, ◌++◌, [], Some, IfOk, OnErr, IfSome, map, is_some, IsSome, IsTrue, ◌↔◌, true, not, ltb, option_map};
 ghost use Rattle.gl_value.specs.View.{view};
 ghost use Rattle.gl_tags.specs.Tags as t;
-ghost use Rattle.gl_refs.specs.Forms.{Each};
-ghost use Rattle.gl_refs.specs.State.{kept, held_tag, reads_of, IsKept, IsSound, Gathers, Swaps, Settles, IsValid, is_combined};
-ghost use Rattle.gl_refs.specs.View.{rows_of};
+ghost use Rattle.gl_refs.specs.Forms.{Each, reads};
+ghost use Rattle.gl_refs.specs.State.{kept, held_tag, held_value, reads_of, IsKept, IsSound, Gathers, Swaps, Settles, IsValid, is_combined};
+ghost use Rattle.gl_refs.specs.View.{rows_of, seen_kind};
 ghost use Rattle.gl_refs.specs.Counting.{Counts};
 
 use crate::RefId;
-use crate::row::{Kind, Last, Rows, held_tag, own_tag, part_at, put_last};
+use crate::row::{Kind, Last, Rows, held_tag, part_at, put_last, tag_in};
 use crate::values::form_value;
 use gl_tags::{TagId, Tags};
 use gl_value::Value;
@@ -33,17 +33,15 @@ pub(crate) fn is_kept(tags: &mut Tags, rows: &Rows, id: RefId) -> bool
     ensures value { result ≡ is_some (kept tags.old (rows_of rows.now) id) }
     ensures stays { tags.new ≡ tags.old }
 {
-    if rows.live(id) {
-        let row = rows.get(id);
-        match &row.kind {
+    match rows.find(id) {
+        Some(row) => match &row.kind {
             Kind::Bound(_) => match &row.last {
                 Some(last) => is_fresh(tags, last.tag, last.order),
                 None => false,
             },
             _ => true,
-        }
-    } else {
-        false
+        },
+        None => false,
     }
 }
 
@@ -53,17 +51,15 @@ pub(crate) fn is_latest(tags: &Tags, rows: &Rows, id: RefId) -> bool
     requires { IsSound tags.now (rows_of rows.now) }
     ensures { IsTrue result → IsKept tags.now (rows_of rows.now) id }
 {
-    if rows.live(id) {
-        let row = rows.get(id);
-        match &row.kind {
+    match rows.find(id) {
+        Some(row) => match &row.kind {
             Kind::Bound(_) => match &row.last {
                 Some(last) => last.order == tags.count(),
                 None => false,
             },
             _ => true,
-        }
-    } else {
-        false
+        },
+        None => false,
     }
 }
 
@@ -73,28 +69,26 @@ pub(crate) fn is_valid(tags: &mut Tags, rows: &Rows, id: RefId, since: u128) -> 
     ensures value { IsTrue result ↔ IsValid tags.old since (rows_of rows.now id) }
     ensures stays { tags.new ≡ tags.old }
 {
-    if rows.live(id) {
-        let row = rows.get(id);
-        match &row.kind {
+    match rows.find(id) {
+        Some(row) => match &row.kind {
             Kind::Constant(_) => true,
             Kind::Source { tag, .. } => tags.validate(*tag, since),
             Kind::Bound(_) => match &row.last {
                 Some(last) => tags.validate(last.tag, since),
                 None => false,
             },
-        }
-    } else {
-        false
+        },
+        None => false,
     }
 }
 
-// The tags of what is held of those that a reference reads.
-fn tags_of(alloc: Global, tags: &Tags, rows: &Rows, id: RefId) -> Result<FewTags, AllocError>
-    ensures { IfOk result (λ ids. ids.items ≡ map (held_tag tags.now (rows_of rows.now)) (reads_of (rows_of rows.now) id)) }
+// The tags of what is held of those that a row of that kind reads.
+fn tags_of(alloc: Global, tags: &Tags, rows: &Rows, kind: &Kind) -> Result<FewTags, AllocError>
+    ensures { IfOk result (λ ids. ids.items ≡ map (held_tag tags.now (rows_of rows.now)) (reads (held_value (rows_of rows.now)) (seen_kind kind.now))) }
 {
     let mut ids = SmallVec::new(alloc);
     for at in 0..usize::MAX {
-        let Some(part) = part_at(rows, None, id, at) else {
+        let Some(part) = part_at(rows, None, kind, at) else {
             return Ok(ids);
         };
         ids.push(held_tag(tags, rows, part))?;
@@ -128,18 +122,17 @@ pub(crate) struct Found {
 fn gather(alloc: Global, tags: &Tags, rows: &Rows, id: RefId) -> Result<Option<Found>, AllocError>
     ensures { IfOk result (λ o. IfSome o (λ f. Gathers tags.now (rows_of rows.now) id (view f.value) f.tags.items f.old)) }
 {
-    if rows.live(id) {
-        match &rows.get(id).kind {
-            Kind::Bound(form) => {
-                let value = form_value(alloc, rows, None, form)?;
-                let tags = tags_of(alloc, tags, rows, id)?;
-                let old = own_tag(rows, id);
-                Ok(Some(Found { value, tags, old }))
-            }
-            _ => Ok(None),
+    let Some(row) = rows.find(id) else {
+        return Ok(None);
+    };
+    match &row.kind {
+        Kind::Bound(form) => {
+            let value = form_value(alloc, rows, None, form)?;
+            let tags = tags_of(alloc, tags, rows, &row.kind)?;
+            let old = tag_in(row);
+            Ok(Some(Found { value, tags, old }))
         }
-    } else {
-        Ok(None)
+        _ => Ok(None),
     }
 }
 

@@ -25,8 +25,11 @@ fn next_missing(
 ) -> Result<Option<Stale>, AllocError>
     ensures { Each (IsFound table.now (rows_of rows.now)) (take next (reads_in table.now (rows_of rows.now) id)) → IfOk result (λ o. IfNone o (Each (IsFound table.now (rows_of rows.now)) (reads_in table.now (rows_of rows.now) id))) }
 {
+    let Some(row) = rows.find(id) else {
+        return Ok(None);
+    };
     for at in next..usize::MAX {
-        let Some(part) = part_at(rows, Some(table), id, at) else {
+        let Some(part) = part_at(rows, Some(table), &row.kind, at) else {
             return Ok(None);
         };
         if found_value(rows, table, part).is_none() {

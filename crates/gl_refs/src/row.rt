@@ -3,9 +3,9 @@ ghost use Rattle.std.specs.Prelude.{◌≡◌, ◌++◌, [], Some, IsSome, IfSom
 ghost use Rattle.gl_arena.specs.Arena.{named, with_value};
 ghost use Rattle.gl_value.specs.Value.{truthy};
 ghost use Rattle.gl_value.specs.View.{view};
-ghost use Rattle.gl_refs.specs.Forms.{all_form, reads, chosen, ids_of, form_at};
+ghost use Rattle.gl_refs.specs.Forms.{all_form, reads, chosen, ids_of};
 ghost use Rattle.gl_refs.specs.State.{AreParts, forms, held, held_tag, own_tag, is_readable, is_cell, is_item, is_position, IsSource, is_source, Puts};
-ghost use Rattle.gl_refs.specs.View.{rows_of, found_in, shown_in, value_in, seen_form, seen_last, seen_row, row_with, kind_with};
+ghost use Rattle.gl_refs.specs.View.{rows_of, found_in, shown_in, value_in, seen_form, seen_kind, seen_last, seen_row, row_with, kind_with};
 ghost use Rattle.gl_refs.specs.Counting.{Counts};
 
 use crate::table::Table;
@@ -63,15 +63,14 @@ fn held_in(row: &Row) -> Option<&Value>
 pub(crate) fn held(rows: &Rows, id: RefId) -> Option<&Value>
     ensures { option_map (λ v. view v.now) result ≡ held (rows_of rows.now id) }
 {
-    if rows.live(id) {
-        held_in(rows.get(id))
-    } else {
-        None
+    match rows.find(id) {
+        Some(row) => held_in(row),
+        None => None,
     }
 }
 
 // The tag that a row owns.
-fn tag_in(row: &Row) -> Option<TagId>
+pub(crate) fn tag_in(row: &Row) -> Option<TagId>
     ensures { result ≡ own_tag (Some (seen_row row.now)) }
 {
     match &row.kind {
@@ -87,10 +86,9 @@ fn tag_in(row: &Row) -> Option<TagId>
 pub(crate) fn own_tag(rows: &Rows, id: RefId) -> Option<TagId>
     ensures { result ≡ own_tag (rows_of rows.now id) }
 {
-    if rows.live(id) {
-        tag_in(rows.get(id))
-    } else {
-        None
+    match rows.find(id) {
+        Some(row) => tag_in(row),
+        None => None,
     }
 }
 
@@ -108,10 +106,9 @@ pub(crate) fn held_tag(tags: &Tags, rows: &Rows, id: RefId) -> TagId
 pub(crate) fn readable(rows: &Rows, id: RefId) -> bool
     ensures { result ≡ is_readable (forms (rows_of rows.now) id) }
 {
-    if rows.live(id) {
-        !matches!(&rows.get(id).kind, Kind::Bound(Form::All(_)))
-    } else {
-        false
+    match rows.find(id) {
+        Some(row) => !matches!(&row.kind, Kind::Bound(Form::All(_))),
+        None => false,
     }
 }
 
@@ -120,13 +117,12 @@ pub(crate) fn is_source(rows: &Rows, id: RefId, of_items: bool) -> bool
     ensures cell { of_items ≡ false → result ≡ is_cell (forms (rows_of rows.now) id) }
     ensures item { of_items ≡ true → result ≡ is_item (forms (rows_of rows.now) id) }
 {
-    if rows.live(id) {
-        match &rows.get(id).kind {
+    match rows.find(id) {
+        Some(row) => match &row.kind {
             Kind::Source { item, .. } => *item == of_items,
             _ => false,
-        }
-    } else {
-        false
+        },
+        None => false,
     }
 }
 
@@ -134,11 +130,9 @@ pub(crate) fn is_source(rows: &Rows, id: RefId, of_items: bool) -> bool
 pub(crate) fn is_position(rows: &Rows, id: RefId) -> bool
     ensures { result ≡ is_position (rows_of rows.now id) }
 {
-    if rows.live(id) {
-        let row = rows.get(id);
-        matches!(&row.kind, Kind::Bound(Form::All(_))) && row.last.is_some()
-    } else {
-        false
+    match rows.find(id) {
+        Some(row) => matches!(&row.kind, Kind::Bound(Form::All(_))) && row.last.is_some(),
+        None => false,
     }
 }
 
@@ -146,13 +140,12 @@ pub(crate) fn is_position(rows: &Rows, id: RefId) -> bool
 pub(crate) fn parts_of(rows: &Rows, id: RefId) -> Option<&[RefId]>
     ensures { AreParts result (forms (rows_of rows.now) id) }
 {
-    if rows.live(id) {
-        match &rows.get(id).kind {
+    match rows.find(id) {
+        Some(row) => match &row.kind {
             Kind::Bound(Form::All(ids)) => Some(ids.as_slice()),
             _ => None,
-        }
-    } else {
-        None
+        },
+        None => None,
     }
 }
 
@@ -163,14 +156,13 @@ pub(crate) type Found<'a> = Option<&'a Table>;
 pub(crate) fn found_value<'a>(rows: &'a Rows, table: &'a Table, id: RefId) -> Option<&'a Value>
     ensures { option_map (λ v. view v.now) result ≡ found_in table.now (rows_of rows.now) id }
 {
-    if rows.live(id) {
-        match &rows.get(id).kind {
+    match rows.find(id) {
+        Some(row) => match &row.kind {
             Kind::Constant(value) => Some(value),
             Kind::Source { value, .. } => Some(value),
             Kind::Bound(_) => table.get(rows.stamp(id)),
-        }
-    } else {
-        None
+        },
+        None => None,
     }
 }
 
@@ -252,17 +244,13 @@ fn form_part(rows: &Rows, found: Found<'_>, form: &Form, at: usize) -> Option<Re
     }
 }
 
-// The reference that is read at a place, by what is shown of those before it.
-pub(crate) fn part_at(rows: &Rows, found: Found<'_>, id: RefId, at: usize) -> Option<RefId>
-    ensures { result ≡ slice_get (reads (value_in found.entry (rows_of rows.now)) (form_at (forms (rows_of rows.now)) id)) at }
+// The reference that a row of that kind reads at a place, by what is shown of those before it.
+pub(crate) fn part_at(rows: &Rows, found: Found<'_>, kind: &Kind, at: usize) -> Option<RefId>
+    ensures { result ≡ slice_get (reads (value_in found.entry (rows_of rows.now)) (seen_kind kind.now)) at }
 {
-    if rows.live(id) {
-        match &rows.get(id).kind {
-            Kind::Bound(form) => form_part(rows, found, form, at),
-            _ => None,
-        }
-    } else {
-        None
+    match kind {
+        Kind::Bound(form) => form_part(rows, found, form, at),
+        _ => None,
     }
 }
 

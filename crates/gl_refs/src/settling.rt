@@ -43,8 +43,11 @@ fn next_stale(
     ensures none { IfOk result (λ o. IfNone o (Each (IsKept tags.old (rows_of rows.now)) (reads_of (rows_of rows.now) id))) }
     ensures stays { tags.new ≡ tags.old }
 {
+    let Some(row) = rows.find(id) else {
+        return Ok(None);
+    };
     for at in next..usize::MAX {
-        let Some(part) = part_at(rows, None, id, at) else {
+        let Some(part) = part_at(rows, None, &row.kind, at) else {
             return Ok(None);
         };
         if !is_kept(tags, rows, part) {

@@ -41,7 +41,10 @@ fn name_at(kind: &Kind, at: usize) -> Option<RefId>
 fn fits_more(rows: &Rows, id: RefId, count: usize) -> bool
     ensures { result ≡ true → (row : Row) × (named rows.now id ≡ Some row) × (row.readers + count < 2 ^ 64) }
 {
-    rows.live(id) && rows.get(id).readers.checked_add(count).is_some()
+    match rows.find(id) {
+        Some(row) => row.readers.checked_add(count).is_some(),
+        None => false,
+    }
 }
 
 // Whether all that a row of that kind names can be counted.
@@ -172,5 +175,8 @@ pub(crate) fn unread(rows: &Rows, id: RefId) -> bool
     ensures { IsTrue result ↔ (IsSome (forms (rows_of rows.now) id) × IsUnread (forms (rows_of rows.now)) id) }
 {
     rows.stamps();
-    rows.live(id) && rows.get(id).readers == 0
+    match rows.find(id) {
+        Some(row) => row.readers == 0,
+        None => false,
+    }
 }

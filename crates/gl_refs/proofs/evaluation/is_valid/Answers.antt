@@ -3,19 +3,22 @@ use Rattle.gl_arena.specs.Arena.{named}
 use Rattle.gl_refs.specs.View.{seen_row, seen_kind, seen_last}
 use Rattle.gl_refs.specs.State.{is_bound, RowFits}
 use Rattle.gl_refs.proofs.Rows.{bound_last, bound_form, dirty_live, combined_live}
+use Rattle.gl_refs.proofs.Seen.{seen_is}
 use Rattle.gl_refs.proofs.evaluation.is_valid.Goals as goal
 
 pub validate-requires : goal.validate-requires
 validate-requires c =
-    let r = c.get-row.result.now in
+    let r = c.in-Some.row.now in
     let tags = c.args.tags.now in
     dirty_live (named tags.tags c.in-Source.tag)
-    (subst (λ k. RowFits tags (seen_kind k) (option_map seen_last r.last)) c.in-Source.is (c.requires.fits c.args.id (seen_row r) (ap (option_map seen_row) c.get-row.ensures)))
+    (subst (λ k. RowFits tags (seen_kind k) (option_map seen_last r.last)) c.in-Source.is
+    (c.requires.fits c.args.id (seen_row r) (seen_is (λ v. v.now) c.args.rows.now c.args.id c.find.result c.in-Some.row c.find.ensures.id c.in-Some.is)))
 
-pub validate-requires-in-Some : goal.validate-requires-in-Some
-validate-requires-in-Some c =
-    let r = c.get-row.result.now in
+pub validate-requires-in-Some-last : goal.validate-requires-in-Some-last
+validate-requires-in-Some-last c =
+    let r = c.in-Some.row.now in
     let tags = c.args.tags.now in
-    combined_live (named tags.tags c.in-Some.last.tag)
-    (bound_last tags (seen_kind r.kind) (option_map seen_last r.last) (seen_last c.in-Some.last) (ap (λ k. is_bound (seen_kind k)) c.in-Bound.is ∙ bound_form c.in-Bound.field-0)
-    (c.requires.fits c.args.id (seen_row r) (ap (option_map seen_row) c.get-row.ensures)) (ap (option_map seen_last) c.in-Some.is))
+    let last = c.in-Some-last.last in
+    combined_live (named tags.tags last.tag)
+    (bound_last tags (seen_kind r.kind) (option_map seen_last r.last) (seen_last last) (ap (λ k. is_bound (seen_kind k)) c.in-Bound.is ∙ bound_form c.in-Bound.field-0)
+    (c.requires.fits c.args.id (seen_row r) (seen_is (λ v. v.now) c.args.rows.now c.args.id c.find.result c.in-Some.row c.find.ensures.id c.in-Some.is)) (ap (option_map seen_last) c.in-Some-last.is))
