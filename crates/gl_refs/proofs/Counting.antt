@@ -19,7 +19,7 @@ use Rattle.gl_refs.specs.Counting.{once, times, lists, readers, Counts, Fits}
 use Rattle.gl_value.specs.declared.value.Value.{Value}
 use Rattle.gl_refs.specs.declared.row.Row.{Row}
 use Rattle.gl_refs.specs.declared.row.Kind.{Kind}
-use Rattle.gl_refs.specs.declared.row.Kind.TheVariants.{Constant, Source, Bound}
+use Rattle.gl_refs.specs.declared.row.Kind.TheVariants.{Constant, Source, Position, Bound}
 use Rattle.gl_refs.proofs.Rows.{some_is}
 use Rattle.gl_refs.proofs.Totals.{times_none, none_times, times_most, total_gives, total_ends, total_same, total_one, total_none}
 
@@ -172,7 +172,8 @@ slot_is s (Some e) v h = by (e.0 == s) refl h where
 pub kind_parts : (k : Kind) (v : Value) → parts (seen_kind (kind_with k v)) ≡ parts (seen_kind k)
 kind_parts (Constant x) v = refl
 kind_parts (Source item tag x) v = refl
-kind_parts (Bound g) v = refl
+kind_parts (Position ids last) v = refl
+kind_parts (Bound b) v = refl
 
 -- one row counts otherwise
 module _ (a : Arena Row) (id : Id) (row new : Row) (is : named a id ≡ Some row) (seen : seen_row new ≡ seen_row row) where

@@ -5,12 +5,14 @@ use Rattle.std.proofs.lemmas.Bool.{ltb-false, le-ltb}
 use Rattle.gl_arena.specs.Id.{Id}
 use Rattle.gl_arena.specs.Arena.{named}
 use Rattle.gl_tags.specs.Tags as t
-use Rattle.gl_refs.specs.Forms.{Form, constant_form, source_form, prop_form, call_form, cat_form, all_form, Pair, pair_by, form_or, below, meaning, Like}
+use Rattle.gl_refs.specs.Forms.{V, Form, constant_form, source_form, prop_form, call_form, cat_form, all_form, Pair, pair_by, form_or, below, value_by, meaning, Like}
 use Rattle.gl_refs.specs.State.{Last, Row, Rows, forms, Kept, last_kept, kept_last, held_last, held_by, held, held_tag, own_tag, kept_by, kept_row, kept, kept_pair, IsRight, own_by, is_combined, LastFits, RowFits, is_bound}
 use Rattle.gl_refs.proofs.Meanings.{meaning_is}
-use Rattle.gl_refs.specs.View.{seen_form}
+use Rattle.gl_refs.specs.View.{seen_form, seen_rule, TakesLast}
 use Rattle.gl_refs.specs.declared.form.Form as c
 use Rattle.gl_refs.specs.declared.form.Form.TheVariants.{Prop, Call, Cat, All}
+use Rattle.gl_refs.specs.declared.row.Rule.{Rule}
+use Rattle.gl_refs.specs.declared.row.Rule.TheVariants as rule
 
 pub some_is : {A : Type 0} (x y : A) → Some x ≡ Some y → x ≡ y
 some_is x y e = cc
@@ -115,6 +117,20 @@ bound_form (Prop r n) = refl
 bound_form (Call n ids ns) = refl
 bound_form (Cat ids) = refl
 bound_form (All ids) = refl
+
+pub bound_rule : (g : Rule) → is_bound (seen_rule g) ≡ true
+bound_rule (rule.Prop r n) = refl
+bound_rule (rule.Call n ids ns) = refl
+bound_rule (rule.Cat ids) = refl
+
+-- what a form gives may be the value of an evaluation
+pub takes_value : (f : Id → V) (g : Form) (v : V) → is_bound g ≡ true → v ≡ value_by f g → TakesLast g v
+takes_value f (constant_form x) v e h = absurd (let n : false ≡ true = e in cc)
+takes_value f (source_form k s x) v e h = absurd (let n : false ≡ true = e in cc)
+takes_value f (prop_form r n) v e h = tt
+takes_value f (call_form n ids ns) v e h = tt
+takes_value f (cat_form ids) v e h = tt
+takes_value f (all_form ids) v e h = h
 
 pub dirty_live : (o : Option t.Tag) → t.is_dirtyable o ≡ true → IsSome o
 dirty_live None e = absurd (let n : false ≡ true = e in cc)

@@ -20,13 +20,13 @@ use Rattle.gl_refs.specs.State as s
 use Rattle.gl_refs.specs.State.{forms, held, is_source, is_cell, is_item, IsKept, IsSound, Settles, Puts}
 use Rattle.gl_refs.specs.Refs as r
 use Rattle.gl_refs.specs.Refs.{Refs, Reads, HasRead}
-use Rattle.gl_refs.specs.View.{rows_in, rows_of, seen_form, seen_row, seen_kind, seen_last, row_with, kind_with}
+use Rattle.gl_refs.specs.View.{rows_in, rows_of, seen_rule, seen_row, seen_kind, kind_last, seen_last, row_with, kind_with}
 use Rattle.gl_refs.specs.declared.row.Row.{Row}
 use Rattle.gl_refs.specs.declared.row.Last.{Last}
 use Rattle.gl_refs.specs.declared.row.Kind.{Kind}
-use Rattle.gl_refs.specs.declared.row.Kind.TheVariants.{Constant, Source, Bound}
-use Rattle.gl_refs.specs.declared.form.Form as c
-use Rattle.gl_refs.specs.declared.form.Form.TheVariants.{Prop, Call, Cat, All}
+use Rattle.gl_refs.specs.declared.row.Kind.TheVariants.{Constant, Source, Position, Bound}
+use Rattle.gl_refs.specs.declared.row.Rule.{Rule}
+use Rattle.gl_refs.specs.declared.row.Rule.TheVariants as rule
 use Rattle.gl_refs.proofs.Rows.{some_is}
 use Rattle.gl_refs.proofs.Freeing.{free_sound}
 use Rattle.gl_refs.proofs.Computing.{settles_none}
@@ -57,11 +57,11 @@ pub kind_at : {B : Type 0} (f : B → Row) (a : Arena Row) (id : Id) (o : Option
 kind_at f a id o x e h = ap (λ o. form_or (option_map (λ (q : s.Row). q.form) o)) (seen_is f a id o x e h)
 
 -- a last evaluation is put in a row
-pub puts_last : (a : Arena Row) (id : Id) (row new : Row) (last : Last) → named a id ≡ Some row → new ≡ record row { last = Some last } → Puts (rows_of a) (rows_of (with_value a id new)) id (seen_last last)
-puts_last a id row new last e f =
+pub puts_last : (a : Arena Row) (id : Id) (row new : Row) (last : Last) → named a id ≡ Some row → seen_kind new.kind ≡ seen_kind row.kind → kind_last new.kind ≡ Some (seen_last last) → Puts (rows_of a) (rows_of (with_value a id new)) id (seen_last last)
+puts_last a id row new last e form put =
     let w = with_value-writes a id new (subst IsSome (sym e) refl) in
     record {
-      given = λ q g. ap (option_map seen_row) w.given ∙ (ap (λ x. Some (seen_row x)) f
+      given = λ q g. ap (option_map seen_row) w.given ∙ ((λ t. let y : s.Row = record { form = form t; last = put t } in Some y)
           ∙ ap (λ (x : s.Row). let y : s.Row = record { form = x.form; last = Some (seen_last last) } in Some y) (some_is (seen_row row) q (sym (ap (option_map seen_row) e) ∙ g)));
       others = λ k ne. ap (option_map seen_row) (w.others k ne);
     }
@@ -230,12 +230,18 @@ code_row (Some r) q e = record { row = r; is = refl; seen = some_is (seen_row r)
 kind_given : (k : Kind) (value : Value) (kind : Bool) (tag : Id) (was : V) → seen_kind k ≡ source_form kind tag was → seen_kind (kind_with k value) ≡ source_form kind tag (view value)
 kind_given (Constant v) value kind tag was e = absurd (let n : constant_form (view v) ≡ source_form kind tag was = e in cc)
 kind_given (Source item u v) value kind tag was e = let n : source_form item u (view v) ≡ source_form kind tag was = e in let p : item ≡ kind = cc in let q : u ≡ tag = cc in λ t. source_form (p t) (q t) (view value)
-kind_given (Bound g) value kind tag was e = absurd (by g e) where
-  by : (g : c.Form) → seen_form g ≡ source_form kind tag was → ⊥
-  by (Prop x n) e = let m : prop_form x n ≡ source_form kind tag was = e in cc
-  by (Call h ids ns) e = let m : call_form h ids ns ≡ source_form kind tag was = e in cc
-  by (Cat ids) e = let m : cat_form ids ≡ source_form kind tag was = e in cc
-  by (All ids) e = let m : all_form ids ≡ source_form kind tag was = e in cc
+kind_given (Position ids last) value kind tag was e = absurd (let n : all_form ids ≡ source_form kind tag was = e in cc)
+kind_given (Bound b) value kind tag was e = absurd (by b.value.rule e) where
+  by : (g : Rule) → seen_rule g ≡ source_form kind tag was → ⊥
+  by (rule.Prop x n) e = let m : prop_form x n ≡ source_form kind tag was = e in cc
+  by (rule.Call h ids ns) e = let m : call_form h ids ns ≡ source_form kind tag was = e in cc
+  by (rule.Cat ids) e = let m : cat_form ids ≡ source_form kind tag was = e in cc
+
+last_given : (k : Kind) (value : Value) → kind_last (kind_with k value) ≡ kind_last k
+last_given (Constant v) value = refl
+last_given (Source item u v) value = refl
+last_given (Position ids last) value = refl
+last_given (Bound b) value = refl
 
 -- a source is given a value
 module _ (a b : Arena Row) (id : Id) (value : Value) (put : (row : Row) → named a id ≡ Some row → b ≡ with_value a id (row_with row value)) (kind : Bool) (tag : Id) (was : V) (last : Option s.Last)
@@ -247,7 +253,7 @@ module _ (a b : Arena Row) (id : Id) (value : Value) (put : (row : Row) → name
   here = code_row (named a id) (record { form = source_form kind tag was; last = last }) old
 
   given_is : ◌≡◌ {A = s.Row} (seen_row (row_with here.row value)) (record { form = source_form kind tag (view value); last = last })
-  given_is = λ t. record { form = kind_given here.row.kind value kind tag was (ap (λ (x : s.Row). x.form) here.seen) t; last = ap (λ (x : s.Row). x.last) here.seen t }
+  given_is = λ t. record { form = kind_given here.row.kind value kind tag was (ap (λ (x : s.Row). x.form) here.seen) t; last = (last_given here.row.kind value ∙ ap (λ (x : s.Row). x.last) here.seen) t }
 
   pub put_rows : rows_in b ≡ with_value (rows_in a) id (record { form = source_form kind tag (view value); last = last })
   put_rows = ap rows_in (put here.row here.is) ∙ (with_value-mapped seen_row a id (row_with here.row value) ∙ ap (with_value (rows_in a) id) given_is)

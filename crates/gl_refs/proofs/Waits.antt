@@ -12,10 +12,10 @@ use Rattle.gl_refs.proofs.Meanings.{each_map, reads_front}
 use Rattle.gl_refs.proofs.Computing.{value_now}
 
 -- the value of now
-abbrev value_at : Rows → Id → V
+abbrev pub value_at : Rows → Id → V
 value_at rows q = (meaning (forms rows) q).value
 
-held_now : (tags : t.Tags) (rows : Rows) (q : Id) → IsSound tags rows → IsKept tags rows q → held_value rows q ≡ value_at rows q
+pub held_now : (tags : t.Tags) (rows : Rows) (q : Id) → IsSound tags rows → IsKept tags rows q → held_value rows q ≡ value_at rows q
 held_now tags rows q sound h = ap (λ o. unwrap_or o undefined) (value_now tags rows q sound h)
 
 pub each_next : (P : Id → Type 0) (xs : List Id) (k : ℕ) (q : Id) → slice_get xs k ≡ Some q → P q → Each P (take k xs) → Each P (take (suc k) xs)

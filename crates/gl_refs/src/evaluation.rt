@@ -9,7 +9,7 @@ ghost use Rattle.gl_refs.specs.Counting.{Counts};
 
 use crate::RefId;
 use crate::row::{Kind, Last, Rows, held_tag, part_at, put_last, tag_in};
-use crate::values::form_value;
+use crate::values::kind_value;
 use gl_tags::{TagId, Tags};
 use gl_value::Value;
 use smallvec::SmallVec;
@@ -35,7 +35,11 @@ pub(crate) fn is_kept(tags: &mut Tags, rows: &Rows, id: RefId) -> bool
 {
     match rows.find(id) {
         Some(row) => match &row.kind {
-            Kind::Bound(_) => match &row.last {
+            Kind::Position { last, .. } => match last {
+                Some(mark) => is_fresh(tags, mark.tag, mark.order),
+                None => false,
+            },
+            Kind::Bound(bound) => match &bound.last {
                 Some(last) => is_fresh(tags, last.tag, last.order),
                 None => false,
             },
@@ -53,7 +57,11 @@ pub(crate) fn is_latest(tags: &Tags, rows: &Rows, id: RefId) -> bool
 {
     match rows.find(id) {
         Some(row) => match &row.kind {
-            Kind::Bound(_) => match &row.last {
+            Kind::Position { last, .. } => match last {
+                Some(mark) => mark.order == tags.count(),
+                None => false,
+            },
+            Kind::Bound(bound) => match &bound.last {
                 Some(last) => last.order == tags.count(),
                 None => false,
             },
@@ -73,7 +81,11 @@ pub(crate) fn is_valid(tags: &mut Tags, rows: &Rows, id: RefId, since: u128) -> 
         Some(row) => match &row.kind {
             Kind::Constant(_) => true,
             Kind::Source { tag, .. } => tags.validate(*tag, since),
-            Kind::Bound(_) => match &row.last {
+            Kind::Position { last, .. } => match last {
+                Some(mark) => tags.validate(mark.tag, since),
+                None => false,
+            },
+            Kind::Bound(bound) => match &bound.last {
                 Some(last) => tags.validate(last.tag, since),
                 None => false,
             },
@@ -125,14 +137,13 @@ fn gather(alloc: Global, tags: &Tags, rows: &Rows, id: RefId) -> Result<Option<F
     let Some(row) = rows.find(id) else {
         return Ok(None);
     };
-    match &row.kind {
-        Kind::Bound(form) => {
-            let value = form_value(alloc, rows, None, form)?;
+    match kind_value(alloc, rows, None, &row.kind)? {
+        Some(value) => {
             let tags = tags_of(alloc, tags, rows, &row.kind)?;
             let old = tag_in(row);
             Ok(Some(Found { value, tags, old }))
         }
-        _ => Ok(None),
+        None => Ok(None),
     }
 }
 

@@ -1,6 +1,7 @@
 //! References: values that are computed from cells and items, and kept while nothing that was read for them is touched.
 #![tactic(auto)]
 
+mod blank;
 mod evaluation;
 mod form;
 mod ids;

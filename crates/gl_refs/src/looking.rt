@@ -7,10 +7,10 @@ ghost use Rattle.gl_refs.specs.View.{rows_of, reads_in, IsFound, IsTable};
 
 use crate::RefId;
 use crate::evaluation::is_latest;
-use crate::row::{Kind, Rows, found_value, held, part_at};
+use crate::row::{Rows, found_value, held, part_at};
 use crate::settling::{Stack, Stale, Waiting, put_off};
 use crate::table::Table;
-use crate::values::form_value;
+use crate::values::kind_value;
 use gl_tags::Tags;
 use gl_value::Value;
 use smallvec::SmallVec;
@@ -46,18 +46,15 @@ fn work_out(alloc: Global, rows: &Rows, table: &mut Table, id: RefId) -> Result<
     ensures { IsTable table.new (rows_of rows.now) }
 {
     rows.stamps();
-    if !rows.live(id) {
+    let Some(row) = rows.find(id) else {
         return Ok(());
+    };
+    if next_missing(rows, table, id, 0)?.is_some() {
+        return Err(AllocError);
     }
-    match &rows.get(id).kind {
-        Kind::Bound(form) => {
-            if next_missing(rows, table, id, 0)?.is_some() {
-                return Err(AllocError);
-            }
-            let value = form_value(alloc, rows, Some(table), form)?;
-            table.put(rows.stamp(id), value)
-        }
-        _ => Ok(()),
+    match kind_value(alloc, rows, Some(table), &row.kind)? {
+        Some(value) => table.put(rows.stamp(id), value),
+        None => Ok(()),
     }
 }
 
@@ -105,7 +102,7 @@ pub(crate) fn look(alloc: Global, tags: &Tags, rows: &Rows, id: RefId) -> Result
     if is_latest(tags, rows, id) {
         match held(rows, id) {
             Some(value) => value.copy(),
-            None => Err(AllocError),
+            None => Ok(Value::Undefined),
         }
     } else {
         worked_out(alloc, rows, id)

@@ -6,7 +6,7 @@ ghost use Rattle.gl_tags.specs.Tags as t;
 ghost use Rattle.gl_refs.specs.Forms.{Each, parts, source_form, is_known};
 ghost use Rattle.gl_refs.specs.State.{forms, own_by, own_tag, RowFits, IsSound};
 ghost use Rattle.gl_refs.specs.Refs.{GivesSource};
-ghost use Rattle.gl_refs.specs.View.{rows_of, rows_in, seen_kind};
+ghost use Rattle.gl_refs.specs.View.{rows_of, rows_in, seen_kind, kind_last};
 ghost use Rattle.gl_refs.specs.Counting.{Counts};
 
 use crate::RefId;
@@ -21,6 +21,7 @@ pub(crate) fn make(tags: &Tags, rows: &mut Rows, kind: Kind) -> Result<RefId, Al
     requires sound { IsSound tags.now (rows_of rows.old) }
     requires parts { Each (λ q. IsSome (forms (rows_of rows.old) q)) (parts (seen_kind kind)) }
     requires known { is_known (seen_kind kind) ≡ true }
+    requires last { kind_last kind ≡ None }
     requires fits { RowFits tags.now (seen_kind kind) None }
     requires fresh { (i : _) (u : _) → own_by (seen_kind kind) None ≡ Some u → own_tag (rows_of rows.old i) ≢ Some u }
     requires unled { (u : _) → own_by (seen_kind kind) None ≡ Some u → t.IsUnled tags.now u }

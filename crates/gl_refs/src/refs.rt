@@ -10,10 +10,11 @@ ghost use Rattle.gl_refs.specs.Refs.{rows_of, forms_of, meaning_of, HasRoom, Mak
 ghost use Rattle.gl_refs.specs.View.{seen_form};
 ghost use Rattle.gl_refs.specs.Lends.{Rests};
 
+use crate::blank::Blank;
 use crate::evaluation::{is_kept, is_valid};
 use crate::looking::look;
 use crate::making::{make, make_source};
-use crate::row::{Kind, Rows, held, held_tag, is_position, is_source, parts_of, readable};
+use crate::row::{Kind, Rows, held, held_tag, is_position, is_source, kind_of, parts_of, readable};
 use crate::settling::prepare;
 use crate::tally::unread;
 use crate::writing::{end, holds, put};
@@ -30,6 +31,7 @@ use std::marker::Model;
 #[derive(Drop)]
 pub struct Refs {
     alloc: Global,
+    blank: Blank,
     rows: Rows,
     tags: Tags,
     evals: u128,
@@ -66,6 +68,7 @@ impl Refs {
         let _ = tags.constant();
         Ok(Refs {
             alloc,
+            blank: Blank::new(),
             rows: Arena::new(alloc)?,
             tags,
             evals: 0,
@@ -105,7 +108,8 @@ impl Refs {
         ensures ok { IfOk result (λ id. Makes self.old self.new id (seen_form form)) }
         ensures err { OnErr result (self.new ≡ self.old) }
     {
-        make(&self.tags, &mut self.rows, Kind::Bound(form))
+        let kind = kind_of(self.alloc, form)?;
+        make(&self.tags, &mut self.rows, kind)
     }
 
     /// Gives a cell a value, and touches it, whatever the value was.
@@ -156,7 +160,7 @@ impl Refs {
     {
         match held(&self.rows, id) {
             Some(value) => value,
-            None => unreachable!(),
+            None => self.blank.undefined(),
         }
     }
 

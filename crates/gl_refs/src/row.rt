@@ -1,21 +1,23 @@
 // The references by id, with what each keeps.
-ghost use Rattle.std.specs.Prelude.{◌≡◌, ◌++◌, [], Some, IsSome, IfSome, option_map, slice_get, true, false};
+ghost use Rattle.std.specs.Prelude.{◌≡◌, ◌++◌, [], None, Some, IfOk, IsSome, option_map, unwrap_or, slice_get, true, false};
 ghost use Rattle.gl_arena.specs.Arena.{named, with_value};
-ghost use Rattle.gl_value.specs.Value.{truthy};
+ghost use Rattle.gl_value.specs.Value.{truthy, undefined};
 ghost use Rattle.gl_value.specs.View.{view};
 ghost use Rattle.gl_refs.specs.Forms.{all_form, reads, chosen, ids_of};
-ghost use Rattle.gl_refs.specs.State.{AreParts, forms, held, held_tag, own_tag, is_readable, is_cell, is_item, is_position, IsSource, is_source, Puts};
-ghost use Rattle.gl_refs.specs.View.{rows_of, found_in, shown_in, value_in, seen_form, seen_kind, seen_last, seen_row, row_with, kind_with};
+ghost use Rattle.gl_refs.specs.State.{AreParts, forms, held, held_value, held_tag, own_tag, is_readable, is_cell, is_item, is_position, IsSource, is_source, Puts};
+ghost use Rattle.gl_refs.specs.View.{rows_of, found_in, value_in, seen_form, seen_rule, seen_kind, kind_last, TakesLast, seen_last, seen_row, row_with, kind_with};
 ghost use Rattle.gl_refs.specs.Counting.{Counts};
 
 use crate::table::Table;
 use crate::{Form, Ids, NamedIds, RefId};
 use gl_arena::{Arena, RefMark};
 use gl_tags::{TagId, Tags};
-use gl_value::Value;
+use gl_value::{Text, Value};
+use std::alloc::{AllocError, Global};
 use std::mem;
 
-// What a reference computes, or holds by itself.
+// What a reference computes, or holds by itself. Most references are positions, so that what the others keep that are
+// computed stands behind a box.
 #[derive(Drop)]
 pub(crate) enum Kind {
     Constant(Value),
@@ -24,7 +26,33 @@ pub(crate) enum Kind {
         tag: TagId,
         value: Value,
     },
-    Bound(Form),
+    Position {
+        ids: Ids,
+        last: Option<Mark>,
+    },
+    Bound(Box<Bound>),
+}
+
+// When a position was evaluated last, as there is in `Last`. Its value is undefined.
+#[derive(Clone, Copy)]
+pub(crate) struct Mark {
+    pub(crate) order: u64,
+    pub(crate) tag: TagId,
+}
+
+// What a reference computes that is no position, with its last evaluation.
+#[derive(Drop)]
+pub(crate) struct Bound {
+    pub(crate) rule: Rule,
+    pub(crate) last: Option<Last>,
+}
+
+// The forms of all references that are computed but positions.
+#[derive(Drop)]
+pub(crate) enum Rule {
+    Prop(RefId, Text),
+    Call(u16, Ids, NamedIds),
+    Cat(Ids),
 }
 
 // The last evaluation: its value, how many dirtyings there were then, and the tag that leads to its sources.
@@ -39,29 +67,50 @@ pub(crate) struct Last {
 #[derive(Drop)]
 pub(crate) struct Row {
     pub(crate) kind: Kind,
-    pub(crate) last: Option<Last>,
     pub(crate) readers: usize,
 }
 
 pub(crate) type Rows = Arena<Row, RefMark>;
 
-// The value that a row has by itself, or that of its last evaluation.
+// What a reference of that form keeps before it is evaluated.
+pub(crate) fn kind_of(alloc: Global, form: Form) -> Result<Kind, AllocError>
+    ensures form { IfOk result (λ k. seen_kind k ≡ seen_form form) }
+    ensures last { IfOk result (λ k. kind_last k ≡ None) }
+{
+    match form {
+        Form::Prop(part, name) => bound_kind(alloc, Rule::Prop(part, name)),
+        Form::Call(helper, ids, named) => bound_kind(alloc, Rule::Call(helper, ids, named)),
+        Form::Cat(ids) => bound_kind(alloc, Rule::Cat(ids)),
+        Form::All(ids) => Ok(Kind::Position { ids, last: None }),
+    }
+}
+
+fn bound_kind(alloc: Global, rule: Rule) -> Result<Kind, AllocError>
+    ensures form { IfOk result (λ k. seen_kind k ≡ seen_rule rule) }
+    ensures last { IfOk result (λ k. kind_last k ≡ None) }
+{
+    let bound = Box::new(alloc, Bound { rule, last: None })?;
+    Ok(Kind::Bound(bound))
+}
+
+// The value that a row has by itself, or that of its last evaluation. There is none where it is surely undefined.
 fn held_in(row: &Row) -> Option<&Value>
-    ensures { option_map (λ v. view v.now) result ≡ held (Some (seen_row row.now)) }
+    ensures { unwrap_or (option_map (λ v. view v.now) result) undefined ≡ unwrap_or (held (Some (seen_row row.now))) undefined }
 {
     match &row.kind {
         Kind::Constant(value) => Some(value),
         Kind::Source { value, .. } => Some(value),
-        Kind::Bound(_) => match &row.last {
+        Kind::Position { .. } => None,
+        Kind::Bound(bound) => match &bound.last {
             Some(last) => Some(&last.value),
             None => None,
         },
     }
 }
 
-// What is held of a reference.
+// What is held of a reference. There is none where it is surely undefined.
 pub(crate) fn held(rows: &Rows, id: RefId) -> Option<&Value>
-    ensures { option_map (λ v. view v.now) result ≡ held (rows_of rows.now id) }
+    ensures { unwrap_or (option_map (λ v. view v.now) result) undefined ≡ held_value (rows_of rows.now) id }
 {
     match rows.find(id) {
         Some(row) => held_in(row),
@@ -76,7 +125,11 @@ pub(crate) fn tag_in(row: &Row) -> Option<TagId>
     match &row.kind {
         Kind::Constant(_) => None,
         Kind::Source { tag, .. } => Some(*tag),
-        Kind::Bound(_) => match &row.last {
+        Kind::Position { last, .. } => match last {
+            Some(mark) => Some(mark.tag),
+            None => None,
+        },
+        Kind::Bound(bound) => match &bound.last {
             Some(last) => Some(last.tag),
             None => None,
         },
@@ -107,7 +160,7 @@ pub(crate) fn readable(rows: &Rows, id: RefId) -> bool
     ensures { result ≡ is_readable (forms (rows_of rows.now) id) }
 {
     match rows.find(id) {
-        Some(row) => !matches!(&row.kind, Kind::Bound(Form::All(_))),
+        Some(row) => !matches!(&row.kind, Kind::Position { .. }),
         None => false,
     }
 }
@@ -131,7 +184,7 @@ pub(crate) fn is_position(rows: &Rows, id: RefId) -> bool
     ensures { result ≡ is_position (rows_of rows.now id) }
 {
     match rows.find(id) {
-        Some(row) => matches!(&row.kind, Kind::Bound(Form::All(_))) && row.last.is_some(),
+        Some(row) => matches!(&row.kind, Kind::Position { last: Some(_), .. }),
         None => false,
     }
 }
@@ -142,7 +195,7 @@ pub(crate) fn parts_of(rows: &Rows, id: RefId) -> Option<&[RefId]>
 {
     match rows.find(id) {
         Some(row) => match &row.kind {
-            Kind::Bound(Form::All(ids)) => Some(ids.as_slice()),
+            Kind::Position { ids, .. } => Some(ids.as_slice()),
             _ => None,
         },
         None => None,
@@ -160,14 +213,15 @@ pub(crate) fn found_value<'a>(rows: &'a Rows, table: &'a Table, id: RefId) -> Op
         Some(row) => match &row.kind {
             Kind::Constant(value) => Some(value),
             Kind::Source { value, .. } => Some(value),
-            Kind::Bound(_) => table.get(rows.stamp(id)),
+            Kind::Position { .. } | Kind::Bound(_) => table.get(rows.stamp(id)),
         },
         None => None,
     }
 }
 
+// What stands for a reference. There is none where it is undefined.
 pub(crate) fn shown<'a>(rows: &'a Rows, found: Found<'a>, id: RefId) -> Option<&'a Value>
-    ensures { option_map (λ v. view v.now) result ≡ shown_in found.entry (rows_of rows.now) id }
+    ensures { unwrap_or (option_map (λ v. view v.now) result) undefined ≡ value_in found.entry (rows_of rows.now) id }
 {
     match found {
         Some(table) => found_value(rows, table, id),
@@ -227,20 +281,19 @@ pub(crate) fn argument_at(ids: &Ids, named: &NamedIds, at: usize) -> Option<RefI
     }
 }
 
-fn form_part(rows: &Rows, found: Found<'_>, form: &Form, at: usize) -> Option<RefId>
-    ensures { result ≡ slice_get (reads (value_in found.entry (rows_of rows.now)) (seen_form form.now)) at }
+fn rule_part(rows: &Rows, found: Found<'_>, rule: &Rule, at: usize) -> Option<RefId>
+    ensures { result ≡ slice_get (reads (value_in found.entry (rows_of rows.now)) (seen_rule rule.now)) at }
 {
-    match form {
-        Form::Prop(part, _) => { if at == 0 { Some(*part) } else { None } }
-        Form::Call(helper, ids, named) => {
+    match rule {
+        Rule::Prop(part, _) => { if at == 0 { Some(*part) } else { None } }
+        Rule::Call(helper, ids, named) => {
             if *helper < 2 {
                 chosen_at(rows, found, *helper == 0, ids.as_slice(), at)
             } else {
                 argument_at(ids, named, at)
             }
         }
-        Form::Cat(ids) => ids.as_slice().get(at).copied(),
-        Form::All(ids) => ids.as_slice().get(at).copied(),
+        Rule::Cat(ids) => ids.as_slice().get(at).copied(),
     }
 }
 
@@ -249,25 +302,38 @@ pub(crate) fn part_at(rows: &Rows, found: Found<'_>, kind: &Kind, at: usize) -> 
     ensures { result ≡ slice_get (reads (value_in found.entry (rows_of rows.now)) (seen_kind kind.now)) at }
 {
     match kind {
-        Kind::Bound(form) => form_part(rows, found, form, at),
+        Kind::Position { ids, .. } => ids.as_slice().get(at).copied(),
+        Kind::Bound(bound) => rule_part(rows, found, &bound.rule, at),
         _ => None,
     }
 }
 
 pub(crate) fn put_last(rows: &mut Rows, id: RefId, last: Last)
-    requires { IsSome (named rows.old id) }
+    requires live { IsSome (named rows.old id) }
+    requires takes { (row : Row) → named rows.old id ≡ Some row → TakesLast (seen_kind row.kind) (view last.value) }
     ensures puts { Puts (rows_of rows.old) (rows_of rows.new) id (seen_last last) }
     ensures made { rows.new.made ≡ rows.old.made }
     ensures counts { Counts rows.old [] [] → Counts rows.new [] [] }
 {
     rows.stamps();
-    last_in(rows.get_mut(id), last);
+    last_in(&mut rows.get_mut(id).kind, last);
 }
 
-fn last_in(row: &mut Row, last: Last)
-    ensures { row.new ≡ record row.old { last = Some last } }
+// Keeps the last evaluation; of that of a position, which is undefined, only when it was.
+fn last_in(kind: &mut Kind, last: Last)
+    ensures form { seen_kind kind.new ≡ seen_kind kind.old }
+    ensures last { TakesLast (seen_kind kind.old) (view last.value) → kind_last kind.new ≡ Some (seen_last last) }
 {
-    row.last = Some(last);
+    match kind {
+        Kind::Position { last: mark, .. } => {
+            *mark = Some(Mark {
+                order: last.order,
+                tag: last.tag,
+            });
+        }
+        Kind::Bound(bound) => bound.last = Some(last),
+        _ => drop(last),
+    }
 }
 
 pub(crate) fn source_tag(rows: &Rows, id: RefId) -> TagId

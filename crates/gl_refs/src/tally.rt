@@ -1,14 +1,14 @@
 // How often references are named by live forms: each row counts it.
-ghost use Rattle.std.specs.Prelude.{◌≡◌, ◌+◌, ◌-◌, ◌<◌, ◌^◌, ◌∷◌, [], List, Some, IfOk, OnErr, IsSome, IsTrue, ◌↔◌, length, slice_get, true};
+ghost use Rattle.std.specs.Prelude.{◌≡◌, ◌+◌, ◌-◌, ◌<◌, ◌^◌, ◌∷◌, [], List, None, Some, IfOk, OnErr, IsSome, IsTrue, ◌↔◌, length, slice_get, true};
 ghost use Rattle.gl_arena.specs.Id.{Id};
 ghost use Rattle.gl_arena.specs.Arena.{named, Gives, Ends};
 ghost use Rattle.gl_refs.specs.Forms.{Each, parts, AreLower, IsUnread};
 ghost use Rattle.gl_refs.specs.State.{forms};
-ghost use Rattle.gl_refs.specs.View.{rows_of, rows_in, seen_kind};
+ghost use Rattle.gl_refs.specs.View.{rows_of, rows_in, seen_rule, seen_kind, kind_last};
 ghost use Rattle.gl_refs.specs.Counting.{Counts, Fits};
 
-use crate::row::{Kind, Row, Rows, argument_at};
-use crate::{Form, RefId};
+use crate::RefId;
+use crate::row::{Kind, Row, Rows, Rule, argument_at};
 use std::alloc::AllocError;
 
 // How many references a row of that kind names.
@@ -16,11 +16,19 @@ fn part_count(kind: &Kind) -> usize
     ensures { result ≡ length (parts (seen_kind kind.now)) }
 {
     match kind {
-        Kind::Bound(Form::Prop(_, _)) => 1,
-        Kind::Bound(Form::Call(_, ids, named)) => ids.as_slice().len() + named.as_slice().len(),
-        Kind::Bound(Form::Cat(ids)) => ids.len(),
-        Kind::Bound(Form::All(ids)) => ids.len(),
+        Kind::Position { ids, .. } => ids.len(),
+        Kind::Bound(bound) => rule_count(&bound.rule),
         _ => 0,
+    }
+}
+
+fn rule_count(rule: &Rule) -> usize
+    ensures { result ≡ length (parts (seen_rule rule.now)) }
+{
+    match rule {
+        Rule::Prop(_, _) => 1,
+        Rule::Call(_, ids, named) => ids.as_slice().len() + named.as_slice().len(),
+        Rule::Cat(ids) => ids.len(),
     }
 }
 
@@ -29,11 +37,19 @@ fn name_at(kind: &Kind, at: usize) -> Option<RefId>
     ensures { result ≡ slice_get (parts (seen_kind kind.now)) at }
 {
     match kind {
-        Kind::Bound(Form::Prop(part, _)) => { if at == 0 { Some(*part) } else { None } }
-        Kind::Bound(Form::Call(_, ids, named)) => argument_at(ids, named, at),
-        Kind::Bound(Form::Cat(ids)) => ids.as_slice().get(at).copied(),
-        Kind::Bound(Form::All(ids)) => ids.as_slice().get(at).copied(),
+        Kind::Position { ids, .. } => ids.as_slice().get(at).copied(),
+        Kind::Bound(bound) => rule_name(&bound.rule, at),
         _ => None,
+    }
+}
+
+fn rule_name(rule: &Rule, at: usize) -> Option<RefId>
+    ensures { result ≡ slice_get (parts (seen_rule rule.now)) at }
+{
+    match rule {
+        Rule::Prop(part, _) => { if at == 0 { Some(*part) } else { None } }
+        Rule::Call(_, ids, named) => argument_at(ids, named, at),
+        Rule::Cat(ids) => ids.as_slice().get(at).copied(),
     }
 }
 
@@ -133,6 +149,7 @@ fn lower_all(rows: &mut Rows, kind: &Kind)
 pub(crate) fn put_in(rows: &mut Rows, kind: Kind) -> Result<RefId, AllocError>
     requires lower { AreLower (forms (rows_of rows.old)) }
     requires parts { Each (λ q. IsSome (forms (rows_of rows.old) q)) (parts (seen_kind kind)) }
+    requires last { kind_last kind ≡ None }
     requires counts { Counts rows.old [] [] }
     ensures ok { IfOk result (λ id. Gives (rows_in rows.old) (rows_in rows.new) id (record { form = seen_kind kind; last = None })) }
     ensures err { OnErr result (rows_in rows.new ≡ rows_in rows.old) }
@@ -143,12 +160,7 @@ pub(crate) fn put_in(rows: &mut Rows, kind: Kind) -> Result<RefId, AllocError>
     }
     raise_all(rows, &kind);
     rows.stamps();
-    let row = Row {
-        kind,
-        last: None,
-        readers: 0,
-    };
-    match rows.insert(row) {
+    match rows.insert(Row { kind, readers: 0 }) {
         Ok(id) => Ok(id),
         Err((row, error)) => {
             lower_all(rows, &row.kind);

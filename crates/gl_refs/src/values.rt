@@ -1,12 +1,13 @@
-// What a form gives, by what is shown of the references that it reads.
-ghost use Rattle.std.specs.Prelude.{◌≡◌, map, IfOk, OnOk, ◌++◌, not, slice_get};
+// What a reference gives, by what is shown of the references that it reads.
+ghost use Rattle.std.specs.Prelude.{◌≡◌, map, IfOk, OnOk, IfSome, is_some, ◌++◌, not, slice_get, true};
 ghost use Rattle.gl_value.specs.Value.{join_values, property, is_missing, text_of};
 ghost use Rattle.gl_value.specs.View.{view, seen_items};
 ghost use Rattle.gl_refs.specs.Forms.{value_by, called, chosen, value_or};
-ghost use Rattle.gl_refs.specs.View.{rows_of, value_in, seen_form};
+ghost use Rattle.gl_refs.specs.State.{is_bound};
+ghost use Rattle.gl_refs.specs.View.{rows_of, value_in, seen_rule, seen_kind};
 
-use crate::row::{Found, Rows, chosen_at, shown};
-use crate::{Form, Ids, NamedIds, RefId};
+use crate::row::{Found, Kind, Rows, Rule, chosen_at, shown};
+use crate::{Ids, NamedIds, RefId};
 use gl_value::{NamedValues, Text, Value};
 use std::alloc::{AllocError, Global};
 
@@ -120,25 +121,41 @@ fn add_text(rows: &Rows, found: Found<'_>, id: RefId, text: &mut Text) -> Result
     }
 }
 
-// What a form gives.
-pub(crate) fn form_value(
+// What a rule gives.
+fn rule_value(
     alloc: Global,
     rows: &Rows,
     found: Found<'_>,
-    form: &Form,
+    rule: &Rule,
 ) -> Result<Value, AllocError>
-    ensures { IfOk result (λ v. view v ≡ value_by (value_in found.entry (rows_of rows.now)) (seen_form form.now)) }
+    ensures { IfOk result (λ v. view v ≡ value_by (value_in found.entry (rows_of rows.now)) (seen_rule rule.now)) }
 {
-    match form {
-        Form::Prop(part, name) => property(rows, found, *part, name),
-        Form::Call(helper, ids, named) => {
+    match rule {
+        Rule::Prop(part, name) => property(rows, found, *part, name),
+        Rule::Call(helper, ids, named) => {
             if *helper < 2 {
                 choice(rows, found, *helper == 0, ids.as_slice())
             } else {
                 called(alloc, rows, found, *helper, ids, named)
             }
         }
-        Form::Cat(ids) => join(alloc, rows, found, ids.as_slice()),
-        Form::All(_) => Ok(Value::Undefined),
+        Rule::Cat(ids) => join(alloc, rows, found, ids.as_slice()),
+    }
+}
+
+// What a row of that kind gives, where it is computed.
+pub(crate) fn kind_value(
+    alloc: Global,
+    rows: &Rows,
+    found: Found<'_>,
+    kind: &Kind,
+) -> Result<Option<Value>, AllocError>
+    ensures bound { IfOk result (λ o. is_some o ≡ true → is_bound (seen_kind kind.now) ≡ true) }
+    ensures value { IfOk result (λ o. IfSome o (λ v. view v ≡ value_by (value_in found.entry (rows_of rows.now)) (seen_kind kind.now))) }
+{
+    match kind {
+        Kind::Position { .. } => Ok(Some(Value::Undefined)),
+        Kind::Bound(bound) => Ok(Some(rule_value(alloc, rows, found, &bound.rule)?)),
+        _ => Ok(None),
     }
 }

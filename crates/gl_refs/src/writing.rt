@@ -9,18 +9,19 @@ ghost use Rattle.gl_refs.specs.View.{rows_of, rows_in};
 ghost use Rattle.gl_refs.specs.Counting.{Counts};
 
 use crate::RefId;
-use crate::row::{Rows, held, own_tag, put_value, source_tag};
+use crate::row::{Kind, Rows, own_tag, put_value, source_tag};
 use crate::tally::take_out;
 use gl_tags::{TagId, Tags};
 use gl_value::Value;
 
-// Whether that value is held of a reference.
+// Whether a source has that value.
 pub(crate) fn holds(rows: &Rows, id: RefId, value: &Value) -> bool
+    requires { is_source (rows_of rows.now id) ≡ true }
     ensures { IsTrue result ↔ held (rows_of rows.now id) ≡ Some (view value.now) }
 {
-    match held(rows, id) {
-        Some(held) => held.same(value),
-        None => false,
+    match &rows.get(id).kind {
+        Kind::Source { value: held, .. } => held.same(value),
+        _ => unreachable!(),
     }
 }
 
