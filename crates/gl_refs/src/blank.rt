@@ -6,6 +6,7 @@ ghost use Rattle.gl_value.specs.View.{view};
 use gl_value::Value;
 use std::marker::Model;
 
+// Contracts see its value, which is always undefined.
 #[derive(Drop)]
 pub(crate) struct Blank {
     lent: Value,
@@ -27,6 +28,7 @@ impl Model for Blank {
 }
 
 impl Blank {
+    // It takes no memory.
     pub(crate) fn new() -> Blank
         ensures { result ≡ undefined }
     {
@@ -35,6 +37,7 @@ impl Blank {
         }
     }
 
+    // The value, lent.
     pub(crate) fn undefined(&self) -> &Value
         ensures { view result.now ≡ undefined }
     {

@@ -54,6 +54,15 @@ impl Ids {
         self.list
     }
 
+    // The same list, with no more room than it needs.
+    pub(crate) fn fitted(self) -> Ids
+        ensures { result ≡ self }
+    {
+        let mut list = self.list;
+        list.shrink_to_fit();
+        Ids { list }
+    }
+
     pub fn as_slice(&self) -> &[RefId]
         ensures { result.now ≡ self.now }
     {
@@ -113,6 +122,15 @@ impl NamedIds {
         ensures { result.items ≡ self }
     {
         self.list
+    }
+
+    // The same list, with no more room than it needs.
+    pub(crate) fn fitted(self) -> NamedIds
+        ensures { result ≡ self }
+    {
+        let mut list = self.list;
+        list.shrink_to_fit();
+        NamedIds { list }
     }
 
     pub fn as_slice(&self) -> &[(Text, RefId)]

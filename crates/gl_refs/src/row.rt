@@ -16,8 +16,8 @@ use gl_value::{Text, Value};
 use std::alloc::{AllocError, Global};
 use std::mem;
 
-// What a reference computes, or holds by itself. Most references are positions, so that what the others keep that are
-// computed stands behind a box.
+// What a reference computes with its last evaluation, or holds by itself. Most references are positions, so a row has
+// no more room than they want, and what the others keep that are computed stands behind a box.
 #[derive(Drop)]
 pub(crate) enum Kind {
     Constant(Value),
@@ -33,21 +33,22 @@ pub(crate) enum Kind {
     Bound(Box<Bound>),
 }
 
-// When a position was evaluated last, as there is in `Last`. Its value is undefined.
+// The last evaluation of a position, whose value is undefined: how many dirtyings there were then, and the tag that
+// leads to its sources.
 #[derive(Clone, Copy)]
 pub(crate) struct Mark {
     pub(crate) order: u64,
     pub(crate) tag: TagId,
 }
 
-// What a reference computes that is no position, with its last evaluation.
+// What is kept of a reference that is computed and no position.
 #[derive(Drop)]
 pub(crate) struct Bound {
     pub(crate) rule: Rule,
     pub(crate) last: Option<Last>,
 }
 
-// The forms of all references that are computed but positions.
+// What a reference computes that is no position, as in `Form`.
 #[derive(Drop)]
 pub(crate) enum Rule {
     Prop(RefId, Text),
@@ -72,19 +73,25 @@ pub(crate) struct Row {
 
 pub(crate) type Rows = Arena<Row, RefMark>;
 
-// What a reference of that form keeps before it is evaluated.
+// What a reference of that form keeps before it is evaluated. Its lists keep no more room than they need.
 pub(crate) fn kind_of(alloc: Global, form: Form) -> Result<Kind, AllocError>
     ensures form { IfOk result (λ k. seen_kind k ≡ seen_form form) }
     ensures last { IfOk result (λ k. kind_last k ≡ None) }
 {
     match form {
         Form::Prop(part, name) => bound_kind(alloc, Rule::Prop(part, name)),
-        Form::Call(helper, ids, named) => bound_kind(alloc, Rule::Call(helper, ids, named)),
-        Form::Cat(ids) => bound_kind(alloc, Rule::Cat(ids)),
-        Form::All(ids) => Ok(Kind::Position { ids, last: None }),
+        Form::Call(helper, ids, named) => {
+            bound_kind(alloc, Rule::Call(helper, ids.fitted(), named.fitted()))
+        }
+        Form::Cat(ids) => bound_kind(alloc, Rule::Cat(ids.fitted())),
+        Form::All(ids) => Ok(Kind::Position {
+            ids: ids.fitted(),
+            last: None,
+        }),
     }
 }
 
+// What is kept of a reference that computes that, before it is evaluated.
 fn bound_kind(alloc: Global, rule: Rule) -> Result<Kind, AllocError>
     ensures form { IfOk result (λ k. seen_kind k ≡ seen_rule rule) }
     ensures last { IfOk result (λ k. kind_last k ≡ None) }
@@ -136,6 +143,7 @@ pub(crate) fn tag_in(row: &Row) -> Option<TagId>
     }
 }
 
+// The tag that a reference owns.
 pub(crate) fn own_tag(rows: &Rows, id: RefId) -> Option<TagId>
     ensures { result ≡ own_tag (rows_of rows.now id) }
 {
@@ -281,6 +289,7 @@ pub(crate) fn argument_at(ids: &Ids, named: &NamedIds, at: usize) -> Option<RefI
     }
 }
 
+// The reference that is read at a place, by what is shown of those before it.
 fn rule_part(rows: &Rows, found: Found<'_>, rule: &Rule, at: usize) -> Option<RefId>
     ensures { result ≡ slice_get (reads (value_in found.entry (rows_of rows.now)) (seen_rule rule.now)) at }
 {
@@ -308,6 +317,7 @@ pub(crate) fn part_at(rows: &Rows, found: Found<'_>, kind: &Kind, at: usize) -> 
     }
 }
 
+// Keeps a last evaluation of a reference that is computed.
 pub(crate) fn put_last(rows: &mut Rows, id: RefId, last: Last)
     requires live { IsSome (named rows.old id) }
     requires takes { (row : Row) → named rows.old id ≡ Some row → TakesLast (seen_kind row.kind) (view last.value) }
@@ -319,7 +329,7 @@ pub(crate) fn put_last(rows: &mut Rows, id: RefId, last: Last)
     last_in(&mut rows.get_mut(id).kind, last);
 }
 
-// Keeps the last evaluation; of that of a position, which is undefined, only when it was.
+// Keeps a last evaluation. The value of a position is undefined, so it is not kept.
 fn last_in(kind: &mut Kind, last: Last)
     ensures form { seen_kind kind.new ≡ seen_kind kind.old }
     ensures last { TakesLast (seen_kind kind.old) (view last.value) → kind_last kind.new ≡ Some (seen_last last) }

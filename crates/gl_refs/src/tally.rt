@@ -22,6 +22,7 @@ fn part_count(kind: &Kind) -> usize
     }
 }
 
+// How many references a rule names.
 fn rule_count(rule: &Rule) -> usize
     ensures { result ≡ length (parts (seen_rule rule.now)) }
 {
@@ -43,6 +44,7 @@ fn name_at(kind: &Kind, at: usize) -> Option<RefId>
     }
 }
 
+// The one of them at a place.
 fn rule_name(rule: &Rule, at: usize) -> Option<RefId>
     ensures { result ≡ slice_get (parts (seen_rule rule.now)) at }
 {
