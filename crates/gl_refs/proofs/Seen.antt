@@ -56,6 +56,12 @@ seen_is f a id o x e h = ap (option_map seen_row) (row_is f a id o x e h)
 pub kind_at : {B : Type 0} (f : B → Row) (a : Arena Row) (id : Id) (o : Option B) (x : B) → option_map f o ≡ named a id → o ≡ Some x → form_at (forms (rows_of a)) id ≡ seen_kind (f x).kind
 kind_at f a id o x e h = ap (λ o. form_or (option_map (λ (q : s.Row). q.form) o)) (seen_is f a id o x e h)
 
+pub live_named : (a : Arena Row) (id : Id) → IsSome (forms (rows_of a) id) → IsSome (named a id)
+live_named a id h = by (named a id) h where
+  by : (o : Option Row) → IsSome (option_map (λ (q : s.Row). q.form) (option_map seen_row o)) → IsSome o
+  by None h = h
+  by (Some r) h = refl
+
 -- a last evaluation is put in a row
 pub puts_last : (a : Arena Row) (id : Id) (row new : Row) (last : Last) → named a id ≡ Some row → seen_kind new.kind ≡ seen_kind row.kind → kind_last new.kind ≡ Some (seen_last last) → Puts (rows_of a) (rows_of (with_value a id new)) id (seen_last last)
 puts_last a id row new last e form put =

@@ -89,15 +89,14 @@ fn raise_in(row: &mut Row)
     row.readers += 1;
 }
 
-// Counts a reference once more.
+// Counts a live reference once more.
 fn raise(rows: &mut Rows, id: RefId)
-    requires { (row : Row) → named rows.old id ≡ Some row → row.readers + 1 < 2 ^ 64 }
+    requires live { IsSome (named rows.old id) }
+    requires room { (row : Row) → named rows.old id ≡ Some row → row.readers + 1 < 2 ^ 64 }
     ensures seen { rows_in rows.new ≡ rows_in rows.old }
     ensures counts { (rest : List Id) (over : List Id) → Counts rows.old (id ∷ rest) over → Counts rows.new rest over }
 {
-    if rows.live(id) {
-        raise_in(rows.get_mut(id));
-    }
+    raise_in(rows.get_mut(id));
 }
 
 fn lower_in(row: &mut Row)
@@ -120,6 +119,7 @@ fn lower(rows: &mut Rows, id: RefId)
 
 // Counts all that a row of that kind names, before it is put in.
 fn raise_all(rows: &mut Rows, kind: &Kind)
+    requires live { Each (λ q. IsSome (forms (rows_of rows.old) q)) (parts (seen_kind kind.now)) }
     requires counts { Counts rows.old [] [] }
     requires room { Each (Fits (rows_in rows.old) (parts (seen_kind kind.now))) (parts (seen_kind kind.now)) }
     ensures seen { rows_in rows.new ≡ rows_in rows.old }

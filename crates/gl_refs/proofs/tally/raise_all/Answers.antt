@@ -1,16 +1,24 @@
-use Rattle.std.proofs.Common.{arith, drop, suc, refl, sym, subst, ◌∙◌, add-one}
+use Rattle.std.proofs.Common.{IsSome, arith, drop, suc, refl, sym, subst, ◌∙◌, add-one}
 use Rattle.gl_refs.specs.Forms.{parts}
-use Rattle.gl_refs.specs.View.{rows_in, seen_kind}
+use Rattle.gl_refs.specs.State.{forms}
+use Rattle.gl_refs.specs.View.{rows_in, rows_of, seen_kind}
 use Rattle.gl_refs.specs.Counting.{Counts, Fits}
 use Rattle.gl_refs.proofs.Counting.{counts_both, raise_room, each_at, past_end}
-use Rattle.gl_refs.proofs.Seen.{drop_some, drop_none}
+use Rattle.gl_refs.proofs.Seen.{rows_same, live_named, drop_some, drop_none}
 use Rattle.gl_refs.proofs.tally.raise_all.Goals as goal
 
 pub loop-at-init : goal.loop-at-init
 loop-at-init c = record { seen = refl; counts = counts_both c.args.rows.now (parts (seen_kind c.args.kind.now)) c.requires.counts }
 
-pub raise-requires : goal.raise-requires
-raise-requires c row is =
+pub raise-requires-clause-live : goal.raise-requires-clause-live
+raise-requires-clause-live c =
+    let old = c.args.rows.now in
+    let x = c.in-Some.part in
+    let live = each_at (λ q. IsSome (forms (rows_of old) q)) (parts (seen_kind c.args.kind.now)) c.loop-at.at x c.requires.live (sym c.name_at.ensures ∙ c.in-Some.is) in
+    live_named c.loop-at.rows x (rows_same (λ rows. IsSome (forms rows x)) old c.loop-at.rows c.loop-at.invariant.seen live)
+
+pub raise-requires-clause-room : goal.raise-requires-clause-room
+raise-requires-clause-room c row is =
     let xs = parts (seen_kind c.args.kind.now) in
     let k = c.loop-at.at in
     let x = c.in-Some.part in
