@@ -16,8 +16,8 @@ use Rattle.gl_plain.specs.State.{cell_ref, named_as}
 use Rattle.gl_machine.specs.Code.{live_of}
 use Rattle.gl_arena.specs.Id.{Id}
 use Rattle.gl_vm.specs.View.{stamps, name_stamps}
-use Rattle.gl_append.specs.CodeView.{seen_code}
-use Rattle.gl_append.specs.declared.page.Page.{Page}
+use Rattle.gl_code.specs.CodeView.{seen_code}
+use Rattle.gl_code.specs.declared.page.Page.{Page}
 use Rattle.gl_actions.specs.Cells.{CellFor, target_in, target_name}
 use Rattle.gl_actions.specs.Found.{instance_in}
 use Rattle.gl_actions.specs.Frames.{Fits, IsField, inst_in, this_in}

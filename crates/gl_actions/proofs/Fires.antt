@@ -10,8 +10,8 @@ use Rattle.gl_meaning.specs.Actions.{at_node, listener, listeners, run_all}
 use Rattle.gl_meaning.specs.View.{manifest_view}
 use Rattle.gl_meaning.proofs.Pieces.{filter_map_append}
 use Rattle.gl_opc.specs.declared.app.App.{App}
-use Rattle.gl_append.specs.Tables.{tables_of}
-use Rattle.gl_append.specs.declared.page.Page.{Page}
+use Rattle.gl_code.specs.Tables.{tables_of}
+use Rattle.gl_code.specs.declared.page.Page.{Page}
 use Rattle.gl_actions.specs.World.{World, app_in, value_in}
 use Rattle.gl_actions.specs.Reads.{Reads, OnlyOn, Listens, mods_at, modifiers_at, kept_modifier, shown_modifier}
 use Rattle.gl_actions.specs.Own.{names_in}

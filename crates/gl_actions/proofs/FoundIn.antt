@@ -10,12 +10,12 @@ use Rattle.gl_base.proofs.Lists.{drop_item}
 use Rattle.gl_plain.specs.State.{Names, Inst}
 use Rattle.gl_machine.specs.Code as c
 use Rattle.gl_vm.specs.View.{Tables, name_stamps}
-use Rattle.gl_append.specs.View.{seen_owner}
-use Rattle.gl_append.specs.CodeView.{seen_code, seen_codes, seen_item_code, all_codes, all_items}
-use Rattle.gl_append.specs.declared.code.Code.{Code, the_lemmas}
-use Rattle.gl_append.specs.declared.code.Codes.{Codes}
-use Rattle.gl_append.specs.declared.code.ItemCode.{ItemCode}
-use Rattle.gl_append.specs.declared.code.Code.TheVariants.{Still, Put, Element, Branch, Listed, Unlisted, Let, Component, Root, Yield}
+use Rattle.gl_code.specs.View.{seen_owner}
+use Rattle.gl_code.specs.CodeView.{seen_code, seen_codes, seen_item_code, all_codes, all_items}
+use Rattle.gl_code.specs.declared.code.Code.{Code, the_lemmas}
+use Rattle.gl_code.specs.declared.code.Codes.{Codes}
+use Rattle.gl_code.specs.declared.code.ItemCode.{ItemCode}
+use Rattle.gl_code.specs.declared.code.Code.TheVariants.{Still, Put, Element, Branch, Listed, Unlisted, Let, Component, Root, Yield}
 use Rattle.gl_actions.specs.Found.{instance_in, instance_among, instance_of_items}
 use Rattle.gl_actions.specs.FoundView.{seen_found}
 use Rattle.gl_actions.specs.declared.seeking.Found.{Found}

@@ -12,9 +12,9 @@ use Rattle.gl_plain.specs.Live.{Live, still, put_live, element_live, branch_live
 use Rattle.gl_machine.specs.Code.{live_of}
 use Rattle.gl_machine.specs.Env.{class_or}
 use Rattle.gl_vm.specs.View.{name_stamps}
-use Rattle.gl_append.specs.View.{seen_owner}
-use Rattle.gl_append.specs.CodeView.{seen_code}
-use Rattle.gl_append.specs.declared.page.Page.{Page}
+use Rattle.gl_code.specs.View.{seen_owner}
+use Rattle.gl_code.specs.CodeView.{seen_code}
+use Rattle.gl_code.specs.declared.page.Page.{Page}
 use Rattle.gl_actions.specs.World.{World, tables_in}
 use Rattle.gl_actions.specs.Frames.{Fits, InstanceRead, inst_in, this_in}
 use Rattle.gl_actions.specs.Found.{instance_in, instance_of_items, instance_among}

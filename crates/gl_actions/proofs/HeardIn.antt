@@ -14,12 +14,12 @@ use Rattle.gl_mods.specs.Mods as m
 use Rattle.gl_plain.specs.Live.{ModSpot}
 use Rattle.gl_machine.specs.Code as c
 use Rattle.gl_vm.specs.View.{Tables}
-use Rattle.gl_append.specs.CodeView.{seen_mod_spot, seen_code, seen_codes, seen_item_code, all_codes, all_items}
-use Rattle.gl_append.specs.declared.code.Code.{Code, the_lemmas}
-use Rattle.gl_append.specs.declared.code.Codes.{Codes}
-use Rattle.gl_append.specs.declared.code.ItemCode.{ItemCode}
-use Rattle.gl_append.specs.declared.code.ModSpot.{ModSpot as CodeModSpot}
-use Rattle.gl_append.specs.declared.code.Code.TheVariants.{Still, Put, Element, Branch, Listed, Unlisted, Let, Component, Root, Yield}
+use Rattle.gl_code.specs.CodeView.{seen_mod_spot, seen_code, seen_codes, seen_item_code, all_codes, all_items}
+use Rattle.gl_code.specs.declared.code.Code.{Code, the_lemmas}
+use Rattle.gl_code.specs.declared.code.Codes.{Codes}
+use Rattle.gl_code.specs.declared.code.ItemCode.{ItemCode}
+use Rattle.gl_code.specs.declared.code.ModSpot.{ModSpot as CodeModSpot}
+use Rattle.gl_code.specs.declared.code.Code.TheVariants.{Still, Put, Element, Branch, Listed, Unlisted, Let, Component, Root, Yield}
 use Rattle.gl_actions.specs.Heard.{spots_in, spots_among, spots_of_items, or_silent, mods_of, called_of}
 
 abbrev Acts : Type 0

@@ -11,8 +11,8 @@ use Rattle.gl_value.specs.declared.value.Value.{Value as CodeValue}
 use Rattle.gl_value.specs.Plain.{plain_pair}
 use Rattle.gl_meaning.specs.View.{class_view}
 use Rattle.gl_opc.specs.declared.app.App.{App}
-use Rattle.gl_append.specs.View.{seen_owner}
-use Rattle.gl_append.specs.declared.page.Page.{Page}
+use Rattle.gl_code.specs.View.{seen_owner}
+use Rattle.gl_code.specs.declared.page.Page.{Page}
 use Rattle.gl_vm.specs.View.{name_stamps}
 use Rattle.gl_actions.specs.Sets.{Set}
 use Rattle.gl_actions.specs.Own.{names_in, IsOnPage, IsOwnSet, AreOwnSets, AddsOwn}

@@ -6,8 +6,8 @@ use Rattle.gl_meaning.specs.Path.{Path}
 use Rattle.gl_meaning.specs.Eval.{field_member, member_of}
 use Rattle.gl_plain.specs.State.{Names, Inst, cell_ref}
 use Rattle.gl_machine.specs.Code.{live_of}
-use Rattle.gl_append.specs.CodeView.{seen_code}
-use Rattle.gl_append.specs.declared.page.Page.{Page}
+use Rattle.gl_code.specs.CodeView.{seen_code}
+use Rattle.gl_code.specs.declared.page.Page.{Page}
 use Rattle.gl_actions.specs.Found.{instance_in}
 use Rattle.gl_actions.specs.Sets.{Set}
 use Rattle.gl_actions.specs.World.{World, tables_in, owner_in, class_in, field_in}

@@ -6,7 +6,7 @@ use Rattle.gl_meaning.specs.Path.{Path}
 use Rattle.gl_meaning.specs.Actions.{listeners, run_all}
 use Rattle.gl_mods.specs.Mods as m
 use Rattle.gl_opc.specs.declared.app.App.{App}
-use Rattle.gl_append.specs.declared.page.Page.{Page}
+use Rattle.gl_code.specs.declared.page.Page.{Page}
 use Rattle.gl_actions.specs.Sets as s
 use Rattle.gl_actions.specs.World.{World, app_in, sets_in}
 use Rattle.gl_actions.specs.Reads.{Reads, Listens, mods_at}

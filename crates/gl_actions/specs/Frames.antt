@@ -11,7 +11,7 @@ use Rattle.gl_meaning.specs.View.{class_view, path_view}
 use Rattle.gl_plain.specs.State.{Names, Inst, cell_ref}
 use Rattle.gl_vm.specs.View.{name_stamps}
 use Rattle.gl_vm.specs.declared.vm.Vm.{Vm}
-use Rattle.gl_append.specs.View.{seen_owner}
+use Rattle.gl_code.specs.View.{seen_owner}
 use Rattle.gl_actions.specs.World.{World, app_in, tables_in, owner_in, read_in, class_in, arguments_in, store_in, params_in}
 use Rattle.gl_actions.specs.declared.frame.Frame.{Frame}
 use Rattle.gl_actions.specs.declared.frame.Here.{Here}

@@ -8,10 +8,10 @@ use Rattle.gl_plain.specs.State.{Names, Inst}
 use Rattle.gl_plain.specs.Live.{Live}
 use Rattle.gl_machine.specs.Code.{live_of}
 use Rattle.gl_vm.specs.View.{Tables, name_stamps}
-use Rattle.gl_append.specs.Tables.{tables_of}
-use Rattle.gl_append.specs.View.{seen_owner}
-use Rattle.gl_append.specs.CodeView.{seen_code}
-use Rattle.gl_append.specs.declared.page.Page.{Page}
+use Rattle.gl_code.specs.Tables.{tables_of}
+use Rattle.gl_code.specs.View.{seen_owner}
+use Rattle.gl_code.specs.CodeView.{seen_code}
+use Rattle.gl_code.specs.declared.page.Page.{Page}
 use Rattle.gl_actions.specs.Sets as s
 use Rattle.gl_actions.specs.Found.{instance_in}
 use Rattle.gl_actions.specs.Classes.{IsClassOf}

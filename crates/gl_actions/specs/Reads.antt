@@ -15,8 +15,8 @@ use Rattle.gl_opc.specs.declared.app.App.{App}
 use Rattle.gl_plain.specs.State.{Names, Inst}
 use Rattle.gl_machine.specs.Code.{live_of}
 use Rattle.gl_vm.specs.View.{Tables}
-use Rattle.gl_append.specs.CodeView.{seen_code}
-use Rattle.gl_append.specs.declared.page.Page.{Page}
+use Rattle.gl_code.specs.CodeView.{seen_code}
+use Rattle.gl_code.specs.declared.page.Page.{Page}
 use Rattle.gl_actions.specs.World.{World, tables_in, value_in}
 use Rattle.gl_actions.specs.Frames.{InstanceRead}
 use Rattle.gl_actions.specs.Found.{instance_in}

@@ -18,7 +18,7 @@ use Rattle.gl_plain.specs.State.{pair_of}
 use Rattle.gl_vm.specs.Labels.{owner_path}
 use Rattle.gl_vm.specs.View.{Tables, state_of}
 use Rattle.gl_vm.specs.declared.vm.Vm.{Vm}
-use Rattle.gl_append.specs.Tables.{tables_of}
+use Rattle.gl_code.specs.Tables.{tables_of}
 use Rattle.gl_actions.specs.Sets as s
 
 -- The app, with a template for each class; the path of each owner, which no two owners have in common; the cells as they were when the

@@ -11,7 +11,7 @@ use crate::fields::{cell_of, field_at};
 use crate::frame::Frame;
 use crate::sets::Set;
 use crate::turn::{Turn, frame_of};
-use gl_append::Page;
+use gl_code::Page;
 use gl_opc::App;
 use gl_refs::RefId;
 use gl_scope::Args;

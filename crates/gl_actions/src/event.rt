@@ -13,7 +13,7 @@ use crate::hearing::{Heard, heard_on};
 use crate::run::run_value;
 use crate::sets::Sets;
 use crate::turn::Turn;
-use gl_append::Page;
+use gl_code::Page;
 use gl_opc::App;
 use gl_scope::Args;
 use gl_value::Value;

@@ -1,6 +1,6 @@
 // What the steps of an action see.
 use crate::Sets;
-use gl_append::Owner;
+use gl_code::Owner;
 use gl_meaning::Class;
 use gl_scope::Args;
 use gl_value::NamedValues;

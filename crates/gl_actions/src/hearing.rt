@@ -6,10 +6,10 @@ ghost use Rattle.gl_value.specs.View.{view};
 ghost use Rattle.gl_mods.specs.Mods.{on_number, argument, listeners};
 ghost use Rattle.gl_mods.specs.View.{seen_installed};
 ghost use Rattle.gl_machine.specs.Code.{live_of, lives_of, items_of};
-ghost use Rattle.gl_append.specs.CodeView.{seen_mod_spot, seen_code, seen_codes, seen_item_code, all_items};
+ghost use Rattle.gl_code.specs.CodeView.{seen_mod_spot, seen_code, seen_codes, seen_item_code, all_items};
 ghost use Rattle.gl_actions.specs.Heard.{spots_in, spots_among, spots_of_items, called_of};
 
-use gl_append::{Code, Codes, ItemCode, ModSpot};
+use gl_code::{Code, Codes, ItemCode, ModSpot};
 use gl_mods::{Acts, Installed};
 use gl_nodes::NodeId;
 use gl_value::Value;

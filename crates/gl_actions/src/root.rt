@@ -9,7 +9,7 @@ ghost use Rattle.gl_actions.specs.Own.{AddsOwn};
 use crate::run::place_of;
 use crate::sets::{Set, Sets};
 use crate::turn::{Turn, frame_of};
-use gl_append::{Code, Page};
+use gl_code::{Code, Page};
 use gl_opc::App;
 use gl_scope::Args;
 use gl_value::{Text, Value};

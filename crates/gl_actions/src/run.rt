@@ -9,7 +9,7 @@ ghost use Rattle.gl_meaning.specs.Actions.{Calls, runs, run_step, run_steps, run
 ghost use Rattle.gl_meaning.specs.Eval.{values_in};
 ghost use Rattle.gl_meaning.specs.View.{class_view, step_view, seen_steps};
 ghost use Rattle.gl_opc.specs.declared.app.App.{App};
-ghost use Rattle.gl_append.specs.declared.page.Page.{Page};
+ghost use Rattle.gl_code.specs.declared.page.Page.{Page};
 ghost use Rattle.gl_actions.specs.World.{World, app_in, value_in, field_in, sets_in};
 ghost use Rattle.gl_actions.specs.Frames.{Fits, scope_in, this_in};
 ghost use Rattle.gl_actions.specs.Steps.{given_at, all_at, calls_in, callee_in};

@@ -1,13 +1,13 @@
 // Instances of the updating program.
 ghost use Rattle.std.specs.Prelude.{◌≡◌, [], IfOk, Some, nat_eq, if◌then◌else◌, map, option_map};
-ghost use Rattle.gl_append.specs.View.{seen_owner};
+ghost use Rattle.gl_code.specs.View.{seen_owner};
 ghost use Rattle.gl_vm.specs.View.{name_stamps};
 ghost use Rattle.gl_machine.specs.Code.{live_of, lives_of, items_of};
-ghost use Rattle.gl_append.specs.CodeView.{seen_code, seen_codes, seen_item_code, all_items};
+ghost use Rattle.gl_code.specs.CodeView.{seen_code, seen_codes, seen_item_code, all_items};
 ghost use Rattle.gl_actions.specs.Found.{instance_in, instance_among, instance_of_items};
 ghost use Rattle.gl_actions.specs.FoundView.{seen_found};
 
-use gl_append::{Code, Codes, ItemCode, Owner};
+use gl_code::{Code, Codes, ItemCode, Owner};
 use gl_scope::Args;
 use std::alloc::AllocError;
 

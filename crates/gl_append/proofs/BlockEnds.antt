@@ -10,14 +10,14 @@ use Rattle.gl_machine.specs.RenewCode.{refs_in}
 use Rattle.gl_machine.specs.Mach.{Run, going, all_of}
 use Rattle.gl_machine.specs.Step as s
 use Rattle.gl_vm.specs.View.{Tables, stamps, name_stamps}
-use Rattle.gl_append.specs.View.{refs_made, seen_locals, seen_owner}
-use Rattle.gl_append.specs.CodeView.{component_seen, seen_code, seen_codes}
+use Rattle.gl_code.specs.View.{refs_made, seen_locals, seen_owner}
+use Rattle.gl_code.specs.CodeView.{component_seen, seen_code, seen_codes}
 use Rattle.gl_append.specs.MachineView.{seen_back, seen_here, seen_kind, mach_by}
 use Rattle.gl_append.specs.Blocks.{code_added}
 use Rattle.gl_append.specs.Steps.{Moves, MovesFrame, Changes, GoesBack, Ends}
-use Rattle.gl_append.specs.declared.code.Code.{Code}
-use Rattle.gl_append.specs.declared.code.Codes.{Codes}
-use Rattle.gl_append.specs.declared.sight.Owner.{Owner}
+use Rattle.gl_code.specs.declared.code.Code.{Code}
+use Rattle.gl_code.specs.declared.code.Codes.{Codes}
+use Rattle.gl_code.specs.declared.sight.Owner.{Owner}
 use Rattle.gl_append.specs.declared.machine.Back.{Back}
 use Rattle.gl_append.specs.declared.machine.Frame.{Frame}
 use Rattle.gl_append.specs.declared.machine.Kind.TheVariants as kind

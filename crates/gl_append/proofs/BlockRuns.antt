@@ -13,16 +13,16 @@ use Rattle.gl_machine.specs.RenewCode.{Start}
 use Rattle.gl_machine.specs.Step.{begun, outcome, step_run_as, after_as}
 use Rattle.gl_vm.specs.View.{Tables, state_of}
 use Rattle.gl_vm.specs.declared.vm.Vm.{Vm}
-use Rattle.gl_append.specs.CodeView.{seen_codes}
+use Rattle.gl_code.specs.CodeView.{seen_codes}
 use Rattle.gl_append.specs.MachineView.{seen_here, mach_by, mach_of}
-use Rattle.gl_append.specs.Cells.{CellList, store_of}
-use Rattle.gl_append.specs.Tables.{tables_of}
-use Rattle.gl_append.specs.Stepping.{env_of, Finishes, StopsFor}
-use Rattle.gl_append.specs.declared.code.Codes.{Codes}
-use Rattle.gl_append.specs.declared.fault.VmFault.{VmFault}
-use Rattle.gl_append.specs.declared.fault.VmFault.TheVariants as fault
+use Rattle.gl_code.specs.Cells.{CellList, store_of}
+use Rattle.gl_code.specs.Tables.{tables_of, env_of}
+use Rattle.gl_append.specs.Stepping.{Finishes, StopsFor}
+use Rattle.gl_code.specs.declared.code.Codes.{Codes}
+use Rattle.gl_code.specs.declared.fault.VmFault.{VmFault}
+use Rattle.gl_code.specs.declared.fault.VmFault.TheVariants as fault
 use Rattle.gl_append.specs.declared.machine.Machine.{Machine}
-use Rattle.gl_append.specs.Renewing.{Renews, RenewFails}
+use Rattle.gl_code.specs.Renewing.{Renews, RenewFails}
 
 module _ (env : Env) (store : Store) where
   -- what is over stays so

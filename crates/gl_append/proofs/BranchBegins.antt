@@ -15,15 +15,15 @@ use Rattle.gl_machine.specs.Step as s
 use Rattle.gl_vm.specs.View.{Tables, state_of}
 use Rattle.gl_vm.specs.Steps.{Does, Numbers}
 use Rattle.gl_vm.specs.declared.vm.Vm.{Vm}
-use Rattle.gl_append.specs.View.{refs_made, seen_sight}
-use Rattle.gl_append.specs.CodeView.{seen_choice}
+use Rattle.gl_code.specs.View.{refs_made, seen_sight}
+use Rattle.gl_code.specs.CodeView.{seen_choice}
 use Rattle.gl_append.specs.MachineView.{seen_pushed, seen_here, mach_by}
 use Rattle.gl_append.specs.Steps.{Changes, Takes, Begins, branch_entered}
-use Rattle.gl_append.specs.declared.code.Choice.{Choice}
+use Rattle.gl_code.specs.declared.code.Choice.{Choice}
 use Rattle.gl_append.specs.declared.machine.Kind.TheVariants as kind
 use Rattle.gl_append.specs.declared.machine.Pushed.{Pushed}
 use Rattle.gl_append.specs.declared.machine.Machine.{Machine}
-use Rattle.gl_append.proofs.Taking.{placed_in}
+use Rattle.gl_parts.proofs.Leading.{placed_in}
 
 pub branched : (old new : Machine) (choice : Choice) (id : Id) (u : Bool) (path : CodePath) (made none : List Id) (pc : ℕ) → none ≡ [] → made ≡ old.made → pc ≡ (if u then choice.first else choice.second)
     → Begins (record old { made = none; pc = pc }) new path (kind.Branch choice (record { id = id; made = made }) u) → Changes (λ n. branch_entered (seen_choice n choice) id.1 u (path_view path)) old new

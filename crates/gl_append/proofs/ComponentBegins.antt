@@ -1,7 +1,6 @@
 -- The registers of a component that begins.
 use Rattle.std.proofs.Common.{◌≡◌, ℕ, suc, List, [], ◌∷◌, ◌++◌, None, sym, ◌∙◌, ap, subst}
 use Rattle.std.specs.declared.rc.Rc.{Rc}
-use Rattle.std.specs.declared.vec.Vec.{Vec}
 use Rattle.std.specs.declared.alloc.Global.{Global}
 use Rattle.gl_base.specs.Texts.{Text}
 use Rattle.gl_arena.specs.Id.{Id}
@@ -11,15 +10,12 @@ use Rattle.gl_plain.specs.State.{Names}
 use Rattle.gl_machine.specs.Mach.{Back as PlainBack, Making as PlainMaking, Mach, mach, fresh, idle}
 use Rattle.gl_machine.specs.Sight.{Sight as PlainSight, sight, Passing, passing}
 use Rattle.gl_vm.specs.View.{Tables, stamps, name_stamps}
-use Rattle.gl_append.specs.View.{refs_made, seen_owner, seen_level, seen_links, seen_sight, seen_slots, shared}
+use Rattle.gl_code.specs.View.{refs_made, seen_owner, seen_level, seen_links, seen_sight, seen_slots, shared}
 use Rattle.gl_append.specs.MachineView.{seen_back, seen_making, mach_by}
 use Rattle.gl_append.specs.Steps.{Changes, Begins, LeavesFor}
 use Rattle.gl_append.specs.Components.{component_kind, program_entered, component_entered}
-use Rattle.gl_append.specs.declared.sight.Owner.{Owner}
-use Rattle.gl_append.specs.declared.sight.Level.{Level}
-use Rattle.gl_append.specs.declared.sight.Link.{Link}
-use Rattle.gl_append.specs.declared.sight.Slot.{Slot}
-use Rattle.gl_append.specs.declared.sight.Sight.{Sight}
+use Rattle.gl_code.specs.declared.sight.Owner.{Owner}
+use Rattle.gl_code.specs.declared.sight.Sight.{Sight}
 use Rattle.gl_append.specs.declared.machine.Back.{Back}
 use Rattle.gl_append.specs.declared.machine.Making.{Making}
 use Rattle.gl_append.specs.declared.machine.Kind.TheVariants as kind
@@ -73,11 +69,3 @@ tag_taken old new making ended w owner block args path left e0 e1 e2 e3 e4 x n s
     ∙ (ap (λ xs. g (h xs there) xs idle) args_are
     ∙ (ap (λ v. g v (name_stamps args) idle) seen
     ∙ (ap (λ k. g (seen_sight n w) (name_stamps args) k) (sym (e1 n)) ∙ x n st)))
-
--- what is passed stands in front
-pub linked : (n : Tables) (w : Sight) (link : Rc Link Global) (front back : List (Rc Link Global)) (block : Id) (parts : ℕ) (slots : Vec Slot Global) (level : Level) → front ≡ link ∷ back → link.value ≡ record { block = block; parts = parts; slots = slots; level = level }
-    → ((p : Passing) → seen_level n level p ≡ seen_level n w.level p) → shared back ≡ shared w.chain.items → seen_links n (shared front) ≡ passing block.1 parts (seen_slots slots.items) (seen_sight n w)
-linked n w link front back block parts slots level e1 e2 e3 e4 =
-    ap (λ xs. seen_links n (shared xs)) e1
-    ∙ (ap (λ (x : Link). passing x.block.1 x.parts (seen_slots x.slots.items) (seen_level n x.level (seen_links n (shared back)))) e2
-    ∙ ap (λ v. passing block.1 parts (seen_slots slots.items) v) (ap (λ ls. seen_level n level (seen_links n ls)) e4 ∙ e3 (seen_links n (shared w.chain.items))))

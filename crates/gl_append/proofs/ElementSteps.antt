@@ -18,15 +18,16 @@ use Rattle.gl_machine.specs.Step as s
 use Rattle.gl_vm.specs.View.{Tables, state_of, Agrees}
 use Rattle.gl_vm.specs.Steps.{Does, Numbers}
 use Rattle.gl_vm.specs.declared.vm.Vm.{Vm}
-use Rattle.gl_append.specs.View.{refs_made}
-use Rattle.gl_append.specs.CodeView.{seen_attr_spot, seen_code, seen_codes}
-use Rattle.gl_append.specs.MachineView.{seen_here, seen_kind, seen_parts, seen_making, mach_by, mach_of}
+use Rattle.gl_code.specs.View.{refs_made}
+use Rattle.gl_code.specs.CodeView.{seen_attr_spot, seen_code, seen_codes}
+use Rattle.gl_append.specs.MachineView.{seen_here, seen_kind, seen_making, mach_by, mach_of}
+use Rattle.gl_parts.specs.Parts.{seen_parts, Leads}
 use Rattle.gl_append.specs.Steps.{Moves, Changes, GoesOn, Takes, Begins, Ends, PopsFrame}
-use Rattle.gl_append.specs.TagSteps.{Leads, element_begun, element_entered}
-use Rattle.gl_append.specs.declared.code.AttrSpot.{AttrSpot as CodeAttr}
-use Rattle.gl_append.specs.declared.code.Code.{Code}
-use Rattle.gl_append.specs.declared.code.Codes.{Codes}
-use Rattle.gl_append.specs.declared.machine.Waiting.{Waiting}
+use Rattle.gl_append.specs.TagSteps.{element_begun, element_entered}
+use Rattle.gl_code.specs.declared.code.AttrSpot.{AttrSpot as CodeAttr}
+use Rattle.gl_code.specs.declared.code.Code.{Code}
+use Rattle.gl_code.specs.declared.code.Codes.{Codes}
+use Rattle.gl_parts.specs.declared.waiting.Waiting.{Waiting}
 use Rattle.gl_append.specs.declared.machine.Frame.{Frame}
 use Rattle.gl_append.specs.declared.machine.Kind.TheVariants as kind
 use Rattle.gl_append.specs.declared.machine.Making.{Making}

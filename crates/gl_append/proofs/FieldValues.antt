@@ -19,7 +19,7 @@ use Rattle.gl_meaning.specs.Path.{Path, V, path_eq}
 use Rattle.gl_meaning.proofs.Equal.{both_true, text_means, text_itself, path_means, path_itself}
 use Rattle.gl_machine.proofs.Numbered.{some_is, none_some, same_if}
 use Rattle.gl_vm.specs.Labels.{labelled, all_labelled, owner_path}
-use Rattle.gl_append.specs.Cells.{CellList, cells_at, held_in_turn, store_of, initial_value, initial_values}
+use Rattle.gl_code.specs.Cells.{CellList, cells_at, held_in_turn, store_of, initial_value, initial_values}
 use Rattle.gl_append.proofs.Scopes.{or_else-map}
 
 -- Texts that rise differ

@@ -24,13 +24,14 @@ use Rattle.gl_vm.specs.Labels.{label, all_labelled}
 use Rattle.gl_vm.specs.View.{Tables, Agrees, stamps, state_of}
 use Rattle.gl_vm.specs.Steps.{Follows, Does, Numbers}
 use Rattle.gl_vm.specs.declared.vm.Vm.{Vm}
-use Rattle.gl_append.specs.View.{refs_made, seen_owner}
+use Rattle.gl_code.specs.View.{refs_made, seen_owner}
 use Rattle.gl_append.specs.MachineView.{seen_here, mach_by, mach_of}
 use Rattle.gl_append.specs.Steps.{Changes}
-use Rattle.gl_append.specs.Tables.{tables_of}
-use Rattle.gl_append.specs.Cells.{CellList, cells_at, store_of, initial_values}
-use Rattle.gl_append.specs.Components.{cells_laid, numbers_from, Laid, Lays, component_entered, Suits, Invokes}
-use Rattle.gl_append.specs.declared.sight.Owner.{Owner}
+use Rattle.gl_code.specs.Tables.{tables_of}
+use Rattle.gl_code.specs.Cells.{CellList, cells_at, store_of, initial_values}
+use Rattle.gl_code.specs.Instances.{cells_laid, numbers_from, Laid, Lays, Suits}
+use Rattle.gl_append.specs.Components.{component_entered, Invokes}
+use Rattle.gl_code.specs.declared.sight.Owner.{Owner}
 use Rattle.gl_append.specs.declared.machine.Machine.{Machine}
 use Rattle.gl_append.proofs.FieldValues.{class_fields, each_class, fields_begin}
 

@@ -25,25 +25,27 @@ use Rattle.gl_vm.specs.Labels.{label, labelled}
 use Rattle.gl_vm.specs.View.{Tables, stamps, state_of, Agrees}
 use Rattle.gl_vm.specs.Steps.{Does, Numbers}
 use Rattle.gl_vm.specs.declared.vm.Vm.{Vm}
-use Rattle.gl_append.specs.View.{refs_made, seen_sight}
-use Rattle.gl_append.specs.CodeView.{seen_listing, seen_spot, seen_item_spot, stamp_of, seen_codes, seen_item_code}
-use Rattle.gl_append.specs.MachineView.{seen_here, seen_left, item_with, seen_item, seen_items, seen_kind, call_kind, mach_by, mach_of}
-use Rattle.gl_append.specs.Steps.{GoesOn, Changes, Begins, Ends, EndsFrame, EndsCall, Commented}
+use Rattle.gl_code.specs.View.{refs_made, seen_sight}
+use Rattle.gl_code.specs.CodeView.{seen_listing, seen_spot, seen_item_spot, stamp_of, seen_codes, seen_item_code}
+use Rattle.gl_append.specs.MachineView.{seen_here, item_with, seen_item, seen_items, seen_kind, call_kind, mach_by, mach_of}
+use Rattle.gl_code.specs.Entries.{seen_left}
+use Rattle.gl_append.specs.Steps.{GoesOn, Changes, Begins, Ends, EndsFrame, EndsCall}
+use Rattle.gl_code.specs.Comments.{Commented}
 use Rattle.gl_append.specs.ListSteps.{list_waiting, body_entered, ItemBegins, ItemDone}
-use Rattle.gl_append.specs.declared.code.Codes.{Codes}
-use Rattle.gl_append.specs.declared.code.ItemCode.{ItemCode}
-use Rattle.gl_append.specs.declared.code.ItemSpot.{ItemSpot}
-use Rattle.gl_append.specs.declared.sight.Sight.{Sight}
-use Rattle.gl_append.specs.declared.machine.Entry.{Entry}
+use Rattle.gl_code.specs.declared.code.Codes.{Codes}
+use Rattle.gl_code.specs.declared.code.ItemCode.{ItemCode}
+use Rattle.gl_code.specs.declared.code.ItemSpot.{ItemSpot}
+use Rattle.gl_code.specs.declared.sight.Sight.{Sight}
+use Rattle.gl_code.specs.declared.entries.Entry.{Entry}
 use Rattle.gl_append.specs.declared.machine.Here.{Here}
 use Rattle.gl_append.specs.declared.machine.Iteration.{Iteration}
 use Rattle.gl_append.specs.declared.machine.Kind.TheVariants as kind
 use Rattle.gl_append.specs.declared.machine.Call.{Call}
 use Rattle.gl_append.specs.declared.machine.Call.TheVariants as call
 use Rattle.gl_append.specs.declared.machine.Machine.{Machine}
-use Rattle.gl_append.proofs.EntryLists.{next_left}
+use Rattle.gl_code.proofs.EntryLists.{next_left}
 use Rattle.gl_append.proofs.LetEnds.{with_frames}
-use Rattle.gl_append.proofs.Taking.{does_then}
+use Rattle.gl_code.proofs.Doing.{does_then}
 
 -- An item that begins
 

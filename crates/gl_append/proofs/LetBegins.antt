@@ -4,18 +4,16 @@ use Rattle.std.specs.declared.vec.Vec.{Vec}
 use Rattle.std.specs.declared.alloc.Global.{Global}
 use Rattle.gl_meaning.specs.Path.{main, Path}
 use Rattle.gl_arena.specs.Id.{Id}
-use Rattle.gl_vm.specs.View.{stamps}
-use Rattle.gl_machine.specs.Sight.{with_locals}
+use Rattle.gl_vm.specs.View.{stamps, Tables}
+use Rattle.gl_machine.specs.Sight.{with_locals, Sight}
 use Rattle.gl_plain.specs.State.{State}
-use Rattle.gl_machine.specs.Sight.{Sight}
 use Rattle.gl_machine.specs.Mach.{Pushed, Mach, Run, going, next_at, mach, fresh, in_let}
 use Rattle.gl_machine.specs.Step as s
-use Rattle.gl_vm.specs.View.{Tables}
-use Rattle.gl_append.specs.View.{refs_made, seen_sight}
+use Rattle.gl_code.specs.View.{refs_made, seen_sight}
 use Rattle.gl_append.specs.MachineView.{seen_stack, seen_here, mach_by}
 use Rattle.gl_meaning.specs.View.{path_view}
 use Rattle.gl_meaning.specs.declared.path.Path.{Path as CodePath}
-use Rattle.gl_append.specs.declared.sight.Sight.{Sight as CodeSight}
+use Rattle.gl_code.specs.declared.sight.Sight.{Sight as CodeSight}
 use Rattle.gl_append.specs.declared.machine.Kind.TheVariants as kind
 use Rattle.gl_append.specs.Steps.{Moves, Changes, Begins, let_entered}
 use Rattle.gl_append.specs.declared.machine.Pushed.{Pushed as CodePushed}

@@ -8,13 +8,13 @@ use Rattle.gl_machine.specs.RenewCode.{refs_in}
 use Rattle.gl_machine.specs.Mach.{Frame as PlainFrame, Here as PlainHere, Kind as PlainKind, in_element, in_branch, in_let, in_each, in_item, in_other, in_component, in_block, in_getter, in_parts, Mach, Run, going, go, added, all_of}
 use Rattle.gl_machine.specs.Step as s
 use Rattle.gl_vm.specs.View.{Tables, stamps}
-use Rattle.gl_append.specs.View.{refs_made, seen_locals, seen_sight}
-use Rattle.gl_append.specs.CodeView.{seen_code, seen_codes}
+use Rattle.gl_code.specs.View.{refs_made, seen_locals, seen_sight}
+use Rattle.gl_code.specs.CodeView.{seen_code, seen_codes}
 use Rattle.gl_append.specs.MachineView.{seen_here, seen_kind, mach_by}
 use Rattle.gl_append.specs.Steps.{Moves, Ends, PopsFrame}
-use Rattle.gl_append.specs.declared.code.Code.{Code}
-use Rattle.gl_append.specs.declared.code.Codes.{Codes}
-use Rattle.gl_append.specs.declared.sight.Sight.{Sight}
+use Rattle.gl_code.specs.declared.code.Code.{Code}
+use Rattle.gl_code.specs.declared.code.Codes.{Codes}
+use Rattle.gl_code.specs.declared.sight.Sight.{Sight}
 use Rattle.gl_append.specs.declared.machine.Frame.{Frame}
 use Rattle.gl_append.specs.declared.machine.Here.{Here}
 use Rattle.gl_append.specs.declared.machine.Machine.{Machine}

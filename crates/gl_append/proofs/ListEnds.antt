@@ -1,8 +1,5 @@
 -- An `each` that begins and ends.
-use Rattle.std.proofs.Common.{◌≡◌, ℕ, suc, Bool, true, false, List, [], ◌∷◌, ◌++◌, map, length, Option, refl, sym, ◌∙◌, ap, ap₂, arith}
-use Rattle.std.specs.Prelude.{nat_eq}
-use Rattle.std.proofs.lemmas.Bool.{eqb-true}
-use Rattle.std.proofs.lemmas.List.{length-map, length-reverse}
+use Rattle.std.proofs.Common.{◌≡◌, ℕ, suc, Bool, List, [], ◌∷◌, ◌++◌, map, Option, refl, sym, ◌∙◌, ap, ap₂}
 use Rattle.std.specs.declared.vec.Vec.{Vec}
 use Rattle.std.specs.declared.alloc.Global.{Global}
 use Rattle.gl_arena.specs.Id.{Id}
@@ -24,17 +21,19 @@ use Rattle.gl_vm.specs.Labels.{labelled}
 use Rattle.gl_vm.specs.View.{Tables, state_of, Agrees}
 use Rattle.gl_vm.specs.Steps.{Does, Numbers}
 use Rattle.gl_vm.specs.declared.vm.Vm.{Vm}
-use Rattle.gl_append.specs.View.{refs_made, seen_sight}
-use Rattle.gl_append.specs.CodeView.{seen_listing, seen_spot, stamp_of, seen_code, seen_codes, seen_item_code, all_items}
-use Rattle.gl_append.specs.MachineView.{seen_pushed, seen_here, seen_entry, seen_left, seen_items, call_kind, mach_by}
-use Rattle.gl_append.specs.Steps.{Moves, Changes, Takes, Begins, Ends, EndsFrame, Commented}
+use Rattle.gl_code.specs.View.{refs_made, seen_sight}
+use Rattle.gl_code.specs.CodeView.{seen_listing, seen_spot, stamp_of, seen_code, seen_codes, seen_item_code, all_items}
+use Rattle.gl_append.specs.MachineView.{seen_pushed, seen_here, seen_items, call_kind, mach_by}
+use Rattle.gl_code.specs.Entries.{seen_left}
+use Rattle.gl_append.specs.Steps.{Moves, Changes, Takes, Begins, Ends, EndsFrame}
+use Rattle.gl_code.specs.Comments.{Commented}
 use Rattle.gl_append.specs.ListSteps.{each_at, list_waiting}
-use Rattle.gl_append.specs.declared.code.Listing.{Listing}
-use Rattle.gl_append.specs.declared.code.Spot.{Spot}
-use Rattle.gl_append.specs.declared.code.Code.{Code}
-use Rattle.gl_append.specs.declared.code.Codes.{Codes}
-use Rattle.gl_append.specs.declared.code.ItemCode.{ItemCode}
-use Rattle.gl_append.specs.declared.machine.Entry.{Entry}
+use Rattle.gl_code.specs.declared.code.Listing.{Listing}
+use Rattle.gl_code.specs.declared.code.Spot.{Spot}
+use Rattle.gl_code.specs.declared.code.Code.{Code}
+use Rattle.gl_code.specs.declared.code.Codes.{Codes}
+use Rattle.gl_code.specs.declared.code.ItemCode.{ItemCode}
+use Rattle.gl_code.specs.declared.entries.Entry.{Entry}
 use Rattle.gl_append.specs.declared.machine.Here.{Here}
 use Rattle.gl_append.specs.declared.machine.Iteration.{Iteration}
 use Rattle.gl_append.specs.declared.machine.Pushed.{Pushed}
@@ -44,31 +43,8 @@ use Rattle.gl_append.specs.declared.machine.Call.TheVariants as call
 use Rattle.gl_append.specs.declared.machine.Machine.{Machine}
 use Rattle.gl_append.proofs.Commenting.{arm_shown}
 use Rattle.gl_append.proofs.LetEnds.{with_frames}
-use Rattle.gl_append.proofs.Taking.{placed_in}
-
--- no items are left just where the code has none
-pub none_seen : (es : List Entry) → es ≡ [] → seen_left es ≡ []
-none_seen es e = ap seen_left e
-
-pub none_left : (es : List Entry) → seen_left es ≡ [] → es ≡ []
-none_left [] e = refl
-none_left (x ∷ es) e =
-    let l : length (seen_left (x ∷ es)) ≡ suc (length es) = length-reverse (map seen_entry (x ∷ es)) ∙ length-map (x ∷ es) seen_entry in
-    let z : 0 ≡ suc (length es) = sym (ap length e) ∙ l in
-    absurd (cc)
-
-pub none_counted : (xs : List Entry) (k : ℕ) → k ≡ length xs → nat_eq k 0 ≡ true → xs ≡ []
-none_counted [] k e t = refl
-none_counted (x ∷ xs) k e t =
-    let z : k ≡ 0 = eqb-true k 0 t in
-    let l : k ≡ suc (length xs) = e in
-    absurd (omega (arith, z, l))
-
-pub some_counted : (xs : List Entry) (k : ℕ) → k ≡ length xs → nat_eq k 0 ≡ false → xs ≡ [] → ⊥
-some_counted [] k e t n = let h : true ≡ false = sym (ap (λ j. nat_eq j 0) e) ∙ t in absurd (apart h) where
-  apart : true ≡ false → ⊥
-  apart g = let y : true ≡ false = g in absurd (cc)
-some_counted (x ∷ xs) k e t n = let y : x ∷ xs ≡ [] = n in absurd (cc)
+use Rattle.gl_parts.proofs.Leading.{placed_in}
+use Rattle.gl_code.proofs.EntryCounts.{none_left, none_seen}
 
 waiting : (z : c.Listing) (x : PlainSpot) (start : ℕ) (es : List PlainEntry) (st : State) (stk : List PlainPushed) (rest : Rest) → (es ≡ [] → ⊥)
     → s.each_into z x start es st stk rest ≡ go st stk [] start (record rest { frames = rest.frames ++ record { here = rest.here; kind = in_each z x start es [] } ∷ [] })

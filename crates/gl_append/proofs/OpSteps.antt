@@ -21,10 +21,11 @@ use Rattle.gl_vm.specs.View.{Tables, state_of}
 use Rattle.gl_vm.specs.declared.vm.Vm.{Vm}
 use Rattle.gl_append.specs.MachineView.{seen_pushed, seen_stack, mach_by, mach_of}
 use Rattle.gl_append.specs.Steps.{Moves, Takes, EndsParts}
-use Rattle.gl_append.specs.Cells.{CellList, store_of}
+use Rattle.gl_code.specs.Cells.{CellList, store_of}
 use Rattle.gl_append.specs.ListSteps.{each_at}
-use Rattle.gl_append.specs.Tables.{tables_of, TakesIn}
-use Rattle.gl_append.specs.Stepping.{env_of, RunsIn, MovesIn, Stepped, StepsIn, DoesOp}
+use Rattle.gl_code.specs.Tables.{tables_of, env_of}
+use Rattle.gl_append.specs.Tables.{TakesIn}
+use Rattle.gl_append.specs.Stepping.{RunsIn, MovesIn, Stepped, StepsIn, DoesOp}
 use Rattle.gl_append.specs.declared.step.Next.{Next}
 use Rattle.gl_append.specs.declared.step.Next.TheVariants as next
 use Rattle.gl_ast.specs.Template.{Body}

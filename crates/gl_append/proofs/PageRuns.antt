@@ -17,23 +17,22 @@ use Rattle.gl_machine.specs.Root.{append_page_as}
 use Rattle.gl_machine.specs.Sight.{Sight, sight, not_passed}
 use Rattle.gl_meaning.specs.View.{path_view, manifest_view}
 use Rattle.gl_meaning.specs.declared.path.Path.{Path as CodePath}
-use Rattle.gl_nodes.specs.Tree.{Tree}
 use Rattle.gl_opc.specs.declared.app.App.{App}
 use Rattle.gl_vm.specs.View.{Tables, state_of}
 use Rattle.gl_vm.specs.Steps.{Follows, empty}
 use Rattle.gl_vm.specs.declared.vm.Vm.{Vm}
-use Rattle.gl_append.specs.View.{seen_owner, seen_sight}
+use Rattle.gl_code.specs.View.{seen_owner, seen_sight}
 use Rattle.gl_append.specs.MachineView.{mach_by, mach_of}
-use Rattle.gl_append.specs.Cells.{CellList, store_of}
-use Rattle.gl_append.specs.Tables.{tables_of}
-use Rattle.gl_append.specs.Stepping.{env_of, StopsFor}
+use Rattle.gl_code.specs.Cells.{CellList, store_of}
+use Rattle.gl_code.specs.Tables.{tables_of, env_of}
+use Rattle.gl_append.specs.Stepping.{StopsFor}
 use Rattle.gl_append.specs.Page.{RootThere, RootFails, AppendFails}
 use Rattle.gl_meaning.specs.Order.{NamesRise}
 use Rattle.gl_opc.specs.Numbers.{class_number}
-use Rattle.gl_append.specs.declared.fault.VmFault.{VmFault}
-use Rattle.gl_append.specs.declared.fault.VmFault.TheVariants as fault
-use Rattle.gl_append.specs.declared.sight.Owner.{Owner}
-use Rattle.gl_append.specs.declared.sight.Sight.{Sight as CodeSight}
+use Rattle.gl_code.specs.declared.fault.VmFault.{VmFault}
+use Rattle.gl_code.specs.declared.fault.VmFault.TheVariants as fault
+use Rattle.gl_code.specs.declared.sight.Owner.{Owner}
+use Rattle.gl_code.specs.declared.sight.Sight.{Sight as CodeSight}
 use Rattle.gl_append.specs.declared.machine.Machine.{Machine}
 use Rattle.gl_machine.specs.Step.{begun, outcome, after_as, run_for_as}
 
@@ -126,10 +125,3 @@ page_stopped a cells owner left vm0 vm1 number fault.NestingLimit s l k c r = λ
       is = subst (λ j. append_page_as by_number j env store (run_for_as by_number env store x.0) number empty ≡ deep) (sym l)
           (page_fails env store x.0 number left (state_of n vm0 empty.touched) (state_of n vm1 now.touched) y.1.inst (seen_owner n owner) owner.class y.0.state y.1.is c y.1.seen y.1.follows.state x.1);
     }
-
--- What hangs in the tree is all the same to what is kept.
-pub hung_follows : (n : Tables) (st : State) (vm vm' : Vm) → (vm' ≡ record vm { tree = vm'.tree }) × (vm'.tree.nodes ≡ vm.tree.nodes) → Follows n st vm → Follows n st vm'
-hung_follows n st vm vm' e x =
-    let t : Tree = record vm.tree { forest = vm'.tree.forest; made = vm'.tree.made; moves = vm'.tree.moves; inserts = vm'.tree.inserts } in
-    let same : vm' ≡ record vm { tree = t } = e.0 ∙ ap (λ nodes. record vm { tree = record vm'.tree { nodes = nodes } }) e.1 in
-    subst (λ (w : Vm). Follows n st w) (sym same) (record { state = x.state; agrees = x.agrees })

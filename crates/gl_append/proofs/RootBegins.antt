@@ -23,12 +23,12 @@ use Rattle.gl_vm.specs.Labels.{all_labelled}
 use Rattle.gl_vm.specs.View.{Tables, Agrees, stamps, state_of}
 use Rattle.gl_vm.specs.Steps.{Follows, Does}
 use Rattle.gl_vm.specs.declared.vm.Vm.{Vm}
-use Rattle.gl_append.specs.View.{refs_made, seen_owner}
-use Rattle.gl_append.specs.Tables.{tables_of}
-use Rattle.gl_append.specs.Cells.{CellList, cells_at, store_of, initial_values}
-use Rattle.gl_append.specs.Components.{cells_laid, numbers_from, Laid, Lays, Suits}
+use Rattle.gl_code.specs.View.{refs_made, seen_owner}
+use Rattle.gl_code.specs.Tables.{tables_of}
+use Rattle.gl_code.specs.Cells.{CellList, cells_at, store_of, initial_values}
+use Rattle.gl_code.specs.Instances.{cells_laid, numbers_from, Laid, Lays, Suits}
 use Rattle.gl_append.specs.Page.{RootThere, MakesRoot}
-use Rattle.gl_append.specs.declared.sight.Owner.{Owner}
+use Rattle.gl_code.specs.declared.sight.Owner.{Owner}
 use Rattle.gl_append.proofs.FieldValues.{class_fields, each_class, fields_begin}
 use Rattle.gl_append.proofs.Invocations.{values, state_grown, names_grown, made_grown, refs_stamped, follows_then}
 

@@ -5,9 +5,9 @@ use Rattle.gl_meaning.specs.View.{path_view}
 use Rattle.gl_plain.specs.State.{State}
 use Rattle.gl_machine.specs.Mach.{Here, Making as PlainMaking, idle, Mach}
 use Rattle.gl_vm.specs.View.{Tables, stamps}
-use Rattle.gl_append.specs.View.{refs_made, seen_sight}
+use Rattle.gl_code.specs.View.{refs_made, seen_sight}
 use Rattle.gl_append.specs.MachineView.{mach_by, seen_stack, seen_list, seen_making, seen_frames, seen_calls}
-use Rattle.gl_append.specs.declared.code.Code.{Code}
+use Rattle.gl_code.specs.declared.code.Code.{Code}
 use Rattle.gl_append.specs.declared.machine.Pushed.{Pushed}
 use Rattle.gl_append.specs.declared.machine.Frame.{Frame}
 use Rattle.gl_append.specs.declared.machine.Call.{Call}

@@ -10,10 +10,10 @@ use Rattle.gl_machine.specs.Step.{step_as, step_run_as, after_as}
 use Rattle.gl_vm.specs.View.{state_of, Agrees}
 use Rattle.gl_vm.specs.declared.vm.Vm.{Vm}
 use Rattle.gl_append.specs.MachineView.{mach_by, mach_of}
-use Rattle.gl_append.specs.Cells.{CellList, store_of}
-use Rattle.gl_append.specs.Tables.{tables_of}
-use Rattle.gl_append.specs.Stepping.{env_of, StepsIn, ReachesIn, Finishes, StopsFor}
-use Rattle.gl_append.specs.declared.fault.VmFault.TheVariants as fault
+use Rattle.gl_code.specs.Cells.{CellList, store_of}
+use Rattle.gl_code.specs.Tables.{tables_of, env_of}
+use Rattle.gl_append.specs.Stepping.{StepsIn, ReachesIn, Finishes, StopsFor}
+use Rattle.gl_code.specs.declared.fault.VmFault.TheVariants as fault
 use Rattle.gl_append.specs.declared.step.Next.TheVariants as next
 use Rattle.gl_append.specs.declared.machine.Machine.{Machine}
 

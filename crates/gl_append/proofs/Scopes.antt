@@ -9,7 +9,7 @@ use Rattle.gl_arena.specs.Id.{Id}
 use Rattle.gl_scope.specs.Scope.{last_at}
 use Rattle.gl_machine.specs.Step.{last_symbol}
 use Rattle.gl_vm.specs.View.{name_stamps}
-use Rattle.gl_append.specs.View.{seen_locals}
+use Rattle.gl_code.specs.View.{seen_locals}
 
 no_both : (b : Bool) → (b ≡ true → ⊥) → b ≡ false
 no_both true n = absurd (n refl)

@@ -6,34 +6,30 @@ use Rattle.gl_value.specs.Value.{text_of}
 use Rattle.gl_plain.specs.Ids.{a_ref, a_node, ref}
 use Rattle.gl_base.specs.Texts.{Text}
 use Rattle.gl_plain.specs.State.{Form, call_form, Names, Content, text_content, pair_of, State}
-use Rattle.gl_plain.specs.Binding.{made_row, place}
+use Rattle.gl_plain.specs.Binding.{made_row}
 use Rattle.gl_plain.specs.Grow.{made_node}
 use Rattle.gl_machine.specs.Code.{still_code, put_code, Code as PlainCode}
-use Rattle.gl_append.specs.CodeView.{seen_code}
-use Rattle.gl_append.specs.declared.code.Code.{Code}
+use Rattle.gl_code.specs.CodeView.{seen_code}
+use Rattle.gl_code.specs.declared.code.Code.{Code}
 use Rattle.gl_machine.specs.Mach.{Mach, Pushed as PlainPushed, Run, going, go, added}
 use Rattle.gl_plain.specs.Tags.{modifier_part}
 use Rattle.gl_machine.specs.Step as s
 use Rattle.gl_vm.specs.View.{Tables, state_of}
-use Rattle.gl_vm.specs.Steps.{Follows, Does, Numbers}
+use Rattle.gl_vm.specs.Steps.{Does, Numbers}
 use Rattle.gl_vm.specs.declared.vm.Vm.{Vm}
 use Rattle.std.specs.declared.vec.Vec.{Vec}
 use Rattle.std.specs.declared.alloc.Global.{Global}
 use Rattle.gl_append.specs.declared.machine.Pushed.{Pushed}
-use Rattle.gl_append.specs.View.{refs_made}
+use Rattle.gl_code.specs.View.{refs_made}
 use Rattle.gl_append.specs.MachineView.{seen_pushed, seen_stack, mach_by, mach_of}
 use Rattle.gl_append.specs.Steps.{Moves, Changes, GoesOn, Takes, pushed_made}
 use Rattle.gl_append.specs.declared.machine.Machine.{Machine}
+use Rattle.gl_parts.proofs.Leading.{placed_in}
+use Rattle.gl_code.proofs.Doing.{does_then}
 
 -- nothing that is kept changes
 pub moved : (f : Tables → Mach → Run) (vm : Vm) (old new : Machine) → Moves f old new → Takes f vm old vm new
 moved f vm old new m n t a = record { state = state_of n vm t; follows = record { state = refl; agrees = a }; goes = m n (state_of n vm t) }
-
--- one step of what is kept after another
-pub does_then : (f g : Tables → State → State) (vm vm1 vm2 : Vm) → Does f vm vm1 → Does g vm1 vm2 → Does (λ n st. g n (f n st)) vm vm2
-does_then f g vm vm1 vm2 d e n t a =
-    let x = d n t a in
-    subst (λ st. Follows n (g n st) vm2) x.state (e n (f n (state_of n vm t)).touched x.agrees)
 
 -- something is done with what is kept, and then registers change
 pub done_then : (f g : Tables → Mach → Run) (d : Tables → State → State) (vm vm' : Vm) (old new : Machine) → Does d vm vm' → Moves g old new
@@ -91,9 +87,6 @@ pub node_shown : (x : Content) (vm vm' : Vm) (old new : Machine) (id : Id) (code
 node_shown x vm vm' old new id code is d i m =
     done_then (λ n k. s.show (still_code (k.state.next a_node), made_node x k.state) k) (λ n k. s.show (seen_code n code, k.state) k) (λ n. made_node x) vm vm' old new d m
     (λ n t. ap (λ k. s.show (k, made_node x (state_of n vm t)) (mach_of n t vm old)) (ap still_code (sym i.stamp) ∙ sym (is n)))
-
-abbrev pub placed_in : List ℕ → State → State
-placed_in rs st = (place (record { ids = rs; made = []; state = st })).state
 
 -- a text mustache: a position, and a node with the text of its value
 pub put_shown : (vm vm1 vm2 : Vm) (old new : Machine) (top : Pushed) (id node : Id) (t : Text) (code : Code)

@@ -14,16 +14,15 @@ use Rattle.gl_machine.specs.Mach.{Back as PlainBack, Mach, mach, Pushed as Plain
 use Rattle.gl_machine.specs.Sight.{Sight, Passing, not_passed, passing, passing_in}
 use Rattle.gl_machine.specs.Step as s
 use Rattle.gl_vm.specs.View.{Tables, stamps}
-use Rattle.gl_append.specs.View.{refs_made, seen_sight, seen_level, seen_links, seen_slots}
-use Rattle.gl_append.specs.CodeView.{seen_code, seen_codes}
+use Rattle.gl_code.specs.View.{refs_made, seen_sight}
+use Rattle.gl_code.specs.CodeView.{seen_code, seen_codes}
 use Rattle.gl_append.specs.MachineView.{seen_stack, seen_back, seen_here, mach_by}
 use Rattle.gl_append.specs.Steps.{Moves, Changes, Begins, LeavesFor}
-use Rattle.gl_append.specs.Blocks.{block_of, seen_written, block_entered}
-use Rattle.gl_append.specs.declared.blocks.Written.{Written}
-use Rattle.gl_append.specs.declared.code.Code.{Code}
-use Rattle.gl_append.specs.declared.code.Codes.{Codes}
-use Rattle.gl_append.specs.declared.sight.Level.{Level}
-use Rattle.gl_append.specs.declared.sight.Link.{Link}
+use Rattle.gl_code.specs.Written.{block_of, seen_written}
+use Rattle.gl_append.specs.Blocks.{block_entered}
+use Rattle.gl_code.specs.declared.written.Written.{Written}
+use Rattle.gl_code.specs.declared.code.Code.{Code}
+use Rattle.gl_code.specs.declared.code.Codes.{Codes}
 use Rattle.gl_append.specs.declared.machine.Back.{Back}
 use Rattle.gl_append.specs.declared.machine.Kind.TheVariants as kind
 use Rattle.gl_append.specs.declared.machine.Pushed.{Pushed}
@@ -109,10 +108,3 @@ nothing_shown name old new name' none made params body code e1 e2 e3 e4 e5 x n s
     ∙ (ap (λ is. g (yield_code name' (refs_made is) [] no_codes)) (sym e2)
     ∙ (ap (λ rs. g (yield_code name' (refs_made made) rs no_codes)) (sym e3)
     ∙ (ap (λ b. g (yield_code name' (refs_made made) (stamps params) b)) (sym (e4 n)) ∙ (ap g (sym (e5 n)) ∙ x n st))))
-
--- the block of a name among what was passed last
-pub block_found : (n : Tables) (x : Text) (links : List Link) (link : Link) (rest chain : List Link) (level : Level) (start : ℕ) → links ≡ link ∷ rest → Some start ≡ named x (seen_slots link.slots.items)
-    → ((w : Passing) → seen_level n level w ≡ seen_level n link.level w) → chain ≡ rest → ◌≡◌ {A = Option (ℕ × Sight)} (Some (start, seen_level n level (seen_links n chain))) (block_of x (seen_links n links))
-block_found n x links link rest chain level start e1 e2 e3 e4 =
-    ap (λ w. Some (start, w)) (e3 (seen_links n chain) ∙ ap (λ ls. seen_level n link.level (seen_links n ls)) e4)
-    ∙ (ap (λ o. option_map (λ k. (k, seen_level n link.level (seen_links n rest))) o) e2 ∙ ap (λ ls. block_of x (seen_links n ls)) (sym e1))

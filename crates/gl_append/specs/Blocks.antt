@@ -1,26 +1,14 @@
 -- Blocks that are passed and yielded.
-use Rattle.std.specs.Prelude.{ℕ, suc, List, [], ◌∷◌, ◌++◌, length, Option, None, option_map}
+use Rattle.std.specs.Prelude.{ℕ, suc, List, [], ◌∷◌, ◌++◌, length, None}
 use Rattle.gl_base.specs.Texts.{Text}
-use Rattle.gl_base.specs.Names.{named}
 use Rattle.gl_meaning.specs.Path.{Path}
 use Rattle.gl_machine.specs.Code.{Code}
 use Rattle.gl_machine.specs.Mach.{Mach, mach, fresh, added, in_block}
-use Rattle.gl_machine.specs.Sight.{Sight, Passing, not_passed, passing, locals_in}
-use Rattle.gl_vm.specs.View.{Tables}
-use Rattle.gl_append.specs.View.{seen_sight}
-use Rattle.gl_append.specs.declared.blocks.Written.{Written}
+use Rattle.gl_machine.specs.Sight.{Sight, locals_in}
 
 -- what was rendered is added to the present body, and what was made for it is its own
 abbrev pub code_added : Code → Mach → Mach
 code_added k m = mach m.state m.stack [] m.pc (record m.rest { here = added k m.rest.here })
-
--- the first block of a name among those that were passed: the address of its first word, and what its writer sees
-abbrev pub block_of : Text → Passing → Option (ℕ × Sight)
-block_of x not_passed = None
-block_of x (passing k parts slots s) = option_map (λ start. (start, s)) (named x slots)
-
-abbrev pub seen_written : Tables → Written → ℕ × Sight
-seen_written n w = (w.start, seen_sight n w.sight)
 
 -- the words of a block are gone to, at a path, with these references for its parameters
 abbrev pub block_entered : Path → Text → List ℕ → Sight → ℕ → Mach → Mach

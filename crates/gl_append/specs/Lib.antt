@@ -1,14 +1,9 @@
-pub mod View
-pub mod CodeView
 pub mod MachineView
 pub mod Steps
 pub mod Tables
 pub mod Stepping
 pub mod Blocks
-pub mod Cells
 pub mod Components
 pub mod Page
-pub mod Renewing
 pub mod TagSteps
 pub mod ListSteps
-pub mod Hung

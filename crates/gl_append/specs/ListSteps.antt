@@ -12,11 +12,12 @@ use Rattle.gl_machine.specs.Mach.{Kind as PlainKind, Pushed as PlainPushed, Mach
 use Rattle.gl_machine.specs.Step.{placed_top, each_into, do_item_as, next_item}
 use Rattle.gl_vm.specs.View.{Tables, Agrees}
 use Rattle.gl_vm.specs.declared.vm.Vm.{Vm}
-use Rattle.gl_append.specs.CodeView.{seen_listing, seen_spot}
-use Rattle.gl_append.specs.MachineView.{mach_by, mach_of, seen_here, seen_entry, seen_left, seen_item, seen_items}
+use Rattle.gl_code.specs.CodeView.{seen_listing, seen_spot}
+use Rattle.gl_append.specs.MachineView.{mach_by, mach_of, seen_here, seen_item, seen_items}
+use Rattle.gl_code.specs.Entries.{seen_entry, seen_left}
 use Rattle.gl_append.specs.Steps.{GoesOn}
-use Rattle.gl_append.specs.declared.code.ItemCode.{ItemCode}
-use Rattle.gl_append.specs.declared.machine.Entry.{Entry}
+use Rattle.gl_code.specs.declared.code.ItemCode.{ItemCode}
+use Rattle.gl_code.specs.declared.entries.Entry.{Entry}
 use Rattle.gl_append.specs.declared.machine.Iteration.{Iteration}
 use Rattle.gl_append.specs.declared.machine.Machine.{Machine}
 

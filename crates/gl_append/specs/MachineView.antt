@@ -1,29 +1,21 @@
 -- What the machine's registers stand for.
-use Rattle.std.specs.Prelude.{ℕ, List, ◌∷◌, ◌++◌, map, reverse, Bool, Option, Some}
-use Rattle.gl_value.specs.Value.{plain}
-use Rattle.gl_value.specs.View.{view}
-use Rattle.gl_meaning.specs.Render as r
+use Rattle.std.specs.Prelude.{ℕ, List, ◌∷◌, ◌++◌, map, Bool, Option, Some}
 use Rattle.gl_meaning.specs.Scope.{Source}
 use Rattle.gl_meaning.specs.View.{path_view}
 use Rattle.gl_plain.specs.Ids as p
 use Rattle.gl_plain.specs.State.{State}
 use Rattle.gl_plain.specs.Live.{ItemSpot as PlainItemSpot}
-use Rattle.gl_plain.specs.Tags as t
 use Rattle.gl_machine.specs.Code as c
 use Rattle.gl_machine.specs.Mach as m
-use Rattle.gl_vm.specs.Labels.{labelled}
 use Rattle.gl_vm.specs.View.{Tables, stamps, name_stamps, state_of}
 use Rattle.gl_vm.specs.declared.vm.Vm.{Vm}
-use Rattle.gl_append.specs.View.{refs_made, seen_owner, seen_sight, seen_slots}
-use Rattle.gl_append.specs.CodeView.{seen_spot, seen_attr_spot, seen_item_spot, seen_choice, seen_listing, seen_code, seen_item_code}
-use Rattle.gl_append.specs.declared.code.Code.{Code}
-use Rattle.gl_append.specs.declared.code.ItemCode.{ItemCode}
+use Rattle.gl_code.specs.View.{refs_made, seen_owner, seen_sight, seen_slots}
+use Rattle.gl_code.specs.CodeView.{seen_spot, seen_attr_spot, seen_item_spot, seen_choice, seen_listing, seen_code, seen_item_code}
+use Rattle.gl_code.specs.declared.code.Code.{Code}
+use Rattle.gl_code.specs.declared.code.ItemCode.{ItemCode}
 use Rattle.gl_append.specs.declared.machine.Pushed.{Pushed}
 use Rattle.gl_append.specs.declared.machine.Here.{Here}
 use Rattle.gl_append.specs.declared.machine.Back.{Back}
-use Rattle.gl_append.specs.declared.machine.Entry.{Entry}
-use Rattle.gl_append.specs.declared.machine.Waiting.{Waiting}
-use Rattle.gl_append.specs.declared.machine.Waiting.TheVariants as w
 use Rattle.gl_append.specs.declared.machine.Kind.{Kind}
 use Rattle.gl_append.specs.declared.machine.Kind.TheVariants as k
 use Rattle.gl_append.specs.declared.machine.Call.{Call}
@@ -31,6 +23,8 @@ use Rattle.gl_append.specs.declared.machine.Call.TheVariants as l
 use Rattle.gl_append.specs.declared.machine.Frame.{Frame}
 use Rattle.gl_append.specs.declared.machine.Making.{Making}
 use Rattle.gl_append.specs.declared.machine.Machine.{Machine}
+use Rattle.gl_code.specs.Entries.{seen_left}
+use Rattle.gl_parts.specs.Parts.{seen_parts}
 
 abbrev pub seen_pushed : Pushed → m.Pushed
 seen_pushed x = (x.name, x.id.1)
@@ -47,13 +41,6 @@ seen_here n h = record { path = path_view h.path; index = h.index; codes = seen_
 abbrev pub seen_back : Tables → Back → m.Back
 seen_back n b = record { getter = b.getter; pc = b.pc; sight = seen_sight n b.sight; pending = stamps b.pending }
 
-abbrev pub seen_entry : Entry → r.Entry
-seen_entry e = record { key = plain (view e.key); occurrence = e.occurrence; value = labelled (view e.value); index = e.index }
-
--- the next one is the last
-abbrev pub seen_left : List Entry → List r.Entry
-seen_left es = reverse (map seen_entry es)
-
 abbrev pub item_with : PlainItemSpot × (Option ℕ × c.Codes) → m.Item
 item_with x = record { spot = x.0; comment = x.1.0; codes = x.1.1 }
 
@@ -62,14 +49,6 @@ seen_item n x = item_with (seen_item_code n x)
 
 abbrev pub seen_items : Tables → List ItemCode → List m.Item
 seen_items n xs = map (seen_item n) xs
-
-abbrev pub seen_part : Tables → Waiting → t.Waiting
-seen_part n (w.Fixed name text) = t.fixed_part name text
-seen_part n (w.Live name id) = t.live_part name id.1
-seen_part n (w.Modifier name args named) = t.modifier_part (n.modifier name) (stamps args) (name_stamps named)
-
-abbrev pub seen_parts : Tables → List Waiting → List t.Waiting
-seen_parts n xs = map (seen_part n) xs
 
 abbrev pub seen_kind : Tables → Kind → m.Kind
 seen_kind n (k.Element e made xs ps) = m.in_element e.1 (refs_made made) (map seen_attr_spot xs.items) (seen_parts n ps.items)

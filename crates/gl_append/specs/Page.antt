@@ -22,16 +22,15 @@ use Rattle.gl_machine.specs.Code.{Codes}
 use Rattle.gl_vm.specs.View.{Tables, Agrees, state_of}
 use Rattle.gl_vm.specs.Steps.{Follows, empty}
 use Rattle.gl_vm.specs.declared.vm.Vm.{Vm}
-use Rattle.gl_append.specs.View.{refs_made, seen_owner}
-use Rattle.gl_append.specs.CodeView.{component_seen, seen_code}
-use Rattle.gl_append.specs.Cells.{CellList, store_of}
-use Rattle.gl_append.specs.Components.{Suits}
-use Rattle.gl_append.specs.Tables.{tables_of}
-use Rattle.gl_append.specs.Stepping.{env_of}
-use Rattle.gl_append.specs.declared.fault.VmFault.{VmFault}
-use Rattle.gl_append.specs.declared.fault.VmFault.TheVariants as fault
-use Rattle.gl_append.specs.declared.code.Code.{Code}
-use Rattle.gl_append.specs.declared.sight.Owner.{Owner}
+use Rattle.gl_code.specs.View.{refs_made, seen_owner}
+use Rattle.gl_code.specs.CodeView.{component_seen, seen_code}
+use Rattle.gl_code.specs.Cells.{CellList, store_of}
+use Rattle.gl_code.specs.Instances.{Suits}
+use Rattle.gl_code.specs.Tables.{tables_of, env_of}
+use Rattle.gl_code.specs.declared.fault.VmFault.{VmFault}
+use Rattle.gl_code.specs.declared.fault.VmFault.TheVariants as fault
+use Rattle.gl_code.specs.declared.code.Code.{Code}
+use Rattle.gl_code.specs.declared.sight.Owner.{Owner}
 
 -- The root is there: the instance with the empty path, with the cells of its class.
 pub record RootThere (n : Tables) (env : Env) (store : Store) (q : ℕ) (st : State) (new : Vm) (owner : Owner) : Type 0 where

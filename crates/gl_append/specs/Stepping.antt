@@ -3,7 +3,6 @@ use Rattle.std.specs.Prelude.{◌≡◌, ℕ, List, Bool, ⊤}
 use Rattle.gl_ast.specs.Template.{Body}
 use Rattle.gl_meaning.specs.Scope.{Source}
 use Rattle.gl_meaning.specs.Eval.{Store}
-use Rattle.gl_meaning.specs.Manifest.{app_of}
 use Rattle.gl_meaning.specs.Order.{NamesRise}
 use Rattle.gl_meaning.specs.View.{manifest_view}
 use Rattle.gl_program.specs.Program.{Program}
@@ -18,17 +17,14 @@ use Rattle.gl_vm.specs.View.{Tables, Agrees}
 use Rattle.gl_vm.specs.Steps.{Follows}
 use Rattle.gl_vm.specs.declared.vm.Vm.{Vm}
 use Rattle.gl_append.specs.MachineView.{mach_by, mach_of}
-use Rattle.gl_append.specs.Cells.{CellList, store_of}
-use Rattle.gl_append.specs.Tables.{tables_of, TakesIn}
+use Rattle.gl_code.specs.Cells.{CellList, store_of}
+use Rattle.gl_code.specs.Tables.{tables_of, env_of}
+use Rattle.gl_append.specs.Tables.{TakesIn}
 use Rattle.gl_append.specs.declared.machine.Machine.{Machine}
-use Rattle.gl_append.specs.declared.fault.VmFault.{VmFault}
-use Rattle.gl_append.specs.declared.fault.VmFault.TheVariants as fault
+use Rattle.gl_code.specs.declared.fault.VmFault.{VmFault}
+use Rattle.gl_code.specs.declared.fault.VmFault.TheVariants as fault
 use Rattle.gl_append.specs.declared.step.Next.{Next}
 use Rattle.gl_append.specs.declared.step.Next.TheVariants as next
-
--- the application with its programs, and some templates
-abbrev pub env_of : App → List Body → Env
-env_of a templates = record { app = app_of (manifest_view a.manifest) templates; manifest = manifest_view a.manifest; programs = a.programs }
 
 -- the present word comes from this program, whatever the templates are and is kept
 abbrev pub RunsIn : App → Machine → Program → Type 0

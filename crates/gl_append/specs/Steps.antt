@@ -5,19 +5,17 @@ use Rattle.gl_arena.specs.Id.{Id}
 use Rattle.gl_plain.specs.Ids.{ref}
 use Rattle.gl_plain.specs.State.{State}
 use Rattle.gl_machine.specs.Mach.{Frame as PlainFrame, Here as PlainHere, Kind as PlainKind, Mach, Run, going, go, mach, fresh, all_of, in_let, in_branch}
-use Rattle.gl_machine.specs.Code.{Choice as PlainChoice, Codes as PlainCodes}
-use Rattle.gl_machine.specs.RenewCode.{commented}
+use Rattle.gl_machine.specs.Code.{Choice as PlainChoice}
 use Rattle.gl_machine.specs.Sight.{Sight as PlainSight}
 use Rattle.gl_meaning.specs.Path.{Path as PlainPath}
 use Rattle.gl_machine.specs.Step.{popped, with_made, unless_parts}
-use Rattle.gl_vm.specs.View.{Tables, Agrees}
+use Rattle.gl_vm.specs.View.{Tables, Agrees, stamps}
 use Rattle.gl_vm.specs.Steps.{Follows}
 use Rattle.gl_vm.specs.declared.vm.Vm.{Vm}
-use Rattle.gl_vm.specs.View.{stamps}
-use Rattle.gl_append.specs.View.{seen_sight}
+use Rattle.gl_code.specs.View.{seen_sight}
 use Rattle.gl_append.specs.MachineView.{mach_by, mach_of, seen_back, seen_here, seen_kind, call_kind, seen_frame}
-use Rattle.gl_append.specs.CodeView.{stamp_of, seen_codes}
-use Rattle.gl_append.specs.declared.code.Codes.{Codes}
+use Rattle.gl_code.specs.CodeView.{seen_codes}
+use Rattle.gl_code.specs.declared.code.Codes.{Codes}
 use Rattle.gl_append.specs.declared.machine.Frame.{Frame}
 use Rattle.gl_append.specs.declared.machine.Here.{Here}
 use Rattle.gl_append.specs.declared.machine.Kind.{Kind}
@@ -25,7 +23,7 @@ use Rattle.gl_meaning.specs.View.{path_view}
 use Rattle.gl_meaning.specs.declared.path.Path.{Path}
 use Rattle.gl_append.specs.declared.machine.Back.{Back}
 use Rattle.gl_append.specs.declared.machine.Call.{Call}
-use Rattle.gl_append.specs.declared.sight.Sight.{Sight}
+use Rattle.gl_code.specs.declared.sight.Sight.{Sight}
 use Rattle.gl_append.specs.declared.machine.Machine.{Machine}
 
 -- a reference that was made is pushed, and is the present statement's own
@@ -136,9 +134,3 @@ abbrev pub EndsCall : (Tables → Mach → List PlainFrame → PlainHere → Pla
 EndsCall f vm old call vm' new =
     (n : Tables) (touched : Source → Bool) → Agrees touched vm
     → GoesOn n (f n (mach_of n touched vm old) (mach_of n touched vm old).rest.frames (seen_here n old.here) (call_kind n call)) vm' new
-
--- What was rendered with a state has this comment, where it has no node, and this is kept now.
-pub record Commented (n : Tables) (r : PlainCodes × State) (vm : Vm) (comment : Option Id) : Type 0 where
-  pub state : State
-  pub follows : Follows n state vm
-  pub is : commented r ≡ record { comment = stamp_of comment; codes = r.0; state = state }

@@ -1,15 +1,15 @@
 // Bodies that are appended in the middle of a page.
-ghost use Rattle.std.specs.Prelude.{◌≡◌, IfOk, IfErr};
+ghost use Rattle.std.specs.Prelude.{IfOk, IfErr};
 ghost use Rattle.gl_meaning.specs.View.{path_view};
 ghost use Rattle.gl_machine.specs.Code.{Codes as PlainCodes};
 ghost use Rattle.gl_machine.specs.RenewCode.{start};
 ghost use Rattle.gl_vm.specs.View.{Calm};
-ghost use Rattle.gl_append.specs.View.{seen_sight};
-ghost use Rattle.gl_append.specs.CodeView.{seen_codes};
-ghost use Rattle.gl_append.specs.Renewing.{Renews, RenewFails};
+ghost use Rattle.gl_code.specs.View.{seen_sight};
+ghost use Rattle.gl_code.specs.CodeView.{seen_codes};
+ghost use Rattle.gl_code.specs.Renewing.{Renews, RenewFails};
 
 use crate::machine::Machine;
-use crate::{Cells, Codes, Sight, VmFault};
+use gl_code::{Cells, Codes, Sight, VmFault};
 use gl_meaning::Path;
 use gl_opc::App;
 use gl_vm::Vm;
@@ -17,7 +17,7 @@ use std::alloc::Global;
 
 /// Appends one block in the middle of a page, over the cells of now and those that are given for paths: from the address of its first
 /// word, with what is seen there, at its path, where components may still nest so deep. Its nodes are made, and stand nowhere yet: the
-/// caller puts them into the tree ([`crate::hang`] in an element). The answer is the part of the updating program that was recorded.
+/// caller puts them into the tree (`hang` of gl_code in an element). The answer is the part of the updating program that was recorded.
 /// `NestingLimit` comes where a component of it would stand deeper.
 #[inline(never)]
 pub fn append_block(

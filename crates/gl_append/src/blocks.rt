@@ -1,96 +1,26 @@
 // Blocks that were passed: `yield`, and where a block ends.
-ghost use Rattle.std.specs.Prelude.{◌≡◌, [], IfOk, OnOk, Option, option_map};
-ghost use Rattle.std.specs.Str.{chars};
+ghost use Rattle.std.specs.Prelude.{[], OnOk};
 ghost use Rattle.gl_meaning.specs.View.{path_view};
 ghost use Rattle.gl_machine.specs.Code as c;
-ghost use Rattle.gl_machine.specs.Sight.{passing_in};
 ghost use Rattle.gl_machine.specs.Step as s;
-ghost use Rattle.gl_base.specs.Names.{named};
 ghost use Rattle.gl_vm.specs.View.{stamps};
-ghost use Rattle.gl_append.specs.View.{refs_made, seen_sight, seen_slots};
-ghost use Rattle.gl_append.specs.CodeView.{seen_code, seen_codes};
+ghost use Rattle.gl_code.specs.View.{seen_sight};
+ghost use Rattle.gl_code.specs.CodeView.{seen_code};
 ghost use Rattle.gl_append.specs.MachineView.{seen_back};
 ghost use Rattle.gl_append.specs.Steps.{Moves, MovesFrame, Changes};
-ghost use Rattle.gl_append.specs.Blocks.{code_added, block_of, seen_written, block_entered};
+ghost use Rattle.gl_append.specs.Blocks.{code_added, block_entered};
 
-use crate::bodies::onward;
-use crate::code::{Code, Codes};
-use crate::lets::params_from;
 use crate::machine::{Back, Frame, Kind, Machine};
-use crate::sight::{Sight, Slot, copied};
 use crate::stack::{positional, take_last};
+use gl_code::{Code, Codes, Slot, Written, onward, params_from};
 use gl_meaning::{Path, PathStep};
 use gl_refs::Ids;
 use gl_value::Text;
-use std::alloc::{AllocError, Global};
+use std::alloc::AllocError;
 use std::mem;
 
-/// A block that was passed: the address of its first word, and what its writer sees.
-#[derive(Drop)]
-pub struct Written {
-    pub start: u32,
-    pub sight: Sight,
-}
-
-impl Codes {
-    /// Nothing was rendered. It takes no memory.
-    pub fn none(alloc: Global) -> Codes
-        ensures { (n : _) → seen_codes n result ≡ c.no_codes }
-    {
-        Codes {
-            list: Vec::new(alloc),
-        }
-    }
-}
-
-impl Code {
-    /// A yielded block.
-    pub fn yielded(name: Text, made: Ids, params: Ids, body: Codes) -> Code
-        ensures { (n : _) → seen_code n result ≡ c.yield_code name (refs_made made) (stamps params) (seen_codes n body) }
-    {
-        Code::Yield {
-            name,
-            made,
-            params,
-            body,
-        }
-    }
-}
-
-/// The address of the block of a name.
-fn start_of(slots: &[Slot], name: &str) -> Option<u32>
-    ensures { result ≡ named (chars name.now) (seen_slots slots.now) }
-{
-    for slot in slots {
-        if slot.name.is(name) {
-            return Some(slot.start);
-        }
-    }
-    None
-}
-
-impl Sight {
-    /// The block of a name that was passed.
-    pub fn block(&self, name: &str) -> Result<Option<Written>, AllocError>
-        ensures { IfOk result (λ o. (n : _) → option_map (seen_written n) o ≡ block_of (chars name.now) (passing_in (seen_sight n self.now))) }
-    {
-        match self.chain.as_slice().split_first() {
-            None => Ok(None),
-            Some((link, rest)) => match start_of(link.slots.as_slice(), name) {
-                None => Ok(None),
-                Some(start) => {
-                    let level = link.level.copy()?;
-                    let chain = copied(*self.chain.allocator(), rest)?;
-                    let sight = Sight { level, chain };
-                    Ok(Some(Written { start, sight }))
-                }
-            },
-        }
-    }
-}
-
 impl Machine {
-    /// What was rendered is added to the present body. What was made for it is its own.
+    // What was rendered is added to the present body. What was made for it is its own.
     fn add_code(&mut self, code: Code) -> Result<(), AllocError>
         ensures { OnOk result (Changes (λ n. code_added (seen_code n code)) self.old self.new) }
     {
@@ -103,16 +33,16 @@ impl Machine {
         Ok(())
     }
 
-    /// Goes on in the present body where the way back leads, with what was rendered there.
-    pub fn return_with(&mut self, back: Back, code: Code) -> Result<(), AllocError>
+    // Goes on in the present body where the way back leads, with what was rendered there.
+    pub(crate) fn return_with(&mut self, back: Back, code: Code) -> Result<(), AllocError>
         ensures { OnOk result (Moves (λ n m. s.return m.rest.frames m.rest.here (seen_back n back) m.rest.left (seen_code n code) m) self.old self.new) }
     {
         self.go_back(back);
         self.add_code(code)
     }
 
-    /// A yielded block ends.
-    pub fn do_end_block(&mut self, frame: Frame) -> Result<(), AllocError>
+    // A yielded block ends.
+    pub(crate) fn do_end_block(&mut self, frame: Frame) -> Result<(), AllocError>
         ensures { OnOk result (MovesFrame (λ n. s.do_end_block) self.old frame self.new) }
     {
         let Frame { here, kind } = frame;
@@ -136,8 +66,8 @@ impl Machine {
         }
     }
 
-    /// A block of a name, over the last ones of the stack.
-    pub fn do_yield(&mut self, count: u32, name: &Text) -> Result<(), AllocError>
+    // A block of a name, over the last ones of the stack.
+    pub(crate) fn do_yield(&mut self, count: u32, name: &Text) -> Result<(), AllocError>
         ensures { OnOk result (Moves (λ n. s.do_yield count name.now) self.old self.new) }
     {
         let taken = take_last(&mut self.stack, count)?;
@@ -148,7 +78,7 @@ impl Machine {
         }
     }
 
-    /// No block of that name was passed.
+    // No block of that name was passed.
     fn yield_nothing(&mut self, name: &Text) -> Result<(), AllocError>
         ensures { OnOk result (Moves (λ n m. s.show (c.yield_code name.now m.made [] c.no_codes, m.state) m) self.old self.new) }
     {
@@ -158,7 +88,7 @@ impl Machine {
         self.show(code)
     }
 
-    /// The words of a block are gone to, in what its writer sees, with these references for its parameters.
+    // The words of a block are gone to, in what its writer sees, with these references for its parameters.
     fn enter(&mut self, name: &Text, pending: Ids, written: Written) -> Result<(), AllocError>
         ensures { OnOk result (Moves (λ n m. s.enter name.now (stamps pending) m (seen_sight n written.sight) written.start) self.old self.new) }
     {

@@ -1,85 +1,28 @@
 // Bodies that begin and end.
-ghost use Rattle.std.specs.Prelude.{◌≡◌, ◌++◌, ◌∷◌, [], false, IfOk, OnOk, Some, None, option_map};
-ghost use Rattle.gl_meaning.specs.View.{path_view, path_step_view};
+ghost use Rattle.std.specs.Prelude.{◌≡◌, [], false, IfOk, OnOk, Some, None};
+ghost use Rattle.gl_meaning.specs.View.{path_view};
 ghost use Rattle.gl_machine.specs.Mach as m;
 ghost use Rattle.gl_machine.specs.Step as s;
-ghost use Rattle.gl_append.specs.MachineView.{seen_here, seen_kind, seen_list};
+ghost use Rattle.gl_append.specs.MachineView.{seen_here};
 ghost use Rattle.gl_append.specs.Steps.{Moves, Begins, Ends, PopsFrame};
 
-use crate::code::Codes;
 use crate::machine::{Frame, Here, Kind, Machine};
-use crate::sight::Slot;
-use gl_meaning::{Path, PathStep, PathSteps};
+use gl_code::{Codes, Slot, below};
+use gl_meaning::{Path, PathStep};
 use gl_value::Text;
-use std::alloc::{AllocError, Global};
+use std::alloc::AllocError;
 use std::mem;
 
-fn step_copy(step: &PathStep) -> Result<PathStep, AllocError>
-    ensures { IfOk result (λ r. path_step_view r ≡ path_step_view step.now) }
-{
-    Ok(match step {
-        PathStep::At(place) => PathStep::At(*place),
-        PathStep::Then => PathStep::Then,
-        PathStep::Else => PathStep::Else,
-        PathStep::Items => PathStep::Items,
-        PathStep::Item { key, occurrence } => PathStep::Item {
-            key: key.copy()?,
-            occurrence: *occurrence,
-        },
-        PathStep::Into(name) => PathStep::Into(name.copy()?),
-        PathStep::Slot(name) => PathStep::Slot(name.copy()?),
-        PathStep::Empty => PathStep::Empty,
-        PathStep::Attr(name) => PathStep::Attr(name.copy()?),
-        PathStep::Mod(place) => PathStep::Mod(*place),
-    })
-}
-
-// The same path, with room for so many more steps.
-fn roomy_copy(alloc: Global, path: &Path, more: usize) -> Result<Path, AllocError>
-    ensures { IfOk result (λ p. path_view p ≡ path_view path.now) }
-{
-    let room = path.steps.len().saturating_add(more);
-    let mut steps = PathSteps::from_vec(Vec::with_capacity(alloc, room)?);
-    for step in path.steps.as_slice() {
-        steps.push(step_copy(step)?)?;
-    }
-    Ok(Path { steps })
-}
-
-/// The same path.
-pub fn path_copy(alloc: Global, path: &Path) -> Result<Path, AllocError>
-    ensures { IfOk result (λ p. path_view p ≡ path_view path.now) }
-{
-    roomy_copy(alloc, path, 0)
-}
-
-/// The path of a step below a path, which becomes that.
-pub fn onward(path: Path, step: PathStep) -> Result<Path, AllocError>
-    ensures { IfOk result (λ p. path_view p ≡ path_step_view step ∷ path_view path) }
-{
-    let mut path = path;
-    path.steps.push(step)?;
-    Ok(path)
-}
-
-/// The path of a step below a path. It has room for two steps more.
-pub fn below(alloc: Global, path: &Path, step: PathStep) -> Result<Path, AllocError>
-    ensures { IfOk result (λ p. path_view p ≡ path_step_view step ∷ path_view path.now) }
-{
-    let path = roomy_copy(alloc, path, 3)?;
-    onward(path, step)
-}
-
 impl Machine {
-    /// The path of the next statement.
-    pub fn next_path(&self) -> Result<Path, AllocError>
+    // The path of the next statement.
+    pub(crate) fn next_path(&self) -> Result<Path, AllocError>
         ensures { IfOk result (λ p. (n : _) → path_view p ≡ m.next_at (seen_here n self.now.here)) }
     {
         below(self.alloc, &self.here.path, PathStep::At(self.here.index))
     }
 
-    /// A body begins.
-    pub fn begin(&mut self, path: Path, kind: Kind) -> Result<(), AllocError>
+    // A body begins.
+    pub(crate) fn begin(&mut self, path: Path, kind: Kind) -> Result<(), AllocError>
         ensures { OnOk result (Begins self.old self.new path kind) }
     {
         if !self.calls.is_empty() {
@@ -95,8 +38,8 @@ impl Machine {
         Ok(())
     }
 
-    /// A body ends: the one round it is gone on with, and what was rendered is handed out.
-    pub fn end(&mut self, here: Here) -> Codes
+    // A body ends: the one round it is gone on with, and what was rendered is handed out.
+    pub(crate) fn end(&mut self, here: Here) -> Codes
         ensures { Ends self.old self.new here result }
     {
         let ended = mem::replace(&mut self.here, here);
@@ -105,8 +48,8 @@ impl Machine {
         Codes { list }
     }
 
-    /// Whether a call is under way.
-    pub fn is_calling(&self) -> bool
+    // Whether a call is under way.
+    pub(crate) fn is_calling(&self) -> bool
         ensures { result ≡ false → self.now.calls.items ≡ [] }
     {
         match self.calls.as_slice() {
@@ -115,8 +58,8 @@ impl Machine {
         }
     }
 
-    /// The last frame, where there is one and no call is under way.
-    pub fn pop_frame(&mut self) -> Result<Option<Frame>, AllocError>
+    // The last frame, where there is one and no call is under way.
+    pub(crate) fn pop_frame(&mut self) -> Result<Option<Frame>, AllocError>
         ensures { IfOk result (PopsFrame self.old self.new) }
     {
         if self.is_calling() {
@@ -128,8 +71,8 @@ impl Machine {
         }
     }
 
-    /// A block that is passed: its words are passed over.
-    pub fn do_block(&mut self, name: &Text, next: u32) -> Result<(), AllocError>
+    // A block that is passed: its words are passed over.
+    pub(crate) fn do_block(&mut self, name: &Text, next: u32) -> Result<(), AllocError>
         ensures { OnOk result (Moves (λ n. s.do_block name.now next) self.old self.new) }
     {
         let name = name.copy()?;
@@ -140,8 +83,8 @@ impl Machine {
         Ok(())
     }
 
-    /// No block is passed.
-    pub fn do_bare(&mut self) -> Result<(), AllocError>
+    // No block is passed.
+    pub(crate) fn do_bare(&mut self) -> Result<(), AllocError>
         ensures { OnOk result (Moves (λ n. s.do_bare) self.old self.new) }
     {
         self.advance()

@@ -1,59 +1,21 @@
 // `if` and `unless`.
-ghost use Rattle.std.specs.Prelude.{◌≡◌, suc, not, is_none, IfOk, OnOk, if◌then◌else◌};
-ghost use Rattle.gl_value.specs.View.{view};
-ghost use Rattle.gl_value.specs.Value.{truthy};
-ghost use Rattle.gl_meaning.specs.Path as p;
-ghost use Rattle.gl_meaning.specs.View.{path_view, path_step_view};
+ghost use Rattle.std.specs.Prelude.{◌≡◌, is_none, IfOk, OnOk};
+ghost use Rattle.gl_meaning.specs.View.{path_view};
 ghost use Rattle.gl_machine.specs.Step as s;
 ghost use Rattle.gl_vm.specs.View.{Calm};
-ghost use Rattle.gl_append.specs.CodeView.{seen_choice};
+ghost use Rattle.gl_code.specs.CodeView.{seen_choice};
 ghost use Rattle.gl_append.specs.MachineView.{mach_by, seen_pushed};
 ghost use Rattle.gl_append.specs.Stepping.{Stepped};
 ghost use Rattle.gl_append.specs.Steps.{Changes, Takes, branch_entered};
 
-use crate::bodies::onward;
-use crate::code::{Choice, Spot};
-use crate::kept::position;
 use crate::machine::{Kind, Machine, Pushed};
 use crate::step::Next;
-use gl_meaning::{Path, PathStep};
+use gl_code::{Choice, Spot, after, chosen, onward, position, side, takes};
+use gl_meaning::Path;
 use gl_refs::{Ids, RefId};
-use gl_value::Value;
 use gl_vm::Vm;
 use std::alloc::AllocError;
 use std::mem;
-
-/// Whether the main body is shown for a value.
-pub fn takes(unless: bool, value: &Value) -> bool
-    ensures { result ≡ (if unless then not (truthy (view value.now)) else truthy (view value.now)) }
-{
-    if unless {
-        !value.truthy()
-    } else {
-        value.truthy()
-    }
-}
-
-/// The next address.
-pub fn after(pc: u32) -> Result<u32, AllocError>
-    ensures { IfOk result (λ next. next ≡ suc pc) }
-{
-    pc.checked_add(1).ok_or(AllocError)
-}
-
-/// The address of the main body or of the other one.
-pub fn chosen(main: bool, first: u32, second: u32) -> u32
-    ensures { result ≡ (if main then first else second) }
-{
-    if main { first } else { second }
-}
-
-/// The step to the main body or to the other one.
-pub fn side(main: bool) -> PathStep
-    ensures { path_step_view result ≡ (if main then p.main else p.otherwise) }
-{
-    if main { PathStep::Then } else { PathStep::Else }
-}
 
 impl Machine {
     fn enter_branch(
@@ -71,8 +33,8 @@ impl Machine {
         self.begin(path, Kind::Branch { choice, spot, main })
     }
 
-    /// An `if` or `unless` of the reference on the top: a position, of which the body is begun that is shown.
-    pub fn do_if(
+    // An `if` or `unless` of the reference on the top: a position, of which the body is begun that is shown.
+    pub(crate) fn do_if(
         &mut self,
         vm: &mut Vm,
         unless: bool,
@@ -105,15 +67,15 @@ impl Machine {
         self.enter_branch(choice, id, main, path)
     }
 
-    /// Whether no body is under way but the outermost.
-    pub fn is_outermost(&self) -> bool
+    // Whether no body is under way but the outermost.
+    pub(crate) fn is_outermost(&self) -> bool
         ensures { (n : _) (st : _) → is_none (s.popped (mach_by n st self.now).rest.frames) ≡ result }
     {
         self.frames.as_slice().is_empty() && self.calls.as_slice().is_empty()
     }
 
-    /// The first body of an `if` or an `each` ends: the other is passed over.
-    pub fn do_else(&mut self, behind: u32) -> Result<Next, AllocError>
+    // The first body of an `if` or an `each` ends: the other is passed over.
+    pub(crate) fn do_else(&mut self, behind: u32) -> Result<Next, AllocError>
         ensures { IfOk result (λ r. (n : _) (vm : _) → Stepped n (λ m. s.else_at m behind (s.popped m.rest.frames)) vm self.old vm self.new r) }
     {
         if self.is_outermost() {

@@ -1,30 +1,18 @@
 // Words elsewhere that are run for the present place: getters, and the parts for which `...attributes` stands.
-ghost use Rattle.std.specs.Prelude.{◌≡◌, ◌++◌, ◌∷◌, [], IfOk, OnOk, suc, Some, true};
+ghost use Rattle.std.specs.Prelude.{◌≡◌, IfOk, OnOk, Some, true};
 ghost use Rattle.gl_machine.specs.Sight.{passing, passing_in};
 ghost use Rattle.gl_machine.specs.Step as s;
-ghost use Rattle.gl_vm.specs.View.{stamps};
-ghost use Rattle.gl_append.specs.View.{seen_sight};
-ghost use Rattle.gl_append.specs.MachineView.{mach_by, seen_back, seen_here};
-ghost use Rattle.gl_append.specs.Steps.{Moves, LeavesFor, GoesBack, PopsCall, EndsParts, mach_back};
+ghost use Rattle.gl_code.specs.View.{seen_sight};
+ghost use Rattle.gl_append.specs.Steps.{Moves, LeavesFor, GoesBack, PopsCall, EndsParts};
 
 use crate::machine::{Back, Call, Machine};
-use crate::sight::{Sight, copied};
-use gl_refs::{Ids, RefId};
-use std::alloc::{AllocError, Global};
+use gl_code::{Sight, copied, same_ids};
+use std::alloc::AllocError;
 use std::mem;
 
-/// The same references.
-pub fn same_ids(alloc: Global, ids: &[RefId]) -> Result<Ids, AllocError>
-    ensures { IfOk result (λ r. r ≡ ids.now) }
-{
-    let mut list = Vec::new(alloc);
-    list.extend_from_slice(ids)?;
-    Ok(Ids::from_vec(list))
-}
-
 impl Machine {
-    /// Another scope is seen. Behind the present word it goes on as before.
-    pub fn leave_for(&mut self, sight: Sight) -> Result<Back, AllocError>
+    // Another scope is seen. Behind the present word it goes on as before.
+    pub(crate) fn leave_for(&mut self, sight: Sight) -> Result<Back, AllocError>
         ensures { IfOk result (λ b. LeavesFor self.old self.new b sight) }
     {
         self.advance()?;
@@ -38,8 +26,8 @@ impl Machine {
         })
     }
 
-    /// A getter of the present instance, by its number in the class.
-    pub fn do_getter(&mut self, getter: u32) -> Result<(), AllocError>
+    // A getter of the present instance, by its number in the class.
+    pub(crate) fn do_getter(&mut self, getter: u32) -> Result<(), AllocError>
         ensures { OnOk result ((env : _) (store : _) → Moves (λ n. s.do_getter env store getter) self.old self.new) }
     {
         let sight = self.sight.own()?;
@@ -50,8 +38,8 @@ impl Machine {
         Ok(())
     }
 
-    /// The words at an address are run in another scope, up to the word behind the parts.
-    pub fn enter_parts(&mut self, parts: u32, sight: Sight) -> Result<(), AllocError>
+    // The words at an address are run in another scope, up to the word behind the parts.
+    pub(crate) fn enter_parts(&mut self, parts: u32, sight: Sight) -> Result<(), AllocError>
         ensures { OnOk result ((k : _) (slots : _) → Moves (λ n m. s.spread_to m (passing k parts slots (seen_sight n sight))) self.old self.new) }
     {
         let back = self.leave_for(sight)?;
@@ -61,8 +49,8 @@ impl Machine {
         Ok(())
     }
 
-    /// `...attributes`: the parts that were passed, in the scope that wrote them.
-    pub fn do_spread(&mut self) -> Result<(), AllocError>
+    // `...attributes`: the parts that were passed, in the scope that wrote them.
+    pub(crate) fn do_spread(&mut self) -> Result<(), AllocError>
         ensures { OnOk result (Moves (λ n m. s.spread_to m (passing_in m.rest.sight)) self.old self.new) }
     {
         match self.sight.chain.as_slice().split_first() {
@@ -76,8 +64,8 @@ impl Machine {
         }
     }
 
-    /// Goes back to where a call was begun.
-    pub fn go_back(&mut self, back: Back)
+    // Goes back to where a call was begun.
+    pub(crate) fn go_back(&mut self, back: Back)
         ensures { GoesBack self.old self.new back }
     {
         self.getter = back.getter;
@@ -86,8 +74,8 @@ impl Machine {
         self.pending = back.pending;
     }
 
-    /// The last call, where there is one.
-    pub fn pop_call(&mut self) -> Option<Call>
+    // The last call, where there is one.
+    pub(crate) fn pop_call(&mut self) -> Option<Call>
         ensures { PopsCall self.old self.new result }
     {
         match self.calls.pop() {
@@ -96,9 +84,9 @@ impl Machine {
         }
     }
 
-    /// Behind the words of the parts for which `...attributes` stands it is gone on where that was. Tells whether these are
-    /// the words that were run.
-    pub fn end_parts(&mut self) -> Result<bool, AllocError>
+    // Behind the words of the parts for which `...attributes` stands it is gone on where that was. Tells whether these are
+    // the words that were run.
+    pub(crate) fn end_parts(&mut self) -> Result<bool, AllocError>
         ensures { IfOk result (EndsParts self.old self.new) }
     {
         match self.calls.as_slice().split_last() {

@@ -1,49 +1,26 @@
 // Elements: where a tag ends and the body begins, and where the body ends.
-ghost use Rattle.std.specs.Prelude.{◌≡◌, map, OnOk};
+ghost use Rattle.std.specs.Prelude.{map, OnOk};
 ghost use Rattle.gl_meaning.specs.View.{path_view};
-ghost use Rattle.gl_machine.specs.Code as c;
 ghost use Rattle.gl_machine.specs.Step as s;
 ghost use Rattle.gl_vm.specs.View.{Agrees, Calm};
-ghost use Rattle.gl_append.specs.View.{refs_made};
-ghost use Rattle.gl_append.specs.CodeView.{seen_attr_spot, seen_mod_spot, seen_code, seen_codes};
-ghost use Rattle.gl_append.specs.MachineView.{seen_here, seen_kind, seen_parts, mach_of};
+ghost use Rattle.gl_code.specs.CodeView.{seen_attr_spot};
+ghost use Rattle.gl_append.specs.MachineView.{seen_here, seen_kind, mach_of};
+ghost use Rattle.gl_parts.specs.Parts.{seen_parts};
 ghost use Rattle.gl_append.specs.Steps.{Changes, Takes, GoesOn};
 ghost use Rattle.gl_append.specs.TagSteps.{element_begun, element_entered};
 
-use crate::attributes::{Attributes, flush};
-use crate::code::{AttrSpot, Code, Codes, ModSpot};
-use crate::machine::{Frame, Kind, Machine, Making, Waiting};
-use crate::modifiers::install_all;
+use crate::machine::{Frame, Kind, Machine, Making};
+use gl_code::{AttrSpot, Code};
 use gl_meaning::Path;
 use gl_nodes::{Attrs, NodeId};
+use gl_parts::{Attributes, Waiting, flush, install_all};
 use gl_refs::Ids;
 use gl_vm::Vm;
 use std::alloc::AllocError;
 use std::mem;
 
-impl Code {
-    /// An element.
-    pub fn element(
-        node: NodeId,
-        made: Ids,
-        attrs: Vec<AttrSpot>,
-        mods: Vec<ModSpot>,
-        body: Codes,
-    ) -> Code
-        ensures { (n : _) → seen_code n result ≡ c.element_code node.1 (refs_made made) (map seen_attr_spot attrs.items) (map seen_mod_spot mods.items) (seen_codes n body) }
-    {
-        Code::Element {
-            node,
-            made,
-            attrs,
-            mods,
-            body,
-        }
-    }
-}
-
 impl Machine {
-    /// The body of an element begins at a path.
+    // The body of an element begins at a path.
     fn enter_element(
         &mut self,
         path: Path,
@@ -66,7 +43,7 @@ impl Machine {
         )
     }
 
-    /// The element is made with these attributes, and its body begins.
+    // The element is made with these attributes, and its body begins.
     fn begin_element(&mut self, vm: &mut Vm, given: Attributes) -> Result<(), AllocError>
         ensures step { OnOk result (Takes (λ n. element_begun given.attrs.items (map seen_attr_spot given.spots.items)) vm.old self.old vm.new self.new) }
         ensures calm { Calm vm.old → Calm vm.new }
@@ -78,8 +55,8 @@ impl Machine {
         self.enter_element(path, node, spots, making.parts)
     }
 
-    /// A tag ends: the element is made with its attributes, and its body begins.
-    pub fn do_flush(&mut self, vm: &mut Vm) -> Result<(), AllocError>
+    // A tag ends: the element is made with its attributes, and its body begins.
+    pub(crate) fn do_flush(&mut self, vm: &mut Vm) -> Result<(), AllocError>
         requires calm { Calm vm.old }
         ensures step { OnOk result (Takes (λ n. s.do_flush) vm.old self.old vm.new self.new) }
         ensures calm { Calm vm.new }
@@ -88,8 +65,8 @@ impl Machine {
         self.begin_element(vm, given)
     }
 
-    /// An element ends: its modifiers are installed.
-    pub fn do_close(&mut self, vm: &mut Vm) -> Result<(), AllocError>
+    // An element ends: its modifiers are installed.
+    pub(crate) fn do_close(&mut self, vm: &mut Vm) -> Result<(), AllocError>
         requires calm { Calm vm.old }
         ensures step { OnOk result (Takes (λ n m. s.with_top m s.do_close) vm.old self.old vm.new self.new) }
         ensures calm { Calm vm.new }
@@ -100,7 +77,7 @@ impl Machine {
         }
     }
 
-    /// The element of a frame ends.
+    // The element of a frame ends.
     fn end_element(&mut self, vm: &mut Vm, frame: Frame) -> Result<(), AllocError>
         requires calm { Calm vm.old }
         ensures step { OnOk result ((n : _) (touched : _) → Agrees touched vm.old → GoesOn n (s.do_close (mach_of n touched vm.old self.old) (mach_of n touched vm.old self.old).rest.frames (seen_here n frame.here) (seen_kind n frame.kind)) vm.new self.new) }

@@ -1,71 +1,28 @@
 // The items of an `each`.
-ghost use Rattle.std.specs.Prelude.{◌≡◌, ◌++◌, ◌∷◌, suc, IfOk, OnOk};
+ghost use Rattle.std.specs.Prelude.{◌≡◌, ◌∷◌, suc, IfOk, OnOk};
 ghost use Rattle.gl_value.specs.Value.{plain};
 ghost use Rattle.gl_value.specs.View.{view};
 ghost use Rattle.gl_meaning.specs.Path as p;
 ghost use Rattle.gl_meaning.specs.View.{path_view};
 ghost use Rattle.gl_plain.specs.Naming.{by_number};
 ghost use Rattle.gl_machine.specs.Mach as m;
-ghost use Rattle.gl_machine.specs.RenewCode as r;
-ghost use Rattle.gl_machine.specs.Sight.{with_locals};
 ghost use Rattle.gl_machine.specs.Step as s;
-ghost use Rattle.gl_vm.specs.View.{Calm, stamps};
-ghost use Rattle.gl_append.specs.View.{seen_locals, seen_sight};
-ghost use Rattle.gl_append.specs.CodeView.{seen_listing, seen_item_spot, stamp_of, seen_codes, seen_item_code};
-ghost use Rattle.gl_append.specs.MachineView.{seen_here, seen_kind, seen_left, seen_entry};
+ghost use Rattle.gl_vm.specs.View.{Calm};
+ghost use Rattle.gl_code.specs.View.{seen_sight};
+ghost use Rattle.gl_append.specs.MachineView.{seen_here, seen_kind};
+ghost use Rattle.gl_code.specs.Entries.{seen_left};
 ghost use Rattle.gl_append.specs.Steps.{Changes, Takes, EndsFrame, EndsCall};
 ghost use Rattle.gl_append.specs.ListSteps.{body_entered, ItemBegins, ItemDone};
 
-use crate::bodies::onward;
-use crate::branches::after;
-use crate::code::{Codes, ItemCode, ItemSpot, Listing};
-use crate::comments::comment_for;
-use crate::entries::counted;
-use crate::lets::params_from;
-use crate::machine::{Call, Entry, Frame, Iteration, Kind, Machine};
-use crate::sight::Sight;
+use crate::machine::{Call, Frame, Iteration, Kind, Machine};
+use gl_code::{
+    Entry, ItemCode, ItemSpot, Sight, after, comment_for, counted, item_params, item_sight, onward,
+};
 use gl_meaning::{Path, PathStep};
-use gl_nodes::NodeId;
-use gl_refs::{Ids, RefId};
-use gl_scope::Locals;
+use gl_refs::Ids;
 use gl_value::Value;
 use gl_vm::Vm;
-use std::alloc::{AllocError, Global};
-
-// Adds the parameter that an operand of Item names, one more than its symbol; 0 names none.
-fn push_operand(locals: &mut Locals, operand: u32, id: RefId) -> Result<(), AllocError>
-    ensures { OnOk result (seen_locals locals.new ≡ seen_locals locals.old ++ r.by_operand operand id.1) }
-{
-    match operand.checked_sub(1) {
-        Some(symbol) => locals.push(symbol, id),
-        None => Ok(()),
-    }
-}
-
-/// What is seen in an item with these references of its value and its index.
-pub fn item_sight(listing: &Listing, value: RefId, index: RefId) -> Result<Sight, AllocError>
-    ensures { IfOk result (λ w. (n : _) → seen_sight n w ≡ with_locals (r.item_locals (seen_listing n listing.now) value.1 index.1) (seen_sight n listing.now.sight.value)) }
-{
-    let mut sight = listing.sight.as_ref().copy()?;
-    push_operand(&mut sight.level.locals, listing.value, value)?;
-    push_operand(&mut sight.level.locals, listing.index, index)?;
-    Ok(sight)
-}
-
-/// The references of an item's parameters.
-pub fn item_params(
-    alloc: Global,
-    listing: &Listing,
-    value: RefId,
-    index: RefId,
-) -> Result<Ids, AllocError>
-    ensures { IfOk result (λ v. (n : _) → stamps v ≡ r.refs_in (r.item_locals (seen_listing n listing.now) value.1 index.1)) }
-{
-    let mut locals = Locals::new(alloc);
-    push_operand(&mut locals, listing.value, value)?;
-    push_operand(&mut locals, listing.index, index)?;
-    params_from(alloc, locals.as_slice(), 0)
-}
+use std::alloc::AllocError;
 
 // The address of Item where items are left, or the one behind the present one.
 fn next_item(left: &[Entry], start: u32, pc: u32) -> Result<u32, AllocError>
@@ -75,19 +32,6 @@ fn next_item(left: &[Entry], start: u32, pc: u32) -> Result<u32, AllocError>
         after(pc)
     } else {
         Ok(start)
-    }
-}
-
-impl ItemCode {
-    /// An item that was rendered.
-    pub fn rendered(spot: ItemSpot, comment: Option<NodeId>, body: Codes) -> ItemCode
-        ensures { (n : _) → seen_item_code n result ≡ (seen_item_spot spot, (stamp_of comment, seen_codes n body)) }
-    {
-        ItemCode {
-            spot,
-            comment,
-            body,
-        }
     }
 }
 
@@ -164,8 +108,8 @@ impl Machine {
         }
     }
 
-    /// The next item of the list begins.
-    pub fn do_item(&mut self, vm: &mut Vm) -> Result<(), AllocError>
+    // The next item of the list begins.
+    pub(crate) fn do_item(&mut self, vm: &mut Vm) -> Result<(), AllocError>
         ensures step { OnOk result (Takes (λ n k. s.with_top k (s.do_item_as by_number)) vm.old self.old vm.new self.new) }
         ensures calm { Calm vm.old → Calm vm.new }
     {
@@ -175,8 +119,8 @@ impl Machine {
         }
     }
 
-    /// An item ends, whose frame was taken: the next one comes, or what stands behind the list's body.
-    pub fn do_end_item(&mut self, vm: &mut Vm, frame: Frame) -> Result<(), AllocError>
+    // An item ends, whose frame was taken: the next one comes, or what stands behind the list's body.
+    pub(crate) fn do_end_item(&mut self, vm: &mut Vm, frame: Frame) -> Result<(), AllocError>
         ensures step { OnOk result (EndsFrame (λ n. s.do_end_item) vm.old self.old frame vm.new self.new) }
         ensures calm { Calm vm.old → Calm vm.new }
     {

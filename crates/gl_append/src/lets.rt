@@ -1,25 +1,18 @@
 // `let` and the parameters of blocks.
-ghost use Rattle.std.specs.Prelude.{◌≡◌, ◌++◌, ◌∷◌, [], suc, drop, IfOk, OnOk};
+ghost use Rattle.std.specs.Prelude.{◌≡◌, ◌∷◌, [], suc, IfOk, OnOk};
 ghost use Rattle.gl_meaning.specs.View.{path_view};
 ghost use Rattle.gl_machine.specs.Step as s;
 ghost use Rattle.gl_plain.specs.Ids.{ref};
-ghost use Rattle.gl_machine.specs.Code as c;
 ghost use Rattle.gl_machine.specs.Sight.{with_locals};
 ghost use Rattle.gl_vm.specs.View.{stamps, Calm};
-ghost use Rattle.gl_append.specs.View.{refs_made, seen_sight, seen_locals};
-ghost use Rattle.gl_machine.specs.RenewCode.{refs_in};
+ghost use Rattle.gl_code.specs.View.{seen_sight};
 ghost use Rattle.gl_machine.specs.Mach.{going};
-ghost use Rattle.gl_append.specs.MachineView.{mach_by};
-ghost use Rattle.gl_append.specs.CodeView.{seen_code, seen_codes};
-ghost use Rattle.gl_append.specs.MachineView.{seen_here, seen_kind};
+ghost use Rattle.gl_append.specs.MachineView.{mach_by, seen_here, seen_kind};
 ghost use Rattle.gl_append.specs.Steps.{Moves, Changes, Takes, TakesFirst, KeepsMade, let_entered};
 
-use crate::bodies::onward;
-use crate::calls::same_ids;
-use crate::code::{Code, Codes};
 use crate::machine::{Frame, Kind, Machine};
-use crate::sight::Sight;
 use crate::stack::{positional, take_last};
+use gl_code::{Code, Sight, onward, params_from, same_ids};
 use gl_meaning::{Path, PathStep};
 use gl_refs::{Ids, RefId};
 use gl_value::Value;
@@ -27,18 +20,9 @@ use gl_vm::Vm;
 use std::alloc::{AllocError, Global};
 use std::mem;
 
-impl Code {
-    /// A `let`.
-    pub fn named(made: Ids, params: Ids, body: Codes) -> Code
-        ensures { (n : _) → seen_code n result ≡ c.let_code (refs_made made) (stamps params) (seen_codes n body) }
-    {
-        Code::Let { made, params, body }
-    }
-}
-
 impl Frame {
-    /// The frame, which keeps what was made for a parameter.
-    pub fn keeping(self, id: RefId) -> Result<Frame, AllocError>
+    // The frame, which keeps what was made for a parameter.
+    pub(crate) fn keeping(self, id: RefId) -> Result<Frame, AllocError>
         ensures here { IfOk result (λ f. f.here ≡ self.here) }
         ensures kind { IfOk result (λ f. (n : _) → seen_kind n f.kind ≡ s.with_made (ref id.1) (seen_kind n self.kind)) }
     {
@@ -77,8 +61,8 @@ impl Frame {
 }
 
 impl Machine {
-    /// A `let` over the last ones of the stack begins.
-    pub fn do_let(&mut self, count: u32) -> Result<(), AllocError>
+    // A `let` over the last ones of the stack begins.
+    pub(crate) fn do_let(&mut self, count: u32) -> Result<(), AllocError>
         ensures { OnOk result (Moves (λ n. s.do_let count) self.old self.new) }
     {
         let taken = take_last(&mut self.stack, count)?;
@@ -89,8 +73,8 @@ impl Machine {
         self.begin_let(path, sight, pending)
     }
 
-    /// A `let` ends.
-    pub fn do_end_let(&mut self) -> Result<(), AllocError>
+    // A `let` ends.
+    pub(crate) fn do_end_let(&mut self) -> Result<(), AllocError>
         ensures { OnOk result (Moves (λ n m. s.with_top m s.do_end_let) self.old self.new) }
     {
         match self.pop_frame()? {
@@ -140,8 +124,8 @@ impl Machine {
         )
     }
 
-    /// A parameter takes the reference that is next among those that wait, or a new one, which is undefined.
-    pub fn do_bind(&mut self, vm: &mut Vm, symbol: u32) -> Result<(), AllocError>
+    // A parameter takes the reference that is next among those that wait, or a new one, which is undefined.
+    pub(crate) fn do_bind(&mut self, vm: &mut Vm, symbol: u32) -> Result<(), AllocError>
         ensures step { OnOk result (Takes (λ n m. s.do_bind symbol m m.rest.pending) vm.old self.old vm.new self.new) }
         ensures calm { Calm vm.old → Calm vm.new }
     {
@@ -155,7 +139,7 @@ impl Machine {
         }
     }
 
-    /// What is made for a parameter is kept by the last frame.
+    // What is made for a parameter is kept by the last frame.
     fn keep_made(&mut self, id: RefId) -> Result<(), AllocError>
         ensures { OnOk result (KeepsMade self.old self.new id) }
     {
@@ -177,30 +161,8 @@ impl Machine {
     }
 }
 
-/// The references of these parameters.
-fn ids_in(alloc: Global, locals: &[(u32, RefId)]) -> Result<Ids, AllocError>
-    ensures { IfOk result (λ v. stamps v ≡ refs_in (seen_locals locals.now)) }
-{
-    let mut ids = Ids::with_capacity(alloc, locals.len())?;
-    for local in locals {
-        ids.push(local.1)?;
-    }
-    Ok(ids)
-}
-
-/// The references of the parameters from a place on.
-pub fn params_from(alloc: Global, locals: &[(u32, RefId)], at: usize) -> Result<Ids, AllocError>
-    ensures { IfOk result (λ v. stamps v ≡ refs_in (drop at (seen_locals locals.now))) }
-{
-    if at > locals.len() {
-        return Err(AllocError);
-    }
-    let (_, rest) = locals.split_at(at);
-    ids_in(alloc, rest)
-}
-
-/// Takes the first of a list.
-pub fn take_first(alloc: Global, ids: &mut Ids) -> Result<Option<RefId>, AllocError>
+// Takes the first of a list.
+pub(crate) fn take_first(alloc: Global, ids: &mut Ids) -> Result<Option<RefId>, AllocError>
     ensures { IfOk result (TakesFirst ids.old ids.new) }
 {
     match ids.as_slice().split_first() {

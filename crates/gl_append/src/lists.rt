@@ -1,26 +1,20 @@
 // `each`: how a list begins and ends.
-ghost use Rattle.std.specs.Prelude.{◌≡◌, ◌++◌, ◌∷◌, [], map, IfOk, OnOk};
+ghost use Rattle.std.specs.Prelude.{◌≡◌, ◌++◌, ◌∷◌, [], IfOk, OnOk};
 ghost use Rattle.gl_meaning.specs.Path as p;
 ghost use Rattle.gl_meaning.specs.View.{path_view};
 ghost use Rattle.gl_plain.specs.Ids.{ref};
-ghost use Rattle.gl_machine.specs.Code as c;
 ghost use Rattle.gl_machine.specs.Mach as m;
 ghost use Rattle.gl_machine.specs.Step as s;
 ghost use Rattle.gl_vm.specs.View.{Calm};
-ghost use Rattle.gl_append.specs.CodeView.{seen_listing, seen_spot, seen_item_spot, stamp_of, seen_code, seen_codes, seen_item_code, all_items};
-ghost use Rattle.gl_append.specs.MachineView.{seen_here, seen_pushed, seen_left, seen_items, call_kind};
-ghost use Rattle.gl_append.specs.Steps.{Moves, Changes, Takes, EndsFrame, EndsCall};
+ghost use Rattle.gl_code.specs.CodeView.{seen_listing, seen_spot};
+ghost use Rattle.gl_append.specs.MachineView.{seen_here, seen_pushed, call_kind};
+ghost use Rattle.gl_code.specs.Entries.{seen_left};
+ghost use Rattle.gl_append.specs.Steps.{Moves, Changes, Takes, EndsFrame};
 ghost use Rattle.gl_append.specs.ListSteps.{each_at, list_waiting};
 
-use crate::bodies::onward;
-use crate::branches::after;
-use crate::code::{Code, Codes, ItemCode, Listing, Spot};
-use crate::comments::comment_for;
-use crate::entries::items_of;
-use crate::kept::position;
-use crate::machine::{Call, Entry, Frame, Iteration, Kind, Machine, Pushed};
+use crate::machine::{Call, Frame, Iteration, Kind, Machine, Pushed};
+use gl_code::{Code, Entry, Listing, Spot, after, comment_for, items_of, onward, position};
 use gl_meaning::{Path, PathStep};
-use gl_nodes::NodeId;
 use gl_refs::{Ids, RefId};
 use gl_value::{SharedText, Text};
 use gl_vm::Vm;
@@ -34,34 +28,9 @@ fn kept_key(alloc: Global, key: &Text) -> Result<SharedText, AllocError>
     SharedText::new(alloc, key.copy()?)
 }
 
-impl Code {
-    /// An `each` with items.
-    pub fn listed(listing: Listing, spot: Spot, items: Vec<ItemCode>) -> Code
-        ensures { (n : _) → seen_code n result ≡ c.listed_code (seen_listing n listing) (seen_spot spot) (all_items (map (seen_item_code n) items.items)) }
-    {
-        Code::Listed {
-            listing,
-            spot,
-            items,
-        }
-    }
-
-    /// An `each` without items.
-    pub fn unlisted(listing: Listing, spot: Spot, comment: Option<NodeId>, body: Codes) -> Code
-        ensures { (n : _) → seen_code n result ≡ c.unlisted_code (seen_listing n listing) (seen_spot spot) (stamp_of comment) (seen_codes n body) }
-    {
-        Code::Unlisted {
-            listing,
-            spot,
-            comment,
-            body,
-        }
-    }
-}
-
 impl Machine {
-    /// A list is between two of its items, and an address is gone to.
-    pub fn wait_at(&mut self, pc: u32, iteration: Iteration) -> Result<(), AllocError>
+    // A list is between two of its items, and an address is gone to.
+    pub(crate) fn wait_at(&mut self, pc: u32, iteration: Iteration) -> Result<(), AllocError>
         ensures { OnOk result (Changes (λ n. list_waiting (call_kind n (Call.Each iteration)) pc) self.old self.new) }
     {
         self.made = Ids::new(self.alloc);
@@ -117,9 +86,9 @@ impl Machine {
         }
     }
 
-    /// An `each` of the reference on the top: a position, and the first item comes next, or the body where there is none.
-    /// The operands are those of the Item behind it.
-    pub fn do_each(
+    // An `each` of the reference on the top: a position, and the first item comes next, or the body where there is none.
+    // The operands are those of the Item behind it.
+    pub(crate) fn do_each(
         &mut self,
         vm: &mut Vm,
         key: &Text,
@@ -155,8 +124,8 @@ impl Machine {
         self.enter_list(listing, id, start, left)
     }
 
-    /// An `each` without items ends, whose frame was taken.
-    pub fn do_end_each(&mut self, vm: &mut Vm, frame: Frame) -> Result<(), AllocError>
+    // An `each` without items ends, whose frame was taken.
+    pub(crate) fn do_end_each(&mut self, vm: &mut Vm, frame: Frame) -> Result<(), AllocError>
         ensures step { OnOk result (EndsFrame (λ n. s.do_end_each) vm.old self.old frame vm.new self.new) }
         ensures calm { Calm vm.old → Calm vm.new }
     {
@@ -196,8 +165,8 @@ impl Machine {
         }
     }
 
-    /// An `each` ends of which all items are done: it is the last call.
-    pub fn end_list(&mut self) -> Result<(), AllocError>
+    // An `each` ends of which all items are done: it is the last call.
+    pub(crate) fn end_list(&mut self) -> Result<(), AllocError>
         ensures { OnOk result (Moves (λ n k. s.with_end k s.do_end_each) self.old self.new) }
     {
         match self.pop_call() {

@@ -1,51 +1,45 @@
 // The registers of the machine.
-use crate::code::{AttrSpot, Choice, Code, ItemCode, ItemSpot, Listing, Spot};
-use crate::sight::{Owner, Sight, Slot};
+
 use gl_arena::BlockId;
+use gl_code::{
+    AttrSpot, Choice, Code, Entry, ItemCode, ItemSpot, Listing, Owner, Sight, Slot, Spot,
+};
 use gl_meaning::Path;
 use gl_nodes::NodeId;
-use gl_refs::{Ids, NamedIds, RefId};
+use gl_parts::Waiting;
+use gl_refs::{Ids, RefId};
 use gl_scope::Args;
-use gl_value::{Text, Value};
+use gl_value::Text;
 use std::alloc::Global;
 use std::rc::Rc;
 
-/// A reference on the stack, with the name that follows it.
+// A reference on the stack, with the name that follows it.
 #[derive(Drop)]
-pub struct Pushed {
+pub(crate) struct Pushed {
     pub name: Option<Text>,
     pub id: RefId,
 }
 
-/// Where the machine is in a body: its path, the number of the next statement, and what was rendered of it.
+// Where the machine is in a body: its path, the number of the next statement, and what was rendered of it.
 #[derive(Drop)]
-pub struct Here {
+pub(crate) struct Here {
     pub path: Path,
     pub index: u64,
     pub codes: Vec<Code>,
 }
 
-/// Where to go on afterwards.
+// Where to go on afterwards.
 #[derive(Drop)]
-pub struct Back {
+pub(crate) struct Back {
     pub getter: Option<u32>,
     pub pc: u32,
     pub sight: Sight,
     pub pending: Ids,
 }
 
-/// An entry of a list that is to be rendered.
+// An `each` with items: the address of its Item, the items that are left, the next one last, and those that are done.
 #[derive(Drop)]
-pub struct Entry {
-    pub key: Value,
-    pub occurrence: u64,
-    pub value: Value,
-    pub index: u64,
-}
-
-/// An `each` with items: the address of its Item, the items that are left, the next one last, and those that are done.
-#[derive(Drop)]
-pub struct Iteration {
+pub(crate) struct Iteration {
     pub listing: Listing,
     pub spot: Spot,
     pub start: u32,
@@ -53,27 +47,9 @@ pub struct Iteration {
     pub done: Vec<ItemCode>,
 }
 
-/// A part of a tag that waits for the tag's end.
+// What was begun.
 #[derive(Drop)]
-pub enum Waiting {
-    Fixed {
-        name: Text,
-        text: Text,
-    },
-    Live {
-        name: Text,
-        id: RefId,
-    },
-    Modifier {
-        name: u32,
-        args: Ids,
-        named: NamedIds,
-    },
-}
-
-/// What was begun.
-#[derive(Drop)]
-pub enum Kind {
+pub(crate) enum Kind {
     Element {
         node: NodeId,
         made: Ids,
@@ -113,25 +89,25 @@ pub enum Kind {
     },
 }
 
-/// What stands above the frames, since the body stays the present one in it: words elsewhere that are run for the
-/// present place, a getter's or those of the parts for which `...attributes` stands, or an `each` between its items.
+// What stands above the frames, since the body stays the present one in it: words elsewhere that are run for the
+// present place, a getter's or those of the parts for which `...attributes` stands, or an `each` between its items.
 #[derive(Drop)]
-pub enum Call {
+pub(crate) enum Call {
     Getter(Back),
     Parts(Back),
     Each(Iteration),
 }
 
-/// A body that was begun.
+// A body that was begun.
 #[derive(Drop)]
-pub struct Frame {
+pub(crate) struct Frame {
     pub here: Here,
     pub kind: Kind,
 }
 
-/// A tag that is not whole yet.
+// A tag that is not whole yet.
 #[derive(Drop)]
-pub struct Making {
+pub(crate) struct Making {
     pub tag: Text,
     pub class: u16,
     pub args: Args,
@@ -140,9 +116,9 @@ pub struct Making {
     pub slots: Vec<Slot>,
 }
 
-/// The registers of the machine.
+// The registers of the machine.
 #[derive(Drop)]
-pub struct Machine {
+pub(crate) struct Machine {
     pub alloc: Global,
     pub stack: Vec<Pushed>,
     pub made: Ids,

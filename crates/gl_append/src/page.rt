@@ -8,20 +8,17 @@ ghost use Rattle.gl_machine.specs.Shape.{nest};
 ghost use Rattle.gl_machine.specs.Mach as m;
 ghost use Rattle.gl_machine.specs.Sight.{sight, not_passed};
 ghost use Rattle.gl_vm.specs.View.{Calm};
-ghost use Rattle.gl_append.specs.View.{refs_made, seen_owner, seen_sight};
-ghost use Rattle.gl_append.specs.CodeView.{component_seen, seen_code, seen_codes};
+ghost use Rattle.gl_code.specs.View.{seen_owner, seen_sight};
+ghost use Rattle.gl_code.specs.CodeView.{seen_code, seen_codes};
 ghost use Rattle.gl_append.specs.MachineView.{seen_here};
-ghost use Rattle.gl_append.specs.Hung.{nest_of};
+ghost use Rattle.gl_code.specs.Hung.{nest_of};
 ghost use Rattle.gl_append.specs.Page.{MakesRoot, RunsRoot, RootFails, Appends, AppendFails};
 
-use crate::cells::Cells;
-use crate::code::{Code, Codes};
-use crate::components::{deeper, instantiate, lay_cells, own_level};
-use crate::fault::VmFault;
 use crate::machine::Machine;
-use crate::sight::{Owner, Sight};
-use crate::standing::hang;
-use crate::words::class_at;
+use gl_code::{
+    Cells, Code, Codes, Owner, Page, Sight, VmFault, class_at, deeper, hang, instantiate,
+    lay_cells, own_level,
+};
 use gl_meaning::{Class, Manifest, Path, PathSteps};
 use gl_opc::App;
 use gl_scope::Args;
@@ -30,25 +27,9 @@ use gl_vm::Vm;
 use std::alloc::{AllocError, Global};
 use std::rc::Rc;
 
-/// What is rendered: what the machine keeps, and the program that updates it.
-#[derive(Drop)]
-pub struct Page {
-    pub vm: Vm,
-    pub code: Code,
-}
-
-impl Code {
-    /// The root.
-    pub fn root(owner: Rc<Owner>, body: Codes) -> Code
-        ensures { (n : _) → seen_code n result ≡ component_seen (seen_owner n owner.value) [] (refs_made owner.value.cells) [] None (seen_codes n body) }
-    {
-        Code::Root { owner, body }
-    }
-}
-
 impl Machine {
-    /// What was rendered of the present body.
-    pub fn finish(self) -> Codes
+    // What was rendered of the present body.
+    pub(crate) fn finish(self) -> Codes
         ensures { (n : _) → seen_codes n result ≡ m.all_of (seen_here n self.here).codes }
     {
         let Machine { here, .. } = self;
@@ -58,21 +39,21 @@ impl Machine {
     }
 }
 
-/// The place of the first class of a name.
+// The place of the first class of a name.
 fn place_of(classes: &[Class], name: &Text) -> Option<usize>
     ensures { result ≡ position (λ x. bytes_eq name.now x.name) classes.now }
 {
     classes.iter().position(|class| name.same(&class.name))
 }
 
-/// The place of the class that is rendered.
+// The place of the class that is rendered.
 fn root_place(manifest: &Manifest) -> Option<usize>
     ensures { result ≡ class_number (manifest_view manifest.now) manifest.now.root }
 {
     place_of(manifest.classes.as_slice(), &manifest.root)
 }
 
-/// The number of the class that is rendered.
+// The number of the class that is rendered.
 fn root_class(manifest: &Manifest) -> Result<u16, AllocError>
     ensures { IfOk result (λ q. class_number (manifest_view manifest.now) manifest.now.root ≡ Some q) }
 {
@@ -87,7 +68,7 @@ fn root_class(manifest: &Manifest) -> Result<u16, AllocError>
     }
 }
 
-/// Makes the root: its cells, and its instance.
+// Makes the root: its cells, and its instance.
 fn make_root(
     vm: &mut Vm,
     alloc: Global,
@@ -107,7 +88,7 @@ fn make_root(
     Ok(owner)
 }
 
-/// What the root sees: no arguments, and nothing passed.
+// What the root sees: no arguments, and nothing passed.
 fn root_sight(alloc: Global, owner: &Rc<Owner>) -> Result<Sight, AllocError>
     ensures { IfOk result (λ s. (n : _) → seen_sight n s ≡ sight owner.now.value.class (seen_owner n owner.now.value) [] [] not_passed) }
 {
@@ -147,7 +128,7 @@ pub fn append(alloc: Global, app: &App, cells: &Cells) -> Result<Page, VmFault>
     }
 }
 
-/// Appends what is below the root.
+// Appends what is below the root.
 fn append_root(
     vm: &mut Vm,
     alloc: Global,
@@ -172,7 +153,7 @@ fn append_root(
     }
 }
 
-/// Puts the nodes of a page into the tree, where no node stands in it yet.
+// Puts the nodes of a page into the tree, where no node stands in it yet.
 fn hang_page(vm: &mut Vm, code: &Code) -> Result<(), AllocError>
     ensures nodes { OnOk result ((n : _) → nest_of vm.new.tree.forest ≡ nest (live_of (seen_code n code.now))) }
     ensures rest { OnOk result ((vm.new ≡ record vm.old { tree = vm.new.tree }) × (vm.new.tree.nodes ≡ vm.old.tree.nodes)) }

@@ -1,21 +1,20 @@
 // Programs that end, and components of which the program begins.
-ghost use Rattle.std.specs.Prelude.{◌≡◌, IfOk};
+ghost use Rattle.std.specs.Prelude.{IfOk};
 ghost use Rattle.gl_plain.specs.Naming.{by_number};
 ghost use Rattle.gl_machine.specs.Step as s;
 ghost use Rattle.gl_vm.specs.View.{Calm};
 ghost use Rattle.gl_append.specs.Stepping.{Stepped, StepsIn};
 
-use crate::cells::Cells;
 use crate::machine::{Call, Machine};
 use crate::step::Next;
-use crate::words::class_at;
+use gl_code::{Cells, class_at};
 use gl_opc::App;
 use gl_vm::Vm;
 use std::alloc::AllocError;
 
 impl Machine {
-    /// A program ends: a getter's, a component's, or the last one.
-    pub fn do_done(&mut self) -> Result<Next, AllocError>
+    // A program ends: a getter's, a component's, or the last one.
+    pub(crate) fn do_done(&mut self) -> Result<Next, AllocError>
         ensures { IfOk result (λ r. (n : _) (vm : _) → Stepped n (λ m. s.with_end m s.do_done) vm self.old vm self.new r) }
     {
         match self.calls.as_slice().split_last() {
@@ -50,8 +49,13 @@ impl Machine {
         }
     }
 
-    /// The tag of a component ends, and its program begins, where components may nest one deeper.
-    pub fn do_nest(&mut self, vm: &mut Vm, app: &App, cells: &Cells) -> Result<Next, AllocError>
+    // The tag of a component ends, and its program begins, where components may nest one deeper.
+    pub(crate) fn do_nest(
+        &mut self,
+        vm: &mut Vm,
+        app: &App,
+        cells: &Cells,
+    ) -> Result<Next, AllocError>
         requires calm { Calm vm.old }
         ensures step { IfOk result (λ r. StepsIn app.now cells.now (λ env store m. s.do_invoke_as by_number env store m m.rest.left) vm.old self.old vm.new self.new r) }
         ensures calm { Calm vm.new }
@@ -64,8 +68,8 @@ impl Machine {
         Ok(Next::Going)
     }
 
-    /// A list ends, with items or without.
-    pub fn leave_each(&mut self, vm: &mut Vm) -> Result<Next, AllocError>
+    // A list ends, with items or without.
+    pub(crate) fn leave_each(&mut self, vm: &mut Vm) -> Result<Next, AllocError>
         ensures step { IfOk result (λ r. (n : _) → Stepped n (λ m. s.with_end m s.do_end_each) vm.old self.old vm.new self.new r) }
         ensures calm { Calm vm.old → Calm vm.new }
     {

@@ -1,15 +1,13 @@
 // What is rendered of a statement: a text, a comment, a text mustache.
-ghost use Rattle.std.specs.Prelude.{◌≡◌, ◌∷◌, [], IfOk, OnOk};
-ghost use Rattle.gl_plain.specs.State.{text_content, comment_content};
+ghost use Rattle.std.specs.Prelude.{OnOk};
 ghost use Rattle.gl_machine.specs.Step as s;
 ghost use Rattle.gl_vm.specs.View.{Calm};
-ghost use Rattle.gl_append.specs.CodeView.{seen_code};
+ghost use Rattle.gl_code.specs.CodeView.{seen_code};
 ghost use Rattle.gl_append.specs.MachineView.{seen_pushed};
 ghost use Rattle.gl_append.specs.Steps.{Moves, Takes};
 
-use crate::code::{Code, Spot};
-use crate::kept::position;
 use crate::machine::{Machine, Pushed};
+use gl_code::{Code, Spot, position};
 use gl_refs::Ids;
 use gl_value::Text;
 use gl_vm::Vm;
@@ -17,8 +15,8 @@ use std::alloc::AllocError;
 use std::mem;
 
 impl Machine {
-    /// Something was rendered. What was made for it is its own.
-    pub fn show(&mut self, code: Code) -> Result<(), AllocError>
+    // Something was rendered. What was made for it is its own.
+    pub(crate) fn show(&mut self, code: Code) -> Result<(), AllocError>
         ensures { OnOk result (Moves (λ n m. s.show (seen_code n code, m.state) m) self.old self.new) }
     {
         if !self.calls.is_empty() {
@@ -31,8 +29,8 @@ impl Machine {
         Ok(())
     }
 
-    /// A text.
-    pub fn do_text(&mut self, vm: &mut Vm, text: &Text) -> Result<(), AllocError>
+    // A text.
+    pub(crate) fn do_text(&mut self, vm: &mut Vm, text: &Text) -> Result<(), AllocError>
         ensures step { OnOk result (Takes (λ n. s.do_text text.now) vm.old self.old vm.new self.new) }
         ensures calm { Calm vm.old → Calm vm.new }
     {
@@ -41,8 +39,8 @@ impl Machine {
         self.show(code)
     }
 
-    /// A comment.
-    pub fn do_comment(&mut self, vm: &mut Vm, text: &Text) -> Result<(), AllocError>
+    // A comment.
+    pub(crate) fn do_comment(&mut self, vm: &mut Vm, text: &Text) -> Result<(), AllocError>
         ensures step { OnOk result (Takes (λ n. s.do_comment text.now) vm.old self.old vm.new self.new) }
         ensures calm { Calm vm.old → Calm vm.new }
     {
@@ -51,8 +49,8 @@ impl Machine {
         self.show(code)
     }
 
-    /// A text mustache.
-    pub fn do_put(&mut self, vm: &mut Vm, top: Pushed) -> Result<(), AllocError>
+    // A text mustache.
+    pub(crate) fn do_put(&mut self, vm: &mut Vm, top: Pushed) -> Result<(), AllocError>
         requires calm { Calm vm.old }
         ensures step { OnOk result (Takes (λ n m. s.do_put m (m.stack, seen_pushed top)) vm.old self.old vm.new self.new) }
         ensures calm { Calm vm.new }

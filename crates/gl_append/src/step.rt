@@ -1,17 +1,14 @@
 // One word of a program: the opcode that stands there.
-ghost use Rattle.std.specs.Prelude.{◌≡◌, IfOk, Some, length, slice_get, codes, ◌∷◌, option_map};
-ghost use Rattle.gl_meaning.specs.View.{manifest_view};
-ghost use Rattle.gl_machine.specs.Env.{class_or};
-ghost use Rattle.gl_machine.specs.Step as s;
+ghost use Rattle.std.specs.Prelude.{IfOk, Some};
 ghost use Rattle.gl_program.specs.View.{program_view};
 ghost use Rattle.gl_vm.specs.View.{Calm};
-ghost use Rattle.gl_append.specs.Stepping.{DoesOp, Stepped};
+ghost use Rattle.gl_append.specs.Stepping.{DoesOp};
 
-use crate::cells::Cells;
 use crate::machine::Machine;
 use crate::stack::pop_pushed;
-use crate::words::{
-    action_at, class_number, helper_at, integer_at, modifier_at, name_at, operands_behind, text_at,
+use gl_code::{
+    Cells, action_at, class_number, helper_at, integer_at, modifier_at, name_at, operands_behind,
+    text_at,
 };
 use gl_opc::App;
 use gl_ops::Op;
@@ -20,17 +17,17 @@ use gl_value::Value;
 use gl_vm::Vm;
 use std::alloc::AllocError;
 
-/// How a step ends: there are more, all is rendered, or a component would nest too deep.
+// How a step ends: there are more, all is rendered, or a component would nest too deep.
 #[derive(Drop)]
-pub enum Next {
+pub(crate) enum Next {
     Going,
     Finished,
     TooDeep,
 }
 
 impl Machine {
-    /// The opcode of the present word.
-    pub fn do_op(
+    // The opcode of the present word.
+    pub(crate) fn do_op(
         &mut self,
         vm: &mut Vm,
         app: &App,
@@ -73,7 +70,7 @@ impl Machine {
         Ok(Next::Going)
     }
 
-    /// An opcode of a tag, or one below.
+    // An opcode of a tag, or one below.
     fn do_tag_op(
         &mut self,
         vm: &mut Vm,
@@ -120,7 +117,7 @@ impl Machine {
         Ok(Next::Going)
     }
 
-    /// An opcode that ends a branch, or one of lists, or one below.
+    // An opcode that ends a branch, or one of lists, or one below.
     fn do_list_op(
         &mut self,
         vm: &mut Vm,
@@ -155,7 +152,7 @@ impl Machine {
         Ok(Next::Going)
     }
 
-    /// An opcode of elements, components and blocks, or one below.
+    // An opcode of elements, components and blocks, or one below.
     fn do_block_op(
         &mut self,
         vm: &mut Vm,
@@ -197,7 +194,7 @@ impl Machine {
         Ok(Next::Going)
     }
 
-    /// An opcode that reads the scope or what is on the stack, or one below.
+    // An opcode that reads the scope or what is on the stack, or one below.
     fn do_scope_op(
         &mut self,
         vm: &mut Vm,
@@ -246,7 +243,7 @@ impl Machine {
         Ok(Next::Going)
     }
 
-    /// An opcode that pushes a value of its own.
+    // An opcode that pushes a value of its own.
     fn do_value_op(
         &mut self,
         vm: &mut Vm,

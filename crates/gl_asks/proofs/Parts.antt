@@ -8,15 +8,15 @@ use Rattle.gl_base.proofs.Lists.{drop_item}
 use Rattle.gl_plain.specs.Counts.{positions_of, positions_in, positions_items, attr_positions, mod_positions}
 use Rattle.gl_machine.specs.Code as c
 use Rattle.gl_vm.specs.View.{Tables}
-use Rattle.gl_append.specs.CodeView.{seen_code, seen_codes, seen_item_code, seen_attr_spot, seen_mod_spot, all_codes, all_items}
-use Rattle.gl_append.specs.declared.code.Spot.{Spot}
-use Rattle.gl_append.specs.declared.code.AttrSpot.{AttrSpot}
-use Rattle.gl_append.specs.declared.code.ModSpot.{ModSpot}
-use Rattle.gl_append.specs.declared.code.Code.{Code, the_lemmas}
-use Rattle.gl_append.specs.declared.code.Codes.{Codes}
-use Rattle.gl_append.specs.declared.code.ItemCode.{ItemCode}
-use Rattle.gl_append.specs.declared.code.Code.TheVariants.{Element, Branch, Listed, Unlisted, Let, Component, Root, Yield, Still, Put}
-use Rattle.gl_append.proofs.CodeNests.{body_is}
+use Rattle.gl_code.specs.CodeView.{seen_code, seen_codes, seen_item_code, seen_attr_spot, seen_mod_spot, all_codes, all_items}
+use Rattle.gl_code.specs.declared.code.Spot.{Spot}
+use Rattle.gl_code.specs.declared.code.AttrSpot.{AttrSpot}
+use Rattle.gl_code.specs.declared.code.ModSpot.{ModSpot}
+use Rattle.gl_code.specs.declared.code.Code.{Code, the_lemmas}
+use Rattle.gl_code.specs.declared.code.Codes.{Codes}
+use Rattle.gl_code.specs.declared.code.ItemCode.{ItemCode}
+use Rattle.gl_code.specs.declared.code.Code.TheVariants.{Element, Branch, Listed, Unlisted, Let, Component, Root, Yield, Still, Put}
+use Rattle.gl_code.proofs.CodeNests.{body_is}
 use Rattle.gl_asks.specs.Filled.{Fills}
 
 abbrev pub code_spots : Tables → Code → List ℕ

@@ -3,11 +3,11 @@ ghost use Rattle.std.specs.Prelude.{◌≡◌, ◌∷◌, [], ◌++◌, map, nat
 ghost use Rattle.gl_plain.specs.Counts.{positions_of, positions_in, positions_items, attr_positions, mod_positions};
 ghost use Rattle.gl_machine.specs.Code.{live_of, lives_of, items_of};
 ghost use Rattle.gl_guards.specs.Along.{few};
-ghost use Rattle.gl_append.specs.CodeView.{seen_attr_spot, seen_mod_spot, seen_code, seen_codes, seen_item_code, all_items};
+ghost use Rattle.gl_code.specs.CodeView.{seen_attr_spot, seen_mod_spot, seen_code, seen_codes, seen_item_code, all_items};
 ghost use Rattle.gl_vm.specs.View.{stamps};
 ghost use Rattle.gl_asks.specs.Filled.{has_many, Fills};
 
-use gl_append::{AttrSpot, Code, Codes, ItemCode, ModSpot, Spot};
+use gl_code::{AttrSpot, Code, Codes, ItemCode, ModSpot, Spot};
 use gl_refs::RefId;
 use smallvec::SmallVec;
 use std::alloc::AllocError;

@@ -5,11 +5,11 @@ ghost use Rattle.gl_machine.specs.Code.{lives_of, items_of};
 ghost use Rattle.gl_guards.specs.Along.{enters_few};
 ghost use Rattle.gl_vm.specs.View.{Calm, Agrees, stamps, state_of};
 ghost use Rattle.gl_vm.specs.Steps.{Does};
-ghost use Rattle.gl_append.specs.CodeView.{seen_codes, seen_item_code, all_items};
+ghost use Rattle.gl_code.specs.CodeView.{seen_codes, seen_item_code, all_items};
 
 use crate::gathering::{Found, gather_codes, gather_items, too_many};
 use crate::stale::is_stale;
-use gl_append::{Codes, ItemCode};
+use gl_code::{Codes, ItemCode};
 use gl_refs::RefId;
 use gl_vm::Vm;
 use smallvec::SmallVec;

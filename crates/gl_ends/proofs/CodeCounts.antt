@@ -10,15 +10,15 @@ use Rattle.gl_plain.proofs.Moves.{occurs_append}
 use Rattle.gl_machine.specs.Code as c
 use Rattle.gl_vm.specs.View.{Tables}
 use Rattle.gl_vm.specs.declared.vm.Vm.{Vm}
-use Rattle.gl_append.specs.View.{refs_made}
-use Rattle.gl_append.specs.CodeView.{seen_spot, seen_attr_spot, seen_mod_spot, seen_code, seen_codes, seen_item_code, all_codes, all_items}
-use Rattle.gl_append.specs.declared.sight.Owner.{Owner}
-use Rattle.gl_append.specs.declared.code.AttrSpot.{AttrSpot}
-use Rattle.gl_append.specs.declared.code.ModSpot.{ModSpot}
-use Rattle.gl_append.specs.declared.code.Code.{Code, the_lemmas}
-use Rattle.gl_append.specs.declared.code.Codes.{Codes}
-use Rattle.gl_append.specs.declared.code.ItemCode.{ItemCode}
-use Rattle.gl_append.specs.declared.code.Code.TheVariants.{Still, Put, Element, Branch, Listed, Unlisted, Let, Component, Root, Yield}
+use Rattle.gl_code.specs.View.{refs_made}
+use Rattle.gl_code.specs.CodeView.{seen_spot, seen_attr_spot, seen_mod_spot, seen_code, seen_codes, seen_item_code, all_codes, all_items}
+use Rattle.gl_code.specs.declared.sight.Owner.{Owner}
+use Rattle.gl_code.specs.declared.code.AttrSpot.{AttrSpot}
+use Rattle.gl_code.specs.declared.code.ModSpot.{ModSpot}
+use Rattle.gl_code.specs.declared.code.Code.{Code, the_lemmas}
+use Rattle.gl_code.specs.declared.code.Codes.{Codes}
+use Rattle.gl_code.specs.declared.code.ItemCode.{ItemCode}
+use Rattle.gl_code.specs.declared.code.Code.TheVariants.{Still, Put, Element, Branch, Listed, Unlisted, Let, Component, Root, Yield}
 use Rattle.gl_ends.specs.Ending.{Ends, times_spots}
 use Rattle.gl_ends.proofs.Joins.{on_ok_as}
 use Rattle.gl_ends.proofs.Loops.{total}

@@ -8,7 +8,7 @@ use Rattle.gl_plain.proofs.Moves.{occurs_append}
 use Rattle.gl_vm.specs.Led.{Led}
 use Rattle.gl_vm.specs.View.{Tables}
 use Rattle.gl_vm.specs.declared.vm.Vm.{Vm}
-use Rattle.gl_append.specs.View.{refs_made}
+use Rattle.gl_code.specs.View.{refs_made}
 use Rattle.gl_ends.specs.Ending.{Ends}
 use Rattle.gl_ends.proofs.Joins.{ends_nothing, ends_as, ends_then}
 

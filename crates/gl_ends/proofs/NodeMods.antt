@@ -10,7 +10,7 @@ use Rattle.gl_mods.proofs.Ids.{hit-is, hit-other}
 use Rattle.gl_plain.specs.Ids.{a_modifier, Id as Name, kind_eq, modifier_id, hit, occurs}
 use Rattle.gl_vm.specs.Steps.{is_on, on_count}
 use Rattle.gl_vm.proofs.States.{num_yes, num_no}
-use Rattle.gl_append.specs.declared.code.ModSpot.{ModSpot}
+use Rattle.gl_code.specs.declared.code.ModSpot.{ModSpot}
 
 -- how often a number is the stamp of one of the ids
 abbrev stamped_times : ℕ → List Id → ℕ

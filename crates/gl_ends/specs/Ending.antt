@@ -7,8 +7,8 @@ use Rattle.gl_vm.specs.Led.{Led}
 use Rattle.gl_vm.specs.View.{Tables, state_of, Agrees}
 use Rattle.gl_vm.specs.Steps.{Follows}
 use Rattle.gl_vm.specs.declared.vm.Vm.{Vm}
-use Rattle.gl_append.specs.CodeView.{seen_mod_spot}
-use Rattle.gl_append.specs.declared.code.ModSpot.{ModSpot}
+use Rattle.gl_code.specs.CodeView.{seen_mod_spot}
+use Rattle.gl_code.specs.declared.code.ModSpot.{ModSpot}
 
 -- All ids that are counted go, and no others, where what positions read last lives.
 pub record Ends (n : Tables) (count : Name → ℕ) (old new : Vm) : Type 0 where

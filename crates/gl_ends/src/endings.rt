@@ -8,15 +8,15 @@ ghost use Rattle.gl_machine.specs.Code.{live_of, lives_of, items_of};
 ghost use Rattle.gl_vm.specs.Led.{Led};
 ghost use Rattle.gl_vm.specs.View.{Calm};
 ghost use Rattle.gl_vm.specs.Steps.{Does};
-ghost use Rattle.gl_append.specs.View.{refs_made};
-ghost use Rattle.gl_append.specs.CodeView.{seen_spot, seen_attr_spot, seen_mod_spot, seen_code, seen_codes, seen_item_code, all_items};
+ghost use Rattle.gl_code.specs.View.{refs_made};
+ghost use Rattle.gl_code.specs.CodeView.{seen_spot, seen_attr_spot, seen_mod_spot, seen_code, seen_codes, seen_item_code, all_items};
 ghost use Rattle.gl_ends.specs.Ending.{Ends};
 
 use crate::references::{end_pair, end_references, end_spot};
 use crate::tags::{end_mods, end_tag};
 use crate::things::{end_block, end_comment, end_node, end_owner};
-use gl_append::{AttrSpot, Code, Codes, ItemCode, ModSpot, Owner, Spot};
 use gl_arena::BlockId;
+use gl_code::{AttrSpot, Code, Codes, ItemCode, ModSpot, Owner, Spot};
 use gl_nodes::NodeId;
 use gl_refs::Ids;
 use gl_vm::Vm;

@@ -5,11 +5,11 @@ ghost use Rattle.gl_refs.specs.Forms.{IsUnread};
 ghost use Rattle.gl_plain.specs.Ids.{ref as ref_id, hit, occurs};
 ghost use Rattle.gl_vm.specs.Led.{Led};
 ghost use Rattle.gl_vm.specs.View.{Calm};
-ghost use Rattle.gl_append.specs.View.{refs_made};
-ghost use Rattle.gl_append.specs.CodeView.{seen_spot};
+ghost use Rattle.gl_code.specs.View.{refs_made};
+ghost use Rattle.gl_code.specs.CodeView.{seen_spot};
 ghost use Rattle.gl_ends.specs.Ending.{Ends};
 
-use gl_append::Spot;
+use gl_code::Spot;
 use gl_refs::{Ids, RefId};
 use gl_vm::Vm;
 use std::alloc::AllocError;

@@ -4,14 +4,14 @@ ghost use Rattle.gl_plain.specs.Ids.{node as node_id, modifier_id, hit, occurs};
 ghost use Rattle.gl_plain.specs.Live.{times_attrs, times_mods};
 ghost use Rattle.gl_vm.specs.Led.{Led};
 ghost use Rattle.gl_vm.specs.View.{Calm};
-ghost use Rattle.gl_append.specs.View.{refs_made};
-ghost use Rattle.gl_append.specs.CodeView.{seen_attr_spot, seen_mod_spot};
+ghost use Rattle.gl_code.specs.View.{refs_made};
+ghost use Rattle.gl_code.specs.CodeView.{seen_attr_spot, seen_mod_spot};
 ghost use Rattle.gl_ends.specs.Ending.{Ends, times_spots};
 
 use crate::references::{end_references, end_spot};
 use crate::things::end_node;
-use gl_append::{AttrSpot, ModSpot};
 use gl_arena::ModId;
+use gl_code::{AttrSpot, ModSpot};
 use gl_nodes::NodeId;
 use gl_refs::Ids;
 use gl_vm::Vm;

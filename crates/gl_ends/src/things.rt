@@ -5,12 +5,12 @@ ghost use Rattle.gl_plain.specs.Ids.{node as node_id, instance_id, block_id, hit
 ghost use Rattle.gl_plain.specs.Live.{times_comment};
 ghost use Rattle.gl_vm.specs.Led.{Led};
 ghost use Rattle.gl_vm.specs.View.{Calm};
-ghost use Rattle.gl_append.specs.View.{refs_made};
+ghost use Rattle.gl_code.specs.View.{refs_made};
 ghost use Rattle.gl_ends.specs.Ending.{Ends};
 
 use crate::references::end_references;
-use gl_append::Owner;
 use gl_arena::{BlockId, Id, InstMark};
+use gl_code::Owner;
 use gl_nodes::NodeId;
 use gl_vm::Vm;
 use std::alloc::AllocError;

@@ -10,8 +10,8 @@ use Rattle.gl_meaning.specs.Actions.{at_node, listener, paths_numbered, run_all}
 use Rattle.gl_meaning.proofs.Pieces.{filter_map_append}
 use Rattle.gl_mods.specs.Mods as m
 use Rattle.gl_opc.specs.declared.app.App.{App}
-use Rattle.gl_append.specs.Tables.{tables_of}
-use Rattle.gl_append.specs.declared.page.Page.{Page}
+use Rattle.gl_code.specs.Tables.{tables_of}
+use Rattle.gl_code.specs.declared.page.Page.{Page}
 use Rattle.gl_actions.specs.Sets as s
 use Rattle.gl_actions.specs.World.{World, app_in, tables_in, value_in, sets_in}
 use Rattle.gl_meaning.specs.View.{manifest_view}

@@ -4,7 +4,7 @@ use Rattle.gl_base.specs.Texts.{Text}
 use Rattle.gl_meaning.specs.Path.{V}
 use Rattle.gl_meaning.specs.Changes.{Numbers}
 use Rattle.gl_meaning.specs.Actions.{listeners, paths_numbered}
-use Rattle.gl_append.specs.declared.page.Page.{Page}
+use Rattle.gl_code.specs.declared.page.Page.{Page}
 use Rattle.gl_actions.specs.World.{World}
 use Rattle.gl_actions.specs.Reads.{Listens}
 

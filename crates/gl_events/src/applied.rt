@@ -13,7 +13,7 @@ ghost use Rattle.gl_events.specs.Hears.{Hears};
 ghost use Rattle.gl_events.specs.View.{applied_in};
 
 use gl_actions::{Fired, Sets, fire, set_root};
-use gl_append::Page;
+use gl_code::Page;
 use gl_meaning::{Event, Events};
 use gl_opc::App;
 use gl_value::{Text, Value};

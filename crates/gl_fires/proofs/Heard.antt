@@ -23,8 +23,8 @@ use Rattle.gl_acting.proofs.Mods.{mods_are}
 use Rattle.gl_vm.specs.Labels.{all_labelled}
 use Rattle.gl_vm.specs.View.{seen_modifier}
 use Rattle.gl_actions.specs.World.{World, tables_in, value_in}
-use Rattle.gl_append.specs.Stepping.{env_of}
-use Rattle.gl_append.specs.declared.page.Page.{Page}
+use Rattle.gl_code.specs.Tables.{env_of}
+use Rattle.gl_code.specs.declared.page.Page.{Page}
 use Rattle.gl_actions.specs.Heard.{or_silent, mods_of}
 use Rattle.gl_actions.specs.Own.{shown_in}
 use Rattle.gl_actions.specs.Reads.{kept_modifier}

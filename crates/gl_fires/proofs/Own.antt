@@ -19,8 +19,8 @@ use Rattle.gl_opc.specs.declared.app.App.{App}
 use Rattle.gl_naming.specs.Ties.{numbers, owner_key, owners_in}
 use Rattle.gl_follows.specs.Sets.{held_of, AreOwn}
 use Rattle.gl_vm.specs.Labels.{owner_path, labelled}
-use Rattle.gl_append.specs.Stepping.{env_of}
-use Rattle.gl_append.specs.declared.page.Page.{Page}
+use Rattle.gl_code.specs.Tables.{env_of}
+use Rattle.gl_code.specs.declared.page.Page.{Page}
 use Rattle.gl_actions.specs.Sets.{Set}
 use Rattle.gl_actions.specs.World.{World, app_in, owner_in, value_in, field_in, class_in, set_in, sets_in}
 use Rattle.gl_actions.specs.Own.{shown_in, IsOwnSet, AreOwnSets}

@@ -4,8 +4,8 @@ use Rattle.gl_ast.specs.Template.{Body}
 use Rattle.gl_meaning.specs.Session as session
 use Rattle.gl_opc.specs.declared.app.App.{App}
 use Rattle.gl_plain.specs.State.{Names, Inst, State}
-use Rattle.gl_append.specs.Stepping.{env_of}
-use Rattle.gl_append.specs.declared.page.Page.{Page}
+use Rattle.gl_code.specs.Tables.{env_of}
+use Rattle.gl_code.specs.declared.page.Page.{Page}
 use Rattle.gl_acting.specs.Laws.{InstanceIs}
 use Rattle.gl_acting.proofs.Has.{instance_has}
 use Rattle.gl_vm.specs.View.{state_of}

@@ -5,8 +5,8 @@ use Rattle.gl_meaning.specs.Session as session
 use Rattle.gl_meaning.specs.Actions.{paths_numbered}
 use Rattle.gl_opc.specs.declared.app.App.{App}
 use Rattle.gl_follows.specs.Sets.{held_of, AreOwn}
-use Rattle.gl_append.specs.Stepping.{env_of}
-use Rattle.gl_append.specs.declared.page.Page.{Page}
+use Rattle.gl_code.specs.Tables.{env_of}
+use Rattle.gl_code.specs.declared.page.Page.{Page}
 use Rattle.gl_actions.specs.Sets.{Set}
 use Rattle.gl_actions.specs.World.{sets_in}
 use Rattle.gl_actions.specs.Reads.{Reads, Listens}

@@ -6,7 +6,7 @@ use Rattle.gl_meaning.specs.View.{manifest_view}
 use Rattle.gl_opc.specs.declared.app.App.{App}
 use Rattle.gl_follows.specs.Sets.{Put}
 use Rattle.gl_vm.specs.Labels.{labelled}
-use Rattle.gl_append.specs.declared.page.Page.{Page}
+use Rattle.gl_code.specs.declared.page.Page.{Page}
 use Rattle.gl_actions.specs.Sets as s
 use Rattle.gl_actions.specs.World.{World, owner_in, field_in}
 use Rattle.gl_standing.specs.Standing.{StandsIn}

@@ -8,16 +8,16 @@ use Rattle.gl_base.proofs.Lists.{drop_item}
 use Rattle.gl_machine.specs.Code as c
 use Rattle.gl_machine.specs.Gone.{Gone, gone_modifier, gone_instance, none_lives, gone, gone_in, gone_items, gone_mods}
 use Rattle.gl_vm.specs.View.{Tables}
-use Rattle.gl_append.specs.View.{seen_owner}
-use Rattle.gl_append.specs.CodeView.{seen_code, seen_codes, seen_item_code, seen_mod_spot, all_codes, all_items}
-use Rattle.gl_append.specs.declared.sight.Owner.{Owner}
-use Rattle.gl_append.specs.declared.code.ModSpot.{ModSpot}
-use Rattle.gl_append.specs.declared.code.Code.{Code, the_lemmas}
-use Rattle.gl_append.specs.declared.code.Codes.{Codes}
-use Rattle.gl_append.specs.declared.code.ItemCode.{ItemCode}
+use Rattle.gl_code.specs.View.{seen_owner}
+use Rattle.gl_code.specs.CodeView.{seen_code, seen_codes, seen_item_code, seen_mod_spot, all_codes, all_items}
+use Rattle.gl_code.specs.declared.sight.Owner.{Owner}
+use Rattle.gl_code.specs.declared.code.ModSpot.{ModSpot}
+use Rattle.gl_code.specs.declared.code.Code.{Code, the_lemmas}
+use Rattle.gl_code.specs.declared.code.Codes.{Codes}
+use Rattle.gl_code.specs.declared.code.ItemCode.{ItemCode}
 use Rattle.gl_gone.specs.View.{all_seen}
 use Rattle.gl_gone.specs.declared.endings.Ending.{Ending}
-use Rattle.gl_append.specs.declared.code.Code.TheVariants.{Element, Branch, Listed, Unlisted, Let, Component, Root, Yield}
+use Rattle.gl_code.specs.declared.code.Code.TheVariants.{Element, Branch, Listed, Unlisted, Let, Component, Root, Yield}
 
 abbrev pub code_goes : Tables → Code → List Gone
 code_goes n x = gone none_lives (c.live_of (seen_code n x))

@@ -7,7 +7,7 @@ use Rattle.gl_meaning.specs.Path.{into, Path}
 use Rattle.gl_meaning.specs.Print.{line}
 use Rattle.gl_meaning.specs.View.{path_view}
 use Rattle.gl_lines.specs.Lines.{modifier_line}
-use Rattle.gl_append.specs.Tables.{tables_of}
+use Rattle.gl_code.specs.Tables.{tables_of}
 use Rattle.gl_gone.specs.declared.endings.Ending.{Ending}
 use Rattle.gl_gone.specs.declared.endings.Ending.TheVariants as ending
 

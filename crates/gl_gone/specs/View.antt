@@ -6,9 +6,9 @@ use Rattle.gl_machine.specs.Code.{live_of}
 use Rattle.gl_machine.specs.Gone.{Gone, gone_modifier, gone_instance, none_lives, gone}
 use Rattle.gl_vm.specs.View.{Tables}
 use Rattle.gl_vm.specs.declared.vm.Vm.{Vm}
-use Rattle.gl_append.specs.View.{seen_owner}
-use Rattle.gl_append.specs.CodeView.{seen_code}
-use Rattle.gl_append.specs.declared.page.Page.{Page}
+use Rattle.gl_code.specs.View.{seen_owner}
+use Rattle.gl_code.specs.CodeView.{seen_code}
+use Rattle.gl_code.specs.declared.page.Page.{Page}
 use Rattle.gl_gone.specs.declared.endings.Ending.{Ending}
 use Rattle.gl_gone.specs.declared.endings.Ending.TheVariants as ending
 

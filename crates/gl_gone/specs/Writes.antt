@@ -5,7 +5,7 @@ use Rattle.gl_base.specs.Texts.{Text}
 use Rattle.gl_meaning.specs.Manifest.{Manifest}
 use Rattle.gl_meaning.specs.View.{manifest_view}
 use Rattle.gl_opc.specs.declared.app.App.{App}
-use Rattle.gl_append.specs.declared.page.Page.{Page}
+use Rattle.gl_code.specs.declared.page.Page.{Page}
 use Rattle.gl_gone.specs.View.{is_live, Lists}
 use Rattle.gl_gone.specs.Logs.{destroyed_text, Logs}
 use Rattle.gl_gone.specs.declared.endings.Ending.{Ending}

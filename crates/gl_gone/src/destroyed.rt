@@ -12,7 +12,7 @@ use crate::endings::{Ending, Standing};
 use crate::listing::standing;
 use crate::lookup::{class_at, name_of};
 use crate::numbers::Numbers;
-use gl_append::Page;
+use gl_code::Page;
 use gl_lines::{push_destroyed_instance, push_destroyed_modifier};
 use gl_meaning::{Class, Manifest, Path};
 use gl_nodes::NodeId;

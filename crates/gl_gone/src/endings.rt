@@ -1,6 +1,6 @@
 // What an update may destroy.
-use gl_append::Owner;
 use gl_arena::ModId;
+use gl_code::Owner;
 use gl_nodes::NodeId;
 use std::rc::Rc;
 

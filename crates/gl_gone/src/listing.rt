@@ -2,13 +2,13 @@
 ghost use Rattle.std.specs.Prelude.{◌≡◌, ◌++◌, ◌∷◌, [], map, IfOk, OnOk};
 ghost use Rattle.gl_machine.specs.Code.{live_of, lives_of, items_of};
 ghost use Rattle.gl_machine.specs.Gone.{gone_modifier, gone_instance, none_lives, gone, gone_in, gone_items, gone_mods};
-ghost use Rattle.gl_append.specs.View.{seen_owner};
-ghost use Rattle.gl_append.specs.CodeView.{seen_code, seen_codes, seen_item_code, seen_mod_spot, all_items};
+ghost use Rattle.gl_code.specs.View.{seen_owner};
+ghost use Rattle.gl_code.specs.CodeView.{seen_code, seen_codes, seen_item_code, seen_mod_spot, all_items};
 ghost use Rattle.gl_gone.specs.View.{seen_ending, all_seen, IsKept, AllKept, Lists};
 
 use crate::endings::{Ending, Standing};
-use gl_append::{Code, Codes, ItemCode, ModSpot, Owner, Page};
 use gl_arena::ModId;
+use gl_code::{Code, Codes, ItemCode, ModSpot, Owner, Page};
 use gl_vm::Vm;
 use std::alloc::{AllocError, Global};
 use std::rc::Rc;

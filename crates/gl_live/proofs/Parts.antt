@@ -9,12 +9,12 @@ use Rattle.gl_nodes.specs.Flat.{stamp_of}
 use Rattle.gl_plain.specs.Live as l
 use Rattle.gl_machine.specs.Code as c
 use Rattle.gl_vm.specs.View.{Tables}
-use Rattle.gl_append.specs.CodeView.{seen_code, seen_codes, seen_item_code, all_codes, all_items}
-use Rattle.gl_append.specs.declared.code.Code.{Code, the_lemmas}
-use Rattle.gl_append.specs.declared.code.Codes.{Codes}
-use Rattle.gl_append.specs.declared.code.ItemCode.{ItemCode}
-use Rattle.gl_append.specs.declared.code.Code.TheVariants.{Still, Put, Element, Branch, Listed, Unlisted, Let, Component, Root, Yield}
-use Rattle.gl_append.proofs.CodeNests.{body_is}
+use Rattle.gl_code.specs.CodeView.{seen_code, seen_codes, seen_item_code, all_codes, all_items}
+use Rattle.gl_code.specs.declared.code.Code.{Code, the_lemmas}
+use Rattle.gl_code.specs.declared.code.Codes.{Codes}
+use Rattle.gl_code.specs.declared.code.ItemCode.{ItemCode}
+use Rattle.gl_code.specs.declared.code.Code.TheVariants.{Still, Put, Element, Branch, Listed, Unlisted, Let, Component, Root, Yield}
+use Rattle.gl_code.proofs.CodeNests.{body_is}
 use Rattle.gl_live.specs.Most.{most}
 use Rattle.gl_live.specs.Counting.{weigh, weigh_in, weigh_items, weigh_comment, Counts}
 use Rattle.gl_live.specs.declared.counting.Live as code

@@ -3,11 +3,11 @@ ghost use Rattle.std.specs.Prelude.{◌≡◌, ◌+◌, [], map, filter_map, len
 ghost use Rattle.gl_nodes.specs.Flat.{stamp_of};
 ghost use Rattle.gl_turns.specs.Places.{node_in, instance_in, places};
 ghost use Rattle.gl_machine.specs.Code.{live_of, lives_of, items_of};
-ghost use Rattle.gl_append.specs.CodeView.{seen_code, seen_codes, seen_item_code, all_items};
+ghost use Rattle.gl_code.specs.CodeView.{seen_code, seen_codes, seen_item_code, all_items};
 ghost use Rattle.gl_live.specs.Counting.{weigh, weigh_in, weigh_items, weigh_comment, Counts};
 ghost use Rattle.gl_live.specs.Most.{most};
 
-use gl_append::{Code, Codes, ItemCode};
+use gl_code::{Code, Codes, ItemCode};
 use gl_nodes::NodeId;
 
 /// How many nodes and how many instances there are. Each is the last number of 64 bits where there are more.

@@ -1,5 +1,5 @@
 // What was rendered is put into a tree, and the tree is printed.
-use gl_append::{Code, Codes, hang};
+use gl_code::{Code, Codes, hang};
 use gl_nodes::{NodeId, NodeTree};
 use gl_print::{Numbers, print};
 use gl_refs::Ids;

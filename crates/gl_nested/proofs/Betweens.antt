@@ -5,7 +5,7 @@ use Rattle.gl_arena.proofs.Ids.{same_id-true}
 use Rattle.gl_nodes.specs.Forest as f
 use Rattle.gl_nodes.specs.Tree.{first_in}
 use Rattle.gl_machine.specs.Shape.{Nest, end, tree, joined}
-use Rattle.gl_append.specs.Hung.{nest_of}
+use Rattle.gl_code.specs.Hung.{nest_of}
 use Rattle.gl_nested.specs.Places.{onward, IsIn, Between}
 use Rattle.gl_nested.proofs.Parts.{root_onward, node_onward}
 

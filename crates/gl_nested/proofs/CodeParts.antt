@@ -7,11 +7,11 @@ use Rattle.gl_nodes.specs.Forest.{Forest}
 use Rattle.gl_machine.specs.Code as c
 use Rattle.gl_machine.specs.Shape.{Nest, joined, nest, nest_in, nest_items, nest_comment}
 use Rattle.gl_vm.specs.View.{Tables}
-use Rattle.gl_append.specs.CodeView.{seen_code, seen_codes, seen_item_code, all_codes, all_items}
-use Rattle.gl_append.specs.declared.code.Code.{Code}
-use Rattle.gl_append.specs.declared.code.Codes.{Codes}
-use Rattle.gl_append.specs.declared.code.ItemCode.{ItemCode}
-use Rattle.gl_append.proofs.CodeNests.{body_is}
+use Rattle.gl_code.specs.CodeView.{seen_code, seen_codes, seen_item_code, all_codes, all_items}
+use Rattle.gl_code.specs.declared.code.Code.{Code}
+use Rattle.gl_code.specs.declared.code.Codes.{Codes}
+use Rattle.gl_code.specs.declared.code.ItemCode.{ItemCode}
+use Rattle.gl_code.proofs.CodeNests.{body_is}
 use Rattle.gl_nested.specs.Places.{Between}
 use Rattle.gl_nested.proofs.Betweens.{between_joined}
 

@@ -3,7 +3,7 @@ use Rattle.std.specs.Prelude.{◌≡◌, ℕ, ◌<◌, Option, Some, None, unwra
 use Rattle.gl_arena.specs.Id.{Id}
 use Rattle.gl_nodes.specs.Forest.{Forest, end, tree, times, below_node, after_node}
 use Rattle.gl_machine.specs.Shape.{Nest, joined}
-use Rattle.gl_append.specs.Hung.{nest_of}
+use Rattle.gl_code.specs.Hung.{nest_of}
 
 -- the trees from a node on, among its siblings
 abbrev pub onward : Forest → Option Id → Forest

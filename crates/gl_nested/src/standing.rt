@@ -4,11 +4,11 @@ ghost use Rattle.std.specs.Prelude.{◌≡◌, IfSome, IsTrue, map};
 ghost use Rattle.gl_nodes.specs.Flat.{stamp_of};
 ghost use Rattle.gl_machine.specs.Code.{live_of, lives_of, items_of};
 ghost use Rattle.gl_machine.specs.Shape.{nest, nest_in, nest_items, nest_comment, joined, leaf, end, tree as nested};
-ghost use Rattle.gl_append.specs.CodeView.{seen_code, seen_codes, seen_item_code, all_items};
-ghost use Rattle.gl_append.specs.Hung.{nest_of};
+ghost use Rattle.gl_code.specs.CodeView.{seen_code, seen_codes, seen_item_code, all_items};
+ghost use Rattle.gl_code.specs.Hung.{nest_of};
 ghost use Rattle.gl_nested.specs.Places.{IsIn, Between};
 
-use gl_append::{Code, Codes, ItemCode};
+use gl_code::{Code, Codes, ItemCode};
 use gl_nodes::{NodeId, NodeTree};
 
 /// Whether the nodes of a tree are those of what was rendered, in their order, nested as they were rendered, and no

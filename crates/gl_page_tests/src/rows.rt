@@ -1,5 +1,6 @@
 // Applications, each with the lines of its tree before the first event.
-use gl_append::{Cells, VmFault, append};
+use gl_append::append;
+use gl_code::{Cells, VmFault};
 use gl_load::load;
 use gl_outside::{CalmShelf, File, Files};
 use gl_print::{Numbers, print};

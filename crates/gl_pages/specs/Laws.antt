@@ -20,13 +20,13 @@ use Rattle.gl_machine.specs.Env.{Env}
 use Rattle.gl_machine.specs.Root.{PlacedRoot}
 use Rattle.gl_vm.specs.Steps.{Follows}
 use Rattle.gl_vm.specs.declared.vm.Vm.{Vm}
-use Rattle.gl_append.specs.CodeView.{seen_code}
-use Rattle.gl_append.specs.Cells.{CellList, store_of}
-use Rattle.gl_append.specs.Tables.{tables_of}
-use Rattle.gl_append.specs.Stepping.{env_of}
+use Rattle.gl_code.specs.CodeView.{seen_code}
+use Rattle.gl_code.specs.Cells.{CellList, store_of}
+use Rattle.gl_code.specs.Tables.{tables_of}
+use Rattle.gl_code.specs.Tables.{env_of}
 use Rattle.gl_append.specs.Page.{Appends, AppendFails}
-use Rattle.gl_append.specs.declared.code.Code.{Code}
-use Rattle.gl_append.specs.declared.fault.VmFault.TheVariants as fault
+use Rattle.gl_code.specs.declared.code.Code.{Code}
+use Rattle.gl_code.specs.declared.fault.VmFault.TheVariants as fault
 
 -- With some names of owners and sources, given one-to-one, what is kept and the updating program stand for the rendering over the store with
 -- these names: that is what they show, it nests no deeper than it may, and the program is that of these words.

@@ -15,7 +15,7 @@ ghost use Rattle.gl_opc.specs.declared.app.App.{App};
 
 use crate::PlayFault;
 use crate::told::{Told, text_of};
-use gl_append::VmFault;
+use gl_code::VmFault;
 use gl_meaning::{Event, Script};
 use gl_opc::App;
 use gl_outside::{Sink, SinkFault};

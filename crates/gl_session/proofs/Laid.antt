@@ -12,8 +12,8 @@ use Rattle.gl_vm.specs.Labels.{label, labelled}
 use Rattle.gl_vm.specs.View.{Tables, Agrees, state_of}
 use Rattle.gl_vm.specs.Steps.{Does}
 use Rattle.gl_vm.specs.declared.vm.Vm.{Vm}
-use Rattle.gl_append.specs.CodeView.{seen_code}
-use Rattle.gl_append.specs.declared.page.Page.{Page}
+use Rattle.gl_code.specs.CodeView.{seen_code}
+use Rattle.gl_code.specs.declared.page.Page.{Page}
 use Rattle.gl_actions.specs.Found.{instance_in}
 use Rattle.gl_actions.specs.Sets as s
 use Rattle.gl_actions.specs.World.{World, tables_in}

@@ -18,7 +18,7 @@ use Rattle.gl_mods.specs.Mods as m
 use Rattle.gl_mods.specs.Mods.{IsSound}
 use Rattle.gl_vm.specs.View.{Tables, stamps, seen_node, seen_modifier, state_of}
 use Rattle.gl_vm.specs.declared.vm.Vm.{Vm}
-use Rattle.gl_append.specs.Hung.{nest_of}
+use Rattle.gl_code.specs.Hung.{nest_of}
 use Rattle.gl_texts.specs.Lines.{content_line, nest_lines, told_row, told_line}
 use Rattle.gl_session.specs.Writing.{told_id}
 

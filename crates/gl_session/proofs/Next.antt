@@ -25,10 +25,10 @@ use Rattle.gl_kept.specs.Between.{moved_between}
 use Rattle.gl_follows.specs.Sets.{put_all, held_of, AreOwn}
 use Rattle.gl_guards.specs.Along.{along_root_code_as}
 use Rattle.gl_guards.proofs.Pages.{puts_go_along}
-use Rattle.gl_append.specs.CodeView.{seen_code}
-use Rattle.gl_append.specs.Stepping.{env_of}
-use Rattle.gl_append.specs.Tables.{tables_of}
-use Rattle.gl_append.specs.declared.page.Page.{Page}
+use Rattle.gl_code.specs.CodeView.{seen_code}
+use Rattle.gl_code.specs.Tables.{env_of}
+use Rattle.gl_code.specs.Tables.{tables_of}
+use Rattle.gl_code.specs.declared.page.Page.{Page}
 use Rattle.gl_actions.specs.Found.{instance_in}
 use Rattle.gl_actions.specs.Sets as acts
 use Rattle.gl_actions.specs.World.{sets_in}
@@ -38,7 +38,7 @@ use Rattle.gl_fires.proofs.Own.{sets_are_own}
 use Rattle.gl_fires.proofs.Standing.{instance_is}
 use Rattle.gl_standing.specs.Standing.{StandsIn}
 use Rattle.gl_texts.specs.Lines.{destroyed_lines}
-use Rattle.gl_append.specs.Renewing.{Renews, RenewsDeep}
+use Rattle.gl_code.specs.Renewing.{Renews, RenewsDeep}
 use Rattle.gl_session.specs.Laying.{GivensFor, touch_of, touch_all}
 use Rattle.gl_session.specs.declared.laying.Given.{Given}
 use Rattle.gl_session.proofs.Laid.{laid_in}

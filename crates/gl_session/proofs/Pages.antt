@@ -23,11 +23,11 @@ use Rattle.gl_machine.specs.Shape.{nest}
 use Rattle.gl_vm.specs.View.{Tables, state_of}
 use Rattle.gl_vm.specs.Steps.{Follows}
 use Rattle.gl_follows.specs.Turns.{FollowsBy}
-use Rattle.gl_append.specs.CodeView.{seen_code}
-use Rattle.gl_append.specs.Hung.{nest_of}
-use Rattle.gl_append.specs.Stepping.{env_of}
-use Rattle.gl_append.specs.Tables.{tables_of}
-use Rattle.gl_append.specs.declared.page.Page.{Page}
+use Rattle.gl_code.specs.CodeView.{seen_code}
+use Rattle.gl_code.specs.Hung.{nest_of}
+use Rattle.gl_code.specs.Tables.{env_of}
+use Rattle.gl_code.specs.Tables.{tables_of}
+use Rattle.gl_code.specs.declared.page.Page.{Page}
 use Rattle.gl_texts.specs.Lines.{nest_lines, shown_lines, installed_lines}
 use Rattle.gl_texts.specs.Laws.{text_of_turn}
 use Rattle.gl_session.specs.Standing.{Goes, app_with}

@@ -27,16 +27,16 @@ use Rattle.gl_machine.specs.Shape.{nest}
 use Rattle.gl_vm.specs.View.{Tables, state_of}
 use Rattle.gl_vm.specs.Steps.{Follows, Does}
 use Rattle.gl_vm.specs.declared.vm.Vm.{Vm}
-use Rattle.gl_append.specs.CodeView.{seen_code}
-use Rattle.gl_append.specs.Hung.{nest_of}
+use Rattle.gl_code.specs.CodeView.{seen_code}
+use Rattle.gl_code.specs.Hung.{nest_of}
 use Rattle.gl_append.specs.Page.{Appends, AppendFails}
-use Rattle.gl_append.specs.Stepping.{env_of}
-use Rattle.gl_append.specs.Tables.{tables_of}
-use Rattle.gl_append.specs.declared.fault.VmFault.{VmFault}
-use Rattle.gl_append.specs.declared.fault.VmFault.TheVariants as fault
-use Rattle.gl_append.specs.declared.page.Page.{Page}
+use Rattle.gl_code.specs.Tables.{env_of}
+use Rattle.gl_code.specs.Tables.{tables_of}
+use Rattle.gl_code.specs.declared.fault.VmFault.{VmFault}
+use Rattle.gl_code.specs.declared.fault.VmFault.TheVariants as fault
+use Rattle.gl_code.specs.declared.page.Page.{Page}
 use Rattle.gl_kept.specs.Between.{moved_between}
-use Rattle.gl_append.specs.Renewing.{Renews, RenewsDeep, RenewFails}
+use Rattle.gl_code.specs.Renewing.{Renews, RenewsDeep, RenewFails}
 use Rattle.gl_actions.specs.Sets as acts
 use Rattle.gl_actions.specs.Own.{AreOwnSets}
 use Rattle.gl_actions.specs.World.{sets_in}

@@ -1,6 +1,6 @@
 -- Faults of a turn, as an event answers them.
-use Rattle.gl_append.specs.declared.fault.VmFault.{VmFault}
-use Rattle.gl_append.specs.declared.fault.VmFault.TheVariants as vm
+use Rattle.gl_code.specs.declared.fault.VmFault.{VmFault}
+use Rattle.gl_code.specs.declared.fault.VmFault.TheVariants as vm
 use Rattle.gl_session.specs.declared.fault.EventFault.{EventFault}
 use Rattle.gl_session.specs.declared.fault.EventFault.TheVariants as event
 

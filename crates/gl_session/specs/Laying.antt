@@ -4,7 +4,7 @@ use Rattle.gl_value.specs.View.{view}
 use Rattle.gl_meaning.specs.Path.{V}
 use Rattle.gl_plain.specs.State.{State, touch}
 use Rattle.gl_vm.specs.Labels.{label, labelled}
-use Rattle.gl_append.specs.declared.page.Page.{Page}
+use Rattle.gl_code.specs.declared.page.Page.{Page}
 use Rattle.gl_actions.specs.Sets as s
 use Rattle.gl_actions.specs.World.{World}
 use Rattle.gl_actions.specs.Cells.{CellFor}

@@ -9,9 +9,9 @@ use Rattle.gl_meaning.specs.View.{manifest_view}
 use Rattle.gl_opc.specs.IsApp.{IsAppWith}
 use Rattle.gl_opc.specs.declared.app.App.{App}
 use Rattle.gl_vm.specs.View.{Calm}
-use Rattle.gl_append.specs.declared.fault.VmFault.{VmFault}
-use Rattle.gl_append.specs.declared.fault.VmFault.TheVariants as vm
-use Rattle.gl_append.specs.declared.page.Page.{Page}
+use Rattle.gl_code.specs.declared.fault.VmFault.{VmFault}
+use Rattle.gl_code.specs.declared.fault.VmFault.TheVariants as vm
+use Rattle.gl_code.specs.declared.page.Page.{Page}
 use Rattle.gl_standing.specs.Standing.{StandsIn}
 use Rattle.gl_session.specs.declared.fault.EventFault.{EventFault}
 use Rattle.gl_session.specs.declared.fault.EventFault.TheVariants as event

@@ -10,8 +10,8 @@ use Rattle.gl_nodes.specs.Flat.{IsFlat}
 use Rattle.gl_print.specs.Lines.{lines}
 use Rattle.gl_mods.specs.Mods.{IsSound}
 use Rattle.gl_vm.specs.declared.vm.Vm.{Vm}
-use Rattle.gl_append.specs.Tables.{tables_of}
-use Rattle.gl_append.specs.declared.page.Page.{Page}
+use Rattle.gl_code.specs.Tables.{tables_of}
+use Rattle.gl_code.specs.declared.page.Page.{Page}
 use Rattle.gl_gone.specs.Logs.{Logs}
 use Rattle.gl_gone.specs.declared.endings.Ending.{Ending}
 use Rattle.gl_session.specs.Writing.{told_id}

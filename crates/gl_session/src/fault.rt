@@ -1,7 +1,7 @@
 // Why an event makes no turn.
 ghost use Rattle.std.specs.Prelude.{◌≡◌};
 
-use gl_append::VmFault;
+use gl_code::VmFault;
 use std::alloc::AllocError;
 use thiserror::Error;
 

@@ -11,7 +11,7 @@ ghost use Rattle.gl_actions.specs.Reads.{Reads};
 ghost use Rattle.gl_session.specs.Laying.{GivensFor, touch_of, touch_all};
 
 use gl_actions::{Sets, cell_for};
-use gl_append::Page;
+use gl_code::Page;
 use gl_opc::App;
 use gl_refs::RefId;
 use gl_value::Value;

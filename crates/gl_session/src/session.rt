@@ -13,7 +13,7 @@ ghost use Rattle.gl_session.specs.Standing.{StandsAt, Starts, StartFails, Turns,
 use crate::fault::EventFault;
 use crate::turn::{Turn, Work};
 use crate::turning::{first_turn, next_turn};
-use gl_append::{Page, VmFault};
+use gl_code::{Page, VmFault};
 use gl_live::{Live, count};
 use gl_meaning::Event;
 use gl_opc::App;

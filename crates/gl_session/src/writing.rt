@@ -6,7 +6,7 @@ ghost use Rattle.gl_nodes.specs.Tree.{node_at};
 ghost use Rattle.gl_print.specs.Lines.{lines};
 ghost use Rattle.gl_meaning.specs.Print.{head_line, missing_lines};
 ghost use Rattle.gl_meaning.specs.View.{event_view, manifest_view};
-ghost use Rattle.gl_append.specs.Tables.{tables_of};
+ghost use Rattle.gl_code.specs.Tables.{tables_of};
 ghost use Rattle.gl_session.specs.Writing.{told_id};
 
 use gl_arena::ModId;

@@ -12,8 +12,8 @@ use Rattle.gl_kept.specs.Listed.{spot_keys}
 use Rattle.gl_guards.specs.Once.{KeysOnceItems, KeysOnceIn}
 use Rattle.gl_guards.proofs.Itself.{none_passed, none_moved}
 use Rattle.gl_vm.specs.View.{Tables}
-use Rattle.gl_append.specs.CodeView.{seen_item_code, all_items}
-use Rattle.gl_append.specs.declared.code.ItemCode.{ItemCode}
+use Rattle.gl_code.specs.CodeView.{seen_item_code, all_items}
+use Rattle.gl_code.specs.declared.code.ItemCode.{ItemCode}
 use Rattle.gl_update.specs.Counted.{CodeMoved, KeptMoved, ItemsAlong, along_moved}
 use Rattle.gl_update.specs.ListItems.{Item, spot_key}
 use Rattle.gl_update.specs.declared.counting.Moved.{Moved}

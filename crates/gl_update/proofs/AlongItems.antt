@@ -20,13 +20,13 @@ use Rattle.gl_guards.specs.Along.{enters_few, along_body_as}
 use Rattle.gl_vm.specs.View.{Tables, state_of, Agrees}
 use Rattle.gl_vm.specs.Steps.{Does}
 use Rattle.gl_vm.specs.declared.vm.Vm.{Vm}
-use Rattle.gl_append.specs.Cells.{CellList}
-use Rattle.gl_append.specs.CodeView.{seen_codes, seen_item_spot, stamp_of, seen_item_code, all_items}
-use Rattle.gl_append.specs.declared.code.Codes.{Codes}
-use Rattle.gl_append.specs.declared.code.ItemCode.{ItemCode}
-use Rattle.gl_append.specs.declared.code.ItemSpot.{ItemSpot}
-use Rattle.gl_append.specs.declared.fault.VmFault.{VmFault}
-use Rattle.gl_append.specs.Renewing.{Renewal, Renews, RenewFails}
+use Rattle.gl_code.specs.Cells.{CellList}
+use Rattle.gl_code.specs.CodeView.{seen_codes, seen_item_spot, stamp_of, seen_item_code, all_items}
+use Rattle.gl_code.specs.declared.code.Codes.{Codes}
+use Rattle.gl_code.specs.declared.code.ItemCode.{ItemCode}
+use Rattle.gl_code.specs.declared.code.ItemSpot.{ItemSpot}
+use Rattle.gl_code.specs.declared.fault.VmFault.{VmFault}
+use Rattle.gl_code.specs.Renewing.{Renewal, Renews, RenewFails}
 use Rattle.gl_update.specs.ListItems.{Item, AlongItem, AlongItems, EntersList, GoesAlong}
 use Rattle.gl_update.proofs.Onward.{renews_agreed, fails_agreed}
 use Rattle.gl_update.proofs.Renewing.{renews_same, renews_as, renews_by, renews_then, renews_still, renews_in, does_renews, fails_same, fails_first, fails_then, fails_in, does_fails}

@@ -16,15 +16,15 @@ use Rattle.gl_guards.specs.Along.{along_code_as, along_codes_as, along_body_as, 
 use Rattle.gl_vm.specs.View.{Tables, stamps, name_stamps, state_of}
 use Rattle.gl_vm.specs.Steps.{Does}
 use Rattle.gl_vm.specs.declared.vm.Vm.{Vm}
-use Rattle.gl_append.specs.View.{refs_made, seen_owner}
-use Rattle.gl_append.specs.CodeView.{seen_attr_spot, seen_choice, seen_code, seen_codes, seen_mod_spot, seen_spot, component_seen, stamp_of}
-use Rattle.gl_append.specs.Cells.{CellList}
-use Rattle.gl_append.specs.declared.code.Code.{Code, the_lemmas}
-use Rattle.gl_append.specs.declared.code.Codes.{Codes}
-use Rattle.gl_append.specs.declared.code.Code.TheVariants.{Still, Put, Element, Branch, Let, Component, Root, Yield}
-use Rattle.gl_append.specs.declared.fault.VmFault.{VmFault}
-use Rattle.gl_append.specs.declared.sight.Owner.{Owner}
-use Rattle.gl_append.specs.Renewing.{Renewal, Renews, RenewFails}
+use Rattle.gl_code.specs.View.{refs_made, seen_owner}
+use Rattle.gl_code.specs.CodeView.{seen_attr_spot, seen_choice, seen_code, seen_codes, seen_mod_spot, seen_spot, component_seen, stamp_of}
+use Rattle.gl_code.specs.Cells.{CellList}
+use Rattle.gl_code.specs.declared.code.Code.{Code, the_lemmas}
+use Rattle.gl_code.specs.declared.code.Codes.{Codes}
+use Rattle.gl_code.specs.declared.code.Code.TheVariants.{Still, Put, Element, Branch, Let, Component, Root, Yield}
+use Rattle.gl_code.specs.declared.fault.VmFault.{VmFault}
+use Rattle.gl_code.specs.declared.sight.Owner.{Owner}
+use Rattle.gl_code.specs.Renewing.{Renewal, Renews, RenewFails}
 use Rattle.gl_update.proofs.Renewing.{renews_same, renews_as, renews_does, renews_in, does_renews, fails_same, fails_in, does_fails}
 
 module _ (n : Tables) where

@@ -19,13 +19,13 @@ use Rattle.gl_guards.specs.Along.{along_code_as, along_body_as}
 use Rattle.gl_vm.specs.View.{Tables, state_of, Agrees}
 use Rattle.gl_vm.specs.Steps.{Does}
 use Rattle.gl_vm.specs.declared.vm.Vm.{Vm}
-use Rattle.gl_append.specs.Cells.{CellList}
-use Rattle.gl_append.specs.CodeView.{stamp_of}
-use Rattle.gl_append.specs.Steps.{Commented}
-use Rattle.gl_append.specs.Tables.{tables_of}
+use Rattle.gl_code.specs.Cells.{CellList}
+use Rattle.gl_code.specs.CodeView.{stamp_of}
+use Rattle.gl_code.specs.Comments.{Commented}
+use Rattle.gl_code.specs.Tables.{tables_of}
 use Rattle.gl_meaning.specs.View.{manifest_view}
-use Rattle.gl_append.specs.declared.fault.VmFault.{VmFault}
-use Rattle.gl_append.specs.Renewing.{Renewal, Renews, RenewFails}
+use Rattle.gl_code.specs.declared.fault.VmFault.{VmFault}
+use Rattle.gl_code.specs.Renewing.{Renewal, Renews, RenewFails}
 use Rattle.gl_update.proofs.Renewing.{renews_same, renews_then, renews_in, does_renews, fails_same, fails_first, fails_in, does_fails}
 
 abbrev pub side_of : Bool → Path → Path

@@ -10,7 +10,7 @@ use Rattle.gl_each.specs.Key.{Key, same_key}
 use Rattle.gl_each.specs.SameKeys.{same_key-Decides}
 use Rattle.gl_kept.specs.Between.{lives_with, kept_with, moved_between, moved_items, moved_bodies}
 use Rattle.gl_kept.specs.Listed.{spot_keys}
-use Rattle.gl_append.specs.CodeView.{all_codes, all_items}
+use Rattle.gl_code.specs.CodeView.{all_codes, all_items}
 use Rattle.gl_update.specs.Counted.{IsListed, IsUnlisted}
 use Rattle.gl_update.specs.ListItems.{Item, spot_key, there, HasKeys}
 

@@ -22,19 +22,19 @@ use Rattle.gl_vm.specs.Labels.{label, labelled}
 use Rattle.gl_vm.specs.View.{Tables, stamps, state_of, Agrees}
 use Rattle.gl_vm.specs.Steps.{Does, Numbers}
 use Rattle.gl_vm.specs.declared.vm.Vm.{Vm}
-use Rattle.gl_append.specs.Cells.{CellList}
-use Rattle.gl_append.specs.Steps.{Commented}
-use Rattle.gl_append.specs.View.{seen_sight}
-use Rattle.gl_append.specs.CodeView.{seen_listing, stamp_of, seen_item_code, all_items}
-use Rattle.gl_append.specs.MachineView.{seen_entry, seen_left}
-use Rattle.gl_append.specs.declared.code.ItemCode.{ItemCode}
-use Rattle.gl_append.specs.declared.code.Listing.{Listing}
-use Rattle.gl_append.specs.declared.fault.VmFault.{VmFault}
-use Rattle.gl_append.specs.declared.machine.Entry.{Entry}
-use Rattle.gl_append.specs.declared.sight.Sight.{Sight}
-use Rattle.gl_append.proofs.EntryLists.{next_left}
-use Rattle.gl_append.proofs.Taking.{does_then}
-use Rattle.gl_append.specs.Renewing.{Renewal, Renews, RenewFails}
+use Rattle.gl_code.specs.Cells.{CellList}
+use Rattle.gl_code.specs.Comments.{Commented}
+use Rattle.gl_code.specs.View.{seen_sight}
+use Rattle.gl_code.specs.CodeView.{seen_listing, stamp_of, seen_item_code, all_items}
+use Rattle.gl_code.specs.Entries.{seen_entry, seen_left}
+use Rattle.gl_code.specs.declared.code.ItemCode.{ItemCode}
+use Rattle.gl_code.specs.declared.code.Listing.{Listing}
+use Rattle.gl_code.specs.declared.fault.VmFault.{VmFault}
+use Rattle.gl_code.specs.declared.entries.Entry.{Entry}
+use Rattle.gl_code.specs.declared.sight.Sight.{Sight}
+use Rattle.gl_code.proofs.EntryLists.{next_left}
+use Rattle.gl_code.proofs.Doing.{does_then}
+use Rattle.gl_code.specs.Renewing.{Renewal, Renews, RenewFails}
 use Rattle.gl_update.specs.ListItems.{Item, item_kept, one_item, onto, BodyItem, FreshItem, FreshItems}
 use Rattle.gl_update.proofs.Branching.{renews_commented}
 use Rattle.gl_update.proofs.ItemJoins.{item_then, onto_none, before_none, body_is}

@@ -11,7 +11,7 @@ use Rattle.gl_machine.specs.Code.{Codes, ItemCodes, no_item_codes, item_code}
 use Rattle.gl_machine.specs.Outcome.{Outcome, ok, deep, lost, on_ok}
 use Rattle.gl_machine.specs.RenewCode.{Runs, CodeHandle, ItemDone, item_done, item_with, commented, with_left, renew_item_code_as}
 use Rattle.gl_guards.specs.Along.{along_body_as, along_handles_as}
-use Rattle.gl_append.specs.CodeView.{all_items}
+use Rattle.gl_code.specs.CodeView.{all_items}
 use Rattle.gl_update.specs.ListItems.{Item, item_kept, one_item, items_before, onto, handle, handles}
 
 before_more : (ys : List Item) (s : ItemSpot) (k : Option ℕ) (cs : Codes) (is : ItemCodes) → items_before ys (item_code s k cs is) ≡ items_before (ys ++ (s, (k, cs)) ∷ []) is

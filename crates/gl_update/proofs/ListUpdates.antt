@@ -24,15 +24,15 @@ use Rattle.gl_guards.specs.Along.{along_code_as, along_body_as, along_handles_as
 use Rattle.gl_vm.specs.View.{Tables, state_of, Agrees}
 use Rattle.gl_vm.specs.Steps.{Does}
 use Rattle.gl_vm.specs.declared.vm.Vm.{Vm}
-use Rattle.gl_append.specs.Cells.{CellList}
-use Rattle.gl_append.specs.Steps.{Commented}
-use Rattle.gl_append.specs.CodeView.{seen_code, seen_codes, seen_listing, seen_spot, seen_item_code, stamp_of, all_items}
-use Rattle.gl_append.specs.declared.code.Code.{the_lemmas}
-use Rattle.gl_append.specs.declared.code.Codes.{Codes}
-use Rattle.gl_append.specs.declared.code.ItemCode.{ItemCode}
-use Rattle.gl_append.specs.declared.code.Code.TheVariants.{Listed, Unlisted}
-use Rattle.gl_append.specs.declared.fault.VmFault.{VmFault}
-use Rattle.gl_append.specs.Renewing.{Renewal, Renews, RenewFails}
+use Rattle.gl_code.specs.Cells.{CellList}
+use Rattle.gl_code.specs.Comments.{Commented}
+use Rattle.gl_code.specs.CodeView.{seen_code, seen_codes, seen_listing, seen_spot, seen_item_code, stamp_of, all_items}
+use Rattle.gl_code.specs.declared.code.Code.{the_lemmas}
+use Rattle.gl_code.specs.declared.code.Codes.{Codes}
+use Rattle.gl_code.specs.declared.code.ItemCode.{ItemCode}
+use Rattle.gl_code.specs.declared.code.Code.TheVariants.{Listed, Unlisted}
+use Rattle.gl_code.specs.declared.fault.VmFault.{VmFault}
+use Rattle.gl_code.specs.Renewing.{Renewal, Renews, RenewFails}
 use Rattle.gl_update.specs.ListItems.{Item, FreshItems, ListsFresh, ListsNone, StaysNone, Syncs, Relists, GoesAlong}
 use Rattle.gl_update.proofs.Branching.{renews_commented}
 use Rattle.gl_update.proofs.ItemJoins.{handles_are}

@@ -7,10 +7,10 @@ use Rattle.gl_kept.specs.Between.{moved_between, moved_bodies}
 use Rattle.gl_guards.specs.Once.{KeysOnce, KeysOnceIn}
 use Rattle.gl_guards.proofs.Itself.{none_moved_in}
 use Rattle.gl_vm.specs.View.{Tables}
-use Rattle.gl_append.specs.CodeView.{all_codes, all_items, seen_code, seen_codes}
-use Rattle.gl_append.specs.declared.code.Code.{Code}
-use Rattle.gl_append.specs.declared.code.Codes.{Codes}
-use Rattle.gl_append.proofs.CodeNests.{body_is}
+use Rattle.gl_code.specs.CodeView.{all_codes, all_items, seen_code, seen_codes}
+use Rattle.gl_code.specs.declared.code.Code.{Code}
+use Rattle.gl_code.specs.declared.code.Codes.{Codes}
+use Rattle.gl_code.proofs.CodeNests.{body_is}
 use Rattle.gl_update.specs.Counted.{one_if, CodeMoved, CodesMoved, KeptMoved, IsListed, IsUnlisted}
 use Rattle.gl_update.specs.ListItems.{Item}
 use Rattle.gl_update.specs.declared.counting.Moved.{Moved}

@@ -11,7 +11,7 @@ use Rattle.gl_each.specs.Sync.{Step, retain, move, insert, AreSteps}
 use Rattle.gl_each.specs.View.{key_view, seen_keys, step_view, seen_steps}
 use Rattle.gl_each.specs.declared.key.Key.{Key}
 use Rattle.gl_each.specs.declared.step.PlanStep.{PlanStep}
-use Rattle.gl_append.specs.declared.code.ItemCode.{ItemCode}
+use Rattle.gl_code.specs.declared.code.ItemCode.{ItemCode}
 use Rattle.gl_update.specs.ListItems.{there}
 use Rattle.gl_update.specs.OldItems.{raw_key, code_key, Plans, CodeKeys}
 

@@ -10,12 +10,12 @@ use Rattle.gl_machine.specs.RenewCode.{Runs}
 use Rattle.gl_machine.specs.Step.{run_for_as}
 use Rattle.gl_vm.specs.View.{Tables, Agrees, state_of}
 use Rattle.gl_vm.specs.declared.vm.Vm.{Vm}
-use Rattle.gl_append.specs.Cells.{CellList, store_of}
-use Rattle.gl_append.specs.Tables.{tables_of}
-use Rattle.gl_append.specs.Stepping.{env_of}
-use Rattle.gl_append.specs.declared.fault.VmFault.{VmFault}
-use Rattle.gl_append.specs.declared.fault.VmFault.TheVariants as fault
-use Rattle.gl_append.specs.Renewing.{Renewal, Renews, RenewFails}
+use Rattle.gl_code.specs.Cells.{CellList, store_of}
+use Rattle.gl_code.specs.Tables.{tables_of}
+use Rattle.gl_code.specs.Tables.{env_of}
+use Rattle.gl_code.specs.declared.fault.VmFault.{VmFault}
+use Rattle.gl_code.specs.declared.fault.VmFault.TheVariants as fault
+use Rattle.gl_code.specs.Renewing.{Renewal, Renews, RenewFails}
 use Rattle.gl_update.proofs.Renewing.{renews_same, renews_then, fails_same, fails_first, fails_then}
 
 module _ (a : App) (cells : CellList) where

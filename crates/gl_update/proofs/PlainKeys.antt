@@ -2,7 +2,7 @@
 use Rattle.std.proofs.Common.{◌≡◌, ℕ, List, [], ◌∷◌, map, refl, sym, ap, ap₂}
 use Rattle.gl_value.specs.Value as v
 use Rattle.gl_value.specs.Value.{Value, Values, Members, plain, plain_values, plain_members}
-use Rattle.gl_append.specs.declared.code.ItemCode.{ItemCode}
+use Rattle.gl_code.specs.declared.code.ItemCode.{ItemCode}
 use Rattle.gl_value.specs.View.{view}
 use Rattle.gl_update.specs.OldItems.{plain_key, code_key}
 

@@ -25,16 +25,16 @@ use Rattle.gl_vm.specs.Labels.{label, labelled, owner_path}
 use Rattle.gl_vm.specs.Steps.{Does}
 use Rattle.gl_vm.specs.View.{Tables, state_of}
 use Rattle.gl_vm.specs.declared.vm.Vm.{Vm}
-use Rattle.gl_append.specs.Cells.{CellList}
-use Rattle.gl_append.specs.CodeView.{seen_codes, seen_item_spot, stamp_of, seen_item_code, all_items}
-use Rattle.gl_append.specs.declared.code.ItemCode.{ItemCode}
-use Rattle.gl_append.specs.declared.code.ItemSpot.{ItemSpot}
-use Rattle.gl_append.specs.declared.code.Listing.{Listing}
-use Rattle.gl_append.specs.declared.fault.VmFault.{VmFault}
+use Rattle.gl_code.specs.Cells.{CellList}
+use Rattle.gl_code.specs.CodeView.{seen_codes, seen_item_spot, stamp_of, seen_item_code, all_items}
+use Rattle.gl_code.specs.declared.code.ItemCode.{ItemCode}
+use Rattle.gl_code.specs.declared.code.ItemSpot.{ItemSpot}
+use Rattle.gl_code.specs.declared.code.Listing.{Listing}
+use Rattle.gl_code.specs.declared.fault.VmFault.{VmFault}
 use Rattle.gl_update.specs.ListItems.{Item, one_item, handle, there, AlongItem, KeptItem}
 use Rattle.gl_update.specs.OldItems.{code_key}
 use Rattle.gl_update.specs.Read.{entries_now}
-use Rattle.gl_append.specs.Renewing.{Renews, RenewFails}
+use Rattle.gl_code.specs.Renewing.{Renews, RenewFails}
 use Rattle.gl_update.proofs.ItemJoins.{item_renewed}
 use Rattle.gl_update.proofs.OldKeys.{there_all}
 use Rattle.gl_update.proofs.Onward.{Onward}

@@ -8,11 +8,11 @@ use Rattle.gl_machine.specs.Code.{Codes as PlainCodes}
 use Rattle.gl_vm.specs.View.{Tables, state_of}
 use Rattle.gl_vm.specs.Steps.{Follows, Does}
 use Rattle.gl_vm.specs.declared.vm.Vm.{Vm}
-use Rattle.gl_append.specs.Cells.{CellList}
-use Rattle.gl_append.specs.Steps.{Commented}
-use Rattle.gl_append.specs.Tables.{tables_of}
-use Rattle.gl_append.proofs.PageRuns.{hung_follows}
-use Rattle.gl_append.specs.Renewing.{Renewal, Renews}
+use Rattle.gl_code.specs.Cells.{CellList}
+use Rattle.gl_code.specs.Comments.{Commented}
+use Rattle.gl_code.specs.Tables.{tables_of}
+use Rattle.gl_code.proofs.Calming.{hung_follows}
+use Rattle.gl_code.specs.Renewing.{Renewal, Renews}
 
 -- the tree alone is another, with the same nodes
 pub tree_does : (old new : Vm) → new ≡ record old { tree = new.tree } → new.tree.nodes ≡ old.tree.nodes → Does (λ n st. st) old new

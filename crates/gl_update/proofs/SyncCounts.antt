@@ -15,11 +15,11 @@ use Rattle.gl_kept.specs.Between.{moves_between, lives_with, kept_with, moved_be
 use Rattle.gl_kept.specs.Listed.{spot_keys}
 use Rattle.gl_guards.specs.Once.{KeysOnceIn, KeysOnceItems}
 use Rattle.gl_vm.specs.View.{Tables}
-use Rattle.gl_append.specs.CodeView.{seen_item_code, all_items}
-use Rattle.gl_append.specs.MachineView.{seen_entry, seen_left}
-use Rattle.gl_append.specs.declared.code.ItemCode.{ItemCode}
-use Rattle.gl_append.specs.declared.machine.Entry.{Entry}
-use Rattle.gl_append.proofs.EntryLists.{next_left}
+use Rattle.gl_code.specs.CodeView.{seen_item_code, all_items}
+use Rattle.gl_code.specs.Entries.{seen_entry, seen_left}
+use Rattle.gl_code.specs.declared.code.ItemCode.{ItemCode}
+use Rattle.gl_code.specs.declared.entries.Entry.{Entry}
+use Rattle.gl_code.proofs.EntryLists.{next_left}
 use Rattle.gl_update.specs.Counted.{one_if, CodeMoved, HasKey, ItemMoved, ItemsMoved, live_items}
 use Rattle.gl_update.specs.ListItems.{spot_key, there}
 use Rattle.gl_update.specs.OldItems.{code_key, is_move, CodeKeys, Picks, Plans, TakenAt, TakenBy, IsReady}

@@ -27,20 +27,20 @@ use Rattle.gl_vm.specs.Labels.{label, labelled}
 use Rattle.gl_vm.specs.View.{Tables, state_of}
 use Rattle.gl_vm.specs.Steps.{Does}
 use Rattle.gl_vm.specs.declared.vm.Vm.{Vm}
-use Rattle.gl_append.specs.Cells.{CellList}
-use Rattle.gl_append.specs.CodeView.{seen_codes, seen_listing, seen_item_spot, stamp_of, seen_item_code, all_items}
-use Rattle.gl_append.specs.MachineView.{seen_entry, seen_left}
-use Rattle.gl_append.specs.declared.code.Code.{the_lemmas}
-use Rattle.gl_append.specs.declared.code.Codes.{Codes}
-use Rattle.gl_append.specs.declared.code.ItemCode.{ItemCode}
-use Rattle.gl_append.specs.declared.code.ItemSpot.{ItemSpot}
-use Rattle.gl_append.specs.declared.code.Listing.{Listing}
-use Rattle.gl_append.specs.declared.fault.VmFault.{VmFault}
-use Rattle.gl_append.specs.declared.machine.Entry.{Entry}
-use Rattle.gl_append.proofs.EntryLists.{next_left}
-use Rattle.gl_append.proofs.Taking.{does_then}
+use Rattle.gl_code.specs.Cells.{CellList}
+use Rattle.gl_code.specs.CodeView.{seen_codes, seen_listing, seen_item_spot, stamp_of, seen_item_code, all_items}
+use Rattle.gl_code.specs.Entries.{seen_entry, seen_left}
+use Rattle.gl_code.specs.declared.code.Code.{the_lemmas}
+use Rattle.gl_code.specs.declared.code.Codes.{Codes}
+use Rattle.gl_code.specs.declared.code.ItemCode.{ItemCode}
+use Rattle.gl_code.specs.declared.code.ItemSpot.{ItemSpot}
+use Rattle.gl_code.specs.declared.code.Listing.{Listing}
+use Rattle.gl_code.specs.declared.fault.VmFault.{VmFault}
+use Rattle.gl_code.specs.declared.entries.Entry.{Entry}
+use Rattle.gl_code.proofs.EntryLists.{next_left}
+use Rattle.gl_code.proofs.Doing.{does_then}
 use Rattle.gl_update.specs.declared.old_items.Work.{Work}
-use Rattle.gl_append.specs.Renewing.{Renewal, Renews, RenewFails}
+use Rattle.gl_code.specs.Renewing.{Renewal, Renews, RenewFails}
 use Rattle.gl_update.specs.ListItems.{Item, one_item, onto, handle, handles, spot_key, there, HasKeys, KeptItem, SyncItems, Syncs}
 use Rattle.gl_update.specs.OldItems.{code_key, Picks, Plans, CodeKeys, TakenAt, TakenBy, IsReady, OneItem}
 use Rattle.gl_update.proofs.ItemJoins.{item_synced, item_renewed, onto_none, before_none}

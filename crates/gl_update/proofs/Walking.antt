@@ -10,13 +10,13 @@ use Rattle.gl_machine.specs.Outcome.{ok, on_ok}
 use Rattle.gl_guards.specs.Along.{along_code_as, along_codes_as}
 use Rattle.gl_vm.specs.View.{Tables, state_of}
 use Rattle.gl_vm.specs.declared.vm.Vm.{Vm}
-use Rattle.gl_append.specs.CodeView.{all_codes, seen_code, seen_codes}
-use Rattle.gl_append.specs.Cells.{CellList}
-use Rattle.gl_append.specs.declared.code.Code.{Code}
-use Rattle.gl_append.specs.declared.code.Codes.{Codes}
-use Rattle.gl_append.specs.declared.fault.VmFault.{VmFault}
-use Rattle.gl_append.proofs.CodeNests.{body_is}
-use Rattle.gl_append.specs.Renewing.{Renewal, Renews, RenewFails}
+use Rattle.gl_code.specs.CodeView.{all_codes, seen_code, seen_codes}
+use Rattle.gl_code.specs.Cells.{CellList}
+use Rattle.gl_code.specs.declared.code.Code.{Code}
+use Rattle.gl_code.specs.declared.code.Codes.{Codes}
+use Rattle.gl_code.specs.declared.fault.VmFault.{VmFault}
+use Rattle.gl_code.proofs.CodeNests.{body_is}
+use Rattle.gl_code.specs.Renewing.{Renewal, Renews, RenewFails}
 use Rattle.gl_update.proofs.Renewing.{renews_same, renews_as, renews_then, renews_still, renews_in, fails_same, fails_first, fails_then, fails_in}
 
 abbrev pub seen_all : List Code → Tables → PlainCodes

@@ -7,8 +7,8 @@ use Rattle.gl_each.specs.Key.{Key}
 use Rattle.gl_kept.specs.Between.{moved_between, moved_bodies, moved_items}
 use Rattle.gl_guards.specs.Once.{KeysOnce, KeysOnceIn, KeysOnceItems}
 use Rattle.gl_vm.specs.View.{Tables}
-use Rattle.gl_append.specs.CodeView.{seen_item_code, all_items}
-use Rattle.gl_append.specs.declared.code.ItemCode.{ItemCode}
+use Rattle.gl_code.specs.CodeView.{seen_item_code, all_items}
+use Rattle.gl_code.specs.declared.code.ItemCode.{ItemCode}
 use Rattle.gl_update.specs.ListItems.{Item, spot_key}
 use Rattle.gl_update.specs.declared.counting.Moved.{Moved}
 

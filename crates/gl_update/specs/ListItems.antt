@@ -15,8 +15,8 @@ use Rattle.gl_machine.specs.RenewCode.{Start, Runs, CodeHandle, ItemDone, item_d
 use Rattle.gl_guards.specs.Along.{along_body_as, along_items_as, along_list_as, along_handles_as}
 use Rattle.gl_each.specs.Key.{Key}
 use Rattle.gl_vm.specs.View.{Tables}
-use Rattle.gl_append.specs.CodeView.{all_items}
-use Rattle.gl_append.specs.Renewing.{Renewal}
+use Rattle.gl_code.specs.CodeView.{all_items}
+use Rattle.gl_code.specs.Renewing.{Renewal}
 
 -- an item that was rendered: its comment stands where it has no node
 abbrev pub Item : Type 0

@@ -13,11 +13,11 @@ use Rattle.gl_each.specs.Key.{Key, entry_keys}
 use Rattle.gl_each.specs.Sync.{Step, retain, move, insert}
 use Rattle.gl_each.specs.View.{seen_steps}
 use Rattle.gl_vm.specs.View.{Tables}
-use Rattle.gl_append.specs.CodeView.{seen_item_code}
-use Rattle.gl_append.specs.MachineView.{seen_left}
-use Rattle.gl_append.specs.declared.code.ItemCode.{ItemCode}
+use Rattle.gl_code.specs.CodeView.{seen_item_code}
+use Rattle.gl_code.specs.Entries.{seen_left}
+use Rattle.gl_code.specs.declared.code.ItemCode.{ItemCode}
 use Rattle.gl_update.specs.ListItems.{Item, FreshItem, KeptItem}
-use Rattle.gl_append.specs.Renewing.{Renewal}
+use Rattle.gl_code.specs.Renewing.{Renewal}
 use Rattle.gl_update.specs.declared.old_items.Work.{Work}
 
 -- the key of an item, and its plain form

@@ -9,7 +9,7 @@ use Rattle.gl_meaning.specs.Path.{V}
 use Rattle.gl_meaning.specs.Render.{Entry, entries, values_listed}
 use Rattle.gl_each.specs.Key.{entry_keys}
 use Rattle.gl_vm.specs.Labels.{owner_path}
-use Rattle.gl_append.specs.MachineView.{seen_left}
+use Rattle.gl_code.specs.Entries.{seen_left}
 use Rattle.gl_update.specs.OldItems.{code_key}
 use Rattle.gl_update.specs.declared.reading.Read.{Read}
 use Rattle.gl_update.specs.declared.reading.Read.TheVariants.{Same, Other}

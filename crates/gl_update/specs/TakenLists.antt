@@ -3,8 +3,8 @@ use Rattle.std.specs.Prelude.{◌≡◌, map}
 use Rattle.gl_machine.specs.Code.{listed_code, unlisted_code}
 use Rattle.gl_nodes.specs.Flat.{stamp_of}
 use Rattle.gl_vm.specs.View.{Tables}
-use Rattle.gl_append.specs.CodeView.{seen_code, seen_codes, seen_listing, seen_spot, seen_item_code, all_items}
-use Rattle.gl_append.specs.declared.code.Code.{Code}
+use Rattle.gl_code.specs.CodeView.{seen_code, seen_codes, seen_listing, seen_spot, seen_item_code, all_items}
+use Rattle.gl_code.specs.declared.code.Code.{Code}
 use Rattle.gl_update.specs.declared.taken.Taken.{Taken}
 use Rattle.gl_update.specs.declared.taken.Taken.TheVariants.{Items, Other, Nothing}
 

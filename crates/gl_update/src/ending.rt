@@ -6,9 +6,9 @@ ghost use Rattle.gl_plain.specs.Naming.{by_number, dropped_as};
 ghost use Rattle.gl_machine.specs.Code.{lives_of};
 ghost use Rattle.gl_vm.specs.View.{Calm};
 ghost use Rattle.gl_vm.specs.Steps.{Does};
-ghost use Rattle.gl_append.specs.CodeView.{seen_codes};
+ghost use Rattle.gl_code.specs.CodeView.{seen_codes};
 
-use gl_append::Codes;
+use gl_code::Codes;
 use gl_nodes::NodeId;
 use gl_vm::Vm;
 use std::alloc::AllocError;

@@ -5,9 +5,9 @@ ghost use Rattle.gl_plain.specs.Naming.{by_number, dropped_as};
 ghost use Rattle.gl_machine.specs.Code.{items_of};
 ghost use Rattle.gl_vm.specs.View.{Calm};
 ghost use Rattle.gl_vm.specs.Steps.{Does};
-ghost use Rattle.gl_append.specs.CodeView.{seen_item_code, all_items};
+ghost use Rattle.gl_code.specs.CodeView.{seen_item_code, all_items};
 
-use gl_append::ItemCode;
+use gl_code::ItemCode;
 use gl_vm::Vm;
 use std::alloc::AllocError;
 

@@ -8,17 +8,18 @@ ghost use Rattle.gl_each.specs.Key.{entry_key};
 ghost use Rattle.gl_machine.specs.Code.{ItemCodes};
 ghost use Rattle.gl_machine.specs.RenewCode.{start};
 ghost use Rattle.gl_vm.specs.View.{Calm};
-ghost use Rattle.gl_append.specs.View.{seen_sight};
-ghost use Rattle.gl_append.specs.CodeView.{seen_listing, seen_item_spot, seen_item_code, all_items};
-ghost use Rattle.gl_append.specs.MachineView.{seen_entry, seen_left};
+ghost use Rattle.gl_code.specs.View.{seen_sight};
+ghost use Rattle.gl_code.specs.CodeView.{seen_listing, seen_item_spot, seen_item_code, all_items};
+ghost use Rattle.gl_code.specs.Entries.{seen_entry, seen_left};
 ghost use Rattle.gl_update.specs.ListItems.{Item, spot_key, BodyItem, FreshItem, FreshItems};
-ghost use Rattle.gl_append.specs.Renewing.{Renews, RenewFails};
+ghost use Rattle.gl_code.specs.Renewing.{Renews, RenewFails};
 
 use crate::seating::Seat;
 use crate::standing::seat_with_comment;
-use gl_append::{
-    Cells, Entry, ItemCode, ItemSpot, Listing, Sight, VmFault, append_block, below, counted,
-    item_params, item_sight,
+use gl_append::append_block;
+use gl_code::{
+    Cells, Entry, ItemCode, ItemSpot, Listing, Sight, VmFault, below, counted, item_params,
+    item_sight,
 };
 use gl_meaning::{Path, PathStep};
 use gl_opc::App;

@@ -7,12 +7,12 @@ ghost use Rattle.gl_machine.specs.Code as c;
 ghost use Rattle.gl_machine.specs.Code.{Code as PlainCode, live_of, lives_of, items_of as lives_in};
 ghost use Rattle.gl_guards.specs.Along.{along_code_as};
 ghost use Rattle.gl_vm.specs.View.{Calm};
-ghost use Rattle.gl_append.specs.CodeView.{seen_code, seen_codes, seen_listing, seen_spot, seen_item_code, all_items};
-ghost use Rattle.gl_append.specs.MachineView.{seen_left};
+ghost use Rattle.gl_code.specs.CodeView.{seen_code, seen_codes, seen_listing, seen_spot, seen_item_code, all_items};
+ghost use Rattle.gl_code.specs.Entries.{seen_left};
 ghost use Rattle.gl_update.specs.Counted.{CodeMoved, IsListed, IsUnlisted};
 ghost use Rattle.gl_update.specs.View.{trail_view};
 ghost use Rattle.gl_update.specs.ListItems.{ListsFresh, ListsNone, Relists};
-ghost use Rattle.gl_append.specs.Renewing.{Renews, RenewFails};
+ghost use Rattle.gl_code.specs.Renewing.{Renews, RenewFails};
 
 use crate::along::walk_list;
 use crate::codes::renew_else;
@@ -29,7 +29,8 @@ use crate::taken::{
     read_unlisted, take_list, without_items,
 };
 use crate::trail::Trail;
-use gl_append::{Cells, Code, Codes, Entry, ItemCode, Listing, Spot, VmFault, append_block};
+use gl_append::append_block;
+use gl_code::{Cells, Code, Codes, Entry, ItemCode, Listing, Spot, VmFault};
 use gl_meaning::PathStep;
 use gl_nodes::NodeId;
 use gl_opc::App;

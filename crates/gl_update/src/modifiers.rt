@@ -8,10 +8,11 @@ ghost use Rattle.gl_plain.specs.State.{pair_of};
 ghost use Rattle.gl_vm.specs.Labels.{all_labelled, names_labelled};
 ghost use Rattle.gl_vm.specs.View.{Calm, stamps, state_of};
 ghost use Rattle.gl_vm.specs.Steps.{Does};
-ghost use Rattle.gl_append.specs.CodeView.{seen_mod_spot};
+ghost use Rattle.gl_code.specs.CodeView.{seen_mod_spot};
 
-use gl_append::{ModSpot, value_of, values_of};
 use gl_asks::is_stale;
+use gl_code::{ModSpot, value_of};
+use gl_parts::values_of;
 use gl_refs::RefId;
 use gl_value::{List, NamedValues, Text};
 use gl_vm::Vm;

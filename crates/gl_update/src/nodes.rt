@@ -5,12 +5,12 @@ ghost use Rattle.gl_plain.specs.State.{text_content, content, put_thing};
 ghost use Rattle.gl_plain.specs.Renew as r;
 ghost use Rattle.gl_vm.specs.View.{Calm};
 ghost use Rattle.gl_vm.specs.Steps.{Does, put_attr};
-ghost use Rattle.gl_append.specs.CodeView.{seen_attr_spot};
+ghost use Rattle.gl_code.specs.CodeView.{seen_attr_spot};
 
 use crate::asks::{has_once, is_text};
 use crate::positions::{attribute, shown};
-use gl_append::AttrSpot;
 use gl_asks::is_stale;
+use gl_code::AttrSpot;
 use gl_nodes::NodeId;
 use gl_refs::RefId;
 use gl_value::Text;

@@ -7,12 +7,12 @@ ghost use Rattle.gl_each.specs.Moved.{moves as count_moves};
 ghost use Rattle.gl_each.specs.Sync.{Step};
 ghost use Rattle.gl_each.specs.View.{key_view, seen_keys, seen_steps, step_view};
 ghost use Rattle.gl_kept.specs.Between.{moves_between};
-ghost use Rattle.gl_append.specs.MachineView.{seen_left};
+ghost use Rattle.gl_code.specs.Entries.{seen_left};
 ghost use Rattle.gl_update.specs.ListItems.{there};
 ghost use Rattle.gl_update.specs.OldItems.{raw_key, plain_key, code_key, Plans, TakenAt, TakenBy, IsReady, is_move, unboxed};
 ghost use Rattle.gl_update.specs.NextItem.{Follows};
 
-use gl_append::{Entry, ItemCode};
+use gl_code::{Entry, ItemCode};
 use gl_each::{Key, Keys, PlanStep, apart, keys, plan};
 use std::alloc::{AllocError, Global};
 

@@ -7,14 +7,14 @@ ghost use Rattle.gl_guards.specs.Along.{along_root_code_as};
 ghost use Rattle.gl_guards.specs.Once.{KeysOnce};
 ghost use Rattle.gl_kept.specs.Between.{moved_between};
 ghost use Rattle.gl_vm.specs.View.{Calm};
-ghost use Rattle.gl_append.specs.CodeView.{seen_code};
-ghost use Rattle.gl_append.specs.Hung.{nest_of};
-ghost use Rattle.gl_append.specs.Renewing.{Renews, RenewFails};
+ghost use Rattle.gl_code.specs.CodeView.{seen_code};
+ghost use Rattle.gl_code.specs.Hung.{nest_of};
+ghost use Rattle.gl_code.specs.Renewing.{Renews, RenewFails};
 
 use crate::codes::renew_body;
 use crate::counting::Moved;
 use crate::trail::Trail;
-use gl_append::{Cells, Code, Page, VmFault};
+use gl_code::{Cells, Code, Page, VmFault};
 use gl_meaning::{Path, PathSteps};
 use gl_nested::stands;
 use gl_opc::App;

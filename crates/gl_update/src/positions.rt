@@ -10,8 +10,9 @@ ghost use Rattle.gl_vm.specs.Labels.{labelled};
 ghost use Rattle.gl_vm.specs.View.{Calm, Agrees, state_of};
 ghost use Rattle.gl_vm.specs.Steps.{Does};
 
-use gl_append::{attribute_over, takes, value_of};
 use gl_asks::is_stale;
+use gl_code::{takes, value_of};
+use gl_parts::attribute_over;
 use gl_refs::RefId;
 use gl_value::{Text, Value};
 use gl_vm::Vm;

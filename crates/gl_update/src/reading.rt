@@ -13,7 +13,7 @@ ghost use Rattle.gl_update.specs.Read.{Gives, IsOf, entries_now};
 
 use crate::old_items::are_keys_of;
 use crate::taken::{Listed, Ready, boxed_ready, value_now};
-use gl_append::{ItemCode, keyed_items_of};
+use gl_code::{ItemCode, keyed_items_of};
 use gl_each::keys;
 use gl_value::{List, Text, Value, key_of};
 use gl_vm::Vm;

@@ -1,7 +1,7 @@
 // New nodes are put before a node of the tree, with all that was rendered in them.
 ghost use Rattle.std.specs.Prelude.{◌≡◌, OnOk};
 
-use gl_append::{Code, Codes, ItemCode, hang};
+use gl_code::{Code, Codes, ItemCode, hang};
 use gl_nodes::{NodeId, NodeTree};
 use std::alloc::AllocError;
 

@@ -2,14 +2,14 @@
 ghost use Rattle.std.specs.Prelude.{◌≡◌, ◌+◌, IfOk, OnOk};
 ghost use Rattle.gl_vm.specs.View.{Calm, state_of, Agrees};
 ghost use Rattle.gl_vm.specs.Steps.{Does};
-ghost use Rattle.gl_append.specs.CodeView.{seen_codes};
-ghost use Rattle.gl_append.specs.Steps.{Commented};
+ghost use Rattle.gl_code.specs.CodeView.{seen_codes};
+ghost use Rattle.gl_code.specs.Comments.{Commented};
 ghost use Rattle.gl_update.specs.Counted.{one_if};
 
 use crate::counting::Moved;
 use crate::seating::{Seat, seat_body};
 use crate::tops::{first_top, last_top};
-use gl_append::{Codes, ItemCode, comment_for};
+use gl_code::{Codes, ItemCode, comment_for};
 use gl_nodes::{NodeId, NodeTree};
 use gl_vm::Vm;
 use std::alloc::AllocError;

@@ -1,5 +1,5 @@
 // The first and the last node of what was rendered, of those that stand in no other of its nodes.
-use gl_append::{Code, Codes, ItemCode};
+use gl_code::{Code, Codes, ItemCode};
 use gl_nodes::NodeId;
 
 /// The first one of a body, or else its comment.

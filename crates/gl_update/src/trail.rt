@@ -4,7 +4,7 @@ ghost use Rattle.gl_meaning.specs.Path as p;
 ghost use Rattle.gl_meaning.specs.View.{path_view, path_step_view};
 ghost use Rattle.gl_update.specs.View.{trail_view};
 
-use gl_append::path_copy;
+use gl_code::path_copy;
 use gl_meaning::{Path, PathStep, PathSteps};
 use std::alloc::{AllocError, Global};
 use std::mem;

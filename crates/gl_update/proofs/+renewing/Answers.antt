@@ -18,19 +18,19 @@ use Rattle.std.specs.declared.vec.Vec.{Vec}
 use Rattle.std.specs.declared.alloc.Global.{Global}
 use Rattle.gl_base.specs.Texts.{Text}
 use Rattle.gl_arena.specs.Id.{Id}
-use Rattle.gl_append.specs.declared.code.AttrSpot.{AttrSpot}
-use Rattle.gl_append.specs.declared.code.Choice.{Choice}
-use Rattle.gl_append.specs.declared.code.Codes.{Codes}
-use Rattle.gl_append.specs.declared.code.ModSpot.{ModSpot}
-use Rattle.gl_append.specs.declared.code.Spot.{Spot}
-use Rattle.gl_append.specs.declared.sight.Owner.{Owner}
+use Rattle.gl_code.specs.declared.code.AttrSpot.{AttrSpot}
+use Rattle.gl_code.specs.declared.code.Choice.{Choice}
+use Rattle.gl_code.specs.declared.code.Codes.{Codes}
+use Rattle.gl_code.specs.declared.code.ModSpot.{ModSpot}
+use Rattle.gl_code.specs.declared.code.Spot.{Spot}
+use Rattle.gl_code.specs.declared.sight.Owner.{Owner}
 use Rattle.gl_vm.specs.View.{Tables, stamps, name_stamps, state_of}
 use Rattle.gl_vm.specs.Steps.{Does}
-use Rattle.gl_append.specs.View.{refs_made, seen_owner}
-use Rattle.gl_append.specs.declared.code.Code.{the_lemmas}
-use Rattle.gl_append.specs.CodeView.{seen_attr_spot, seen_choice, seen_code, seen_codes, seen_mod_spot, seen_spot, seen_listing, seen_item_code, all_items, seen_item_spot}
+use Rattle.gl_code.specs.View.{refs_made, seen_owner}
+use Rattle.gl_code.specs.declared.code.Code.{the_lemmas}
+use Rattle.gl_code.specs.CodeView.{seen_attr_spot, seen_choice, seen_code, seen_codes, seen_mod_spot, seen_spot, seen_listing, seen_item_code, all_items, seen_item_spot}
 use Rattle.gl_update.specs.View.{trail_view}
-use Rattle.gl_append.specs.Renewing.{Renews, RenewFails}
+use Rattle.gl_code.specs.Renewing.{Renews, RenewFails}
 use Rattle.gl_update.proofs.Renewing.{renews_by, renews_still, renews_in, renews_at, fails_in, fails_at, renews_as}
 use Rattle.gl_update.proofs.Arms.{arm, arm_fails, still_is, put_is, element_is, branch_is, let_is, component_is, yield_is, Below, element_renews, element_fails, component_renews, component_fails}
 use Rattle.gl_update.proofs.Branching.{branch_kept, branch_kept_fails, branch_flips, branch_flip_fails}
@@ -48,8 +48,8 @@ use Rattle.gl_update.specs.Read.{Gives, IsOf, entries_now}
 use Rattle.gl_update.specs.declared.reading.Read.TheVariants as r
 use Rattle.gl_update.proofs.StayingItems.{GivesAt, none_now, stays_begin, stays_next, stays_fails, stays_end}
 use Rattle.gl_update.proofs.Regions.{region_entered, region_fails, region_passed}
-use Rattle.gl_append.specs.MachineView.{seen_entry, seen_left}
-use Rattle.gl_append.proofs.ListEnds.{none_counted, some_counted, none_left}
+use Rattle.gl_code.specs.Entries.{seen_entry, seen_left}
+use Rattle.gl_code.proofs.EntryCounts.{none_counted, some_counted, none_left}
 use Rattle.gl_update.specs.ListItems.{Item, there, FreshItem, ListsFresh, ListsNone, Syncs, Relists, AlongItem, EntersList, GoesAlong, KeptItem, SyncItems, spot_key}
 use Rattle.gl_update.specs.OldItems.{OneItem, unboxed, code_key}
 use Rattle.gl_update.specs.NextItem.{Follows, Taking}
@@ -58,13 +58,13 @@ use Rattle.std.specs.declared.boxed.Box.{Box}
 use Rattle.gl_each.specs.Moved.{moves as count_moves}
 use Rattle.gl_each.specs.View.{seen_steps}
 use Rattle.gl_kept.specs.Between.{moves_between}
-use Rattle.gl_append.specs.declared.code.Listing.{Listing as ListingCode}
+use Rattle.gl_code.specs.declared.code.Listing.{Listing as ListingCode}
 use Rattle.gl_update.specs.declared.taken.Begun.{Begun}
 use Rattle.gl_update.specs.declared.taken.Listed.{Listed}
 use Rattle.gl_update.specs.declared.taken.Ready.{Ready}
 use Rattle.gl_update.specs.declared.taken.Unlisted.{Unlisted}
 use Rattle.gl_update.proofs.SyncItems.{given_item, All, sync_begin, sync_next, sync_fails, sync_end, work_next, kept_renews, kept_fails, list_syncs, list_sync_fails, item_is}
-use Rattle.gl_append.specs.declared.code.ItemCode.{ItemCode}
+use Rattle.gl_code.specs.declared.code.ItemCode.{ItemCode}
 use Rattle.gl_update.proofs.ListUpdates.{unlisted_stays, unlisted_stays_fails, unlisted_lists, unlisted_lists_fails, Unlisting, gone, Updating, listed_reads, listed_reads_fails, listed_goes, listed_goes_fails, listed_ends, listed_ends_fails, listed_syncs, listed_syncs_fails, Relisting}
 use Rattle.gl_update.proofs.Still.{renews_on}
 use Rattle.gl_each.specs.Key.{entry_key, entry_keys}

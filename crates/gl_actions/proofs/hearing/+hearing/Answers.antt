@@ -3,7 +3,7 @@ use Rattle.std.specs.Prelude.{if◌then◌else◌}
 use Rattle.std.specs.Str.{chars}
 use Rattle.std.proofs.lemmas.Result.{on_ok_weaker}
 use Rattle.gl_machine.specs.Code.{lives_of, items_of}
-use Rattle.gl_append.specs.CodeView.{seen_mod_spot, seen_codes, seen_item_code, all_items}
+use Rattle.gl_code.specs.CodeView.{seen_mod_spot, seen_codes, seen_item_code, all_items}
 use Rattle.gl_actions.specs.Heard.{spots_among, spots_of_items, called_of}
 use Rattle.gl_actions.proofs.HeardIn.{called_then, element_heard, branch_heard, listed_heard, unlisted_heard, let_heard, component_heard, root_heard, yield_heard, codes_on, codes_end, items_on, items_end, heard_as}
 use Rattle.gl_actions.proofs.hearing.+hearing.Goals as goal

@@ -2,7 +2,7 @@ use Rattle.std.proofs.Common.{◌≡◌, ◌++◌, map, drop}
 use Rattle.std.specs.Str.{chars}
 use Rattle.gl_machine.specs.Code.{lives_of, items_of}
 use Rattle.gl_vm.specs.View.{Tables}
-use Rattle.gl_append.specs.CodeView.{seen_code, seen_item_code, all_codes, all_items}
+use Rattle.gl_code.specs.CodeView.{seen_code, seen_item_code, all_codes, all_items}
 use Rattle.gl_actions.specs.Heard.{spots_among, spots_of_items, called_of}
 use Rattle.gl_actions.proofs.hearing.+hearing.Given as goal
 

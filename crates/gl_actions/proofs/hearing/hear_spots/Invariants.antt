@@ -1,6 +1,6 @@
 use Rattle.std.proofs.Common.{◌≡◌, ◌++◌, map, drop}
 use Rattle.std.specs.Str.{chars}
-use Rattle.gl_append.specs.CodeView.{seen_mod_spot}
+use Rattle.gl_code.specs.CodeView.{seen_mod_spot}
 use Rattle.gl_actions.specs.Heard.{called_of}
 use Rattle.gl_actions.proofs.hearing.hear_spots.Given as goal
 

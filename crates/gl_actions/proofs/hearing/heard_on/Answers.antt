@@ -1,7 +1,7 @@
 use Rattle.std.proofs.Common.{◌++◌, ap, ◌∙◌}
 use Rattle.std.specs.Str.{chars}
 use Rattle.gl_machine.specs.Code.{live_of}
-use Rattle.gl_append.specs.CodeView.{seen_code}
+use Rattle.gl_code.specs.CodeView.{seen_code}
 use Rattle.gl_actions.specs.Heard.{spots_in, called_of}
 use Rattle.gl_actions.proofs.hearing.heard_on.Goals as goal
 

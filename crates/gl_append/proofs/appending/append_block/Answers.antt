@@ -1,6 +1,6 @@
 use Rattle.gl_meaning.specs.View.{path_view}
 use Rattle.gl_machine.specs.RenewCode.{start}
-use Rattle.gl_append.specs.View.{seen_sight}
+use Rattle.gl_code.specs.View.{seen_sight}
 use Rattle.gl_append.proofs.BlockRuns.{appends, append_stops}
 use Rattle.gl_append.proofs.appending.append_block.Goals as goal
 

@@ -14,14 +14,13 @@ use Rattle.gl_machine.specs.Root.{append_page_as}
 use Rattle.gl_machine.specs.Step.{run_for_as}
 use Rattle.gl_vm.specs.View.{state_of}
 use Rattle.gl_vm.specs.Steps.{empty}
-use Rattle.gl_append.specs.View.{refs_made, seen_owner}
-use Rattle.gl_append.specs.CodeView.{seen_code}
-use Rattle.gl_append.specs.Cells.{store_of}
-use Rattle.gl_append.specs.Components.{Suits}
-use Rattle.gl_append.specs.Tables.{tables_of}
-use Rattle.gl_append.specs.Stepping.{env_of}
-use Rattle.gl_append.proofs.Calming.{tree_calm}
-use Rattle.gl_append.proofs.PageRuns.{page_of, page_stopped, hung_follows}
+use Rattle.gl_code.specs.View.{refs_made, seen_owner}
+use Rattle.gl_code.specs.CodeView.{seen_code}
+use Rattle.gl_code.specs.Cells.{store_of}
+use Rattle.gl_code.specs.Instances.{Suits}
+use Rattle.gl_code.specs.Tables.{env_of, tables_of}
+use Rattle.gl_code.proofs.Calming.{hung_follows, tree_calm}
+use Rattle.gl_append.proofs.PageRuns.{page_of, page_stopped}
 use Rattle.gl_append.proofs.page.append.Goals as goal
 
 pub returns-in_ok-hang_page-in-Ok-clause-ok : goal.returns-in_ok-hang_page-in-Ok-clause-ok
@@ -68,3 +67,9 @@ pub returns-in_err-hang_page-in-Ok-clause-fails : goal.returns-in_err-hang_page-
 returns-in_err-hang_page-in-Ok-clause-fails c =
     let p = err_from_is_err_and c.from_residual-in_err-hang_page-in-Ok.result c.from_residual-in_err-hang_page-in-Ok.ensures.1 in
     rw (p.1, p.2) tt
+
+pub returns-in_err-left-clause-fails : goal.returns-in_err-left-clause-fails
+returns-in_err-left-clause-fails c = let p = err_from_is_err_and c.from_residual-in_err-left.result c.from_residual-in_err-left.ensures.1 in rw (p.1, p.2) tt
+
+pub returns-in_err-owner-clause-fails : goal.returns-in_err-owner-clause-fails
+returns-in_err-owner-clause-fails c = let p = err_from_is_err_and c.from_residual-in_err-owner.result c.from_residual-in_err-owner.ensures.1 in rw (p.1, p.2) tt

@@ -4,12 +4,12 @@ use Rattle.gl_meaning.specs.declared.path.Path.{Path}
 use Rattle.gl_machine.specs.Mach.{all_of}
 use Rattle.gl_machine.specs.Sight.{sight, not_passed}
 use Rattle.gl_vm.specs.View.{state_of}
-use Rattle.gl_append.specs.View.{refs_made, seen_owner, seen_sight}
-use Rattle.gl_append.specs.CodeView.{component_seen}
+use Rattle.gl_code.specs.View.{refs_made, seen_owner, seen_sight}
+use Rattle.gl_code.specs.CodeView.{component_seen}
 use Rattle.gl_append.specs.MachineView.{seen_here, mach_by, mach_of}
-use Rattle.gl_append.specs.Cells.{store_of}
-use Rattle.gl_append.specs.Tables.{tables_of}
-use Rattle.gl_append.specs.Stepping.{env_of}
+use Rattle.gl_code.specs.Cells.{store_of}
+use Rattle.gl_code.specs.Tables.{tables_of}
+use Rattle.gl_code.specs.Tables.{env_of}
 use Rattle.gl_append.proofs.PageRuns.{run_ends, root_fails}
 use Rattle.gl_append.proofs.page.append_root.Goals as goal
 

@@ -5,10 +5,10 @@ use Rattle.gl_machine.specs.Shape.{joined, nest, nest_in}
 use Rattle.gl_nodes.specs.Flat.{stamp_of}
 use Rattle.gl_vm.specs.View.{Tables}
 use Rattle.gl_vm.specs.declared.vm.Vm.{Vm}
-use Rattle.gl_append.specs.CodeView.{seen_code, seen_codes}
-use Rattle.gl_append.specs.Hung.{Hangs, nest_of}
-use Rattle.gl_append.specs.declared.code.Code.{Code}
-use Rattle.gl_append.proofs.CodeNests.{root_nest}
+use Rattle.gl_code.specs.CodeView.{seen_code, seen_codes}
+use Rattle.gl_code.specs.Hung.{Hangs, nest_of}
+use Rattle.gl_code.specs.declared.code.Code.{Code}
+use Rattle.gl_code.proofs.CodeNests.{root_nest}
 use Rattle.gl_append.proofs.PageHangs.{no_trees, for_each}
 use Rattle.gl_append.proofs.page.hang_page.Goals as goal
 

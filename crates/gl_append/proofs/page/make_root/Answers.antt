@@ -2,8 +2,8 @@ use Rattle.std.proofs.Common.{ap, reverse, subst}
 use Rattle.gl_meaning.specs.View.{path_view}
 use Rattle.gl_meaning.specs.declared.path.Path.{Path}
 use Rattle.gl_vm.specs.Labels.{all_labelled}
-use Rattle.gl_append.specs.Cells.{cells_at, initial_values}
-use Rattle.gl_append.specs.Components.{Lays}
+use Rattle.gl_code.specs.Cells.{cells_at, initial_values}
+use Rattle.gl_code.specs.Instances.{Lays}
 use Rattle.gl_append.proofs.RootBegins.{root_made}
 use Rattle.gl_append.proofs.page.make_root.Goals as goal
 

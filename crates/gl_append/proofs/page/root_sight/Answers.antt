@@ -1,7 +1,7 @@
 use Rattle.std.proofs.Common.{[], ◌∙◌, ap}
 use Rattle.gl_machine.specs.Sight.{sight, not_passed}
 use Rattle.gl_vm.specs.View.{name_stamps}
-use Rattle.gl_append.specs.View.{seen_level, seen_links, seen_owner, shared}
+use Rattle.gl_code.specs.View.{seen_level, seen_links, seen_owner, shared}
 use Rattle.gl_append.proofs.page.root_sight.Goals as goal
 
 pub returns : goal.returns

@@ -1,6 +1,6 @@
 use Rattle.std.proofs.Common.{◌+◌, ◌∷◌, [], drop, sym, ap, ◌∙◌}
 use Rattle.std.proofs.lemmas.Result.{on_ok_weaker}
-use Rattle.gl_append.specs.declared.code.Code.TheVariants.{Put, Element, Branch, Listed, Unlisted, Let, Component, Root, Yield}
+use Rattle.gl_code.specs.declared.code.Code.TheVariants.{Put, Element, Branch, Listed, Unlisted, Let, Component, Root, Yield}
 use Rattle.gl_vm.specs.View.{stamps}
 use Rattle.gl_asks.specs.Filled.{filled}
 use Rattle.gl_asks.proofs.Filling.{fills_then, left_step, left_end, left_full}

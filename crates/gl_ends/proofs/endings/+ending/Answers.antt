@@ -4,9 +4,9 @@ use Rattle.gl_nodes.specs.Flat.{stamp_of}
 use Rattle.gl_plain.specs.Ids.{Id as Name, node as node_id, instance_id, block_id, ref, hit, occurs}
 use Rattle.gl_plain.specs.Live.{times_in, times_items, times_comment, times_attrs, times_mods}
 use Rattle.gl_machine.specs.Code.{lives_of, items_of}
-use Rattle.gl_append.specs.View.{refs_made}
-use Rattle.gl_append.specs.CodeView.{seen_spot, seen_attr_spot, seen_mod_spot, seen_codes, seen_item_code, all_items}
-use Rattle.gl_append.specs.declared.code.Code.TheVariants.{Still, Put, Element, Branch, Listed, Unlisted, Let, Component, Root, Yield}
+use Rattle.gl_code.specs.View.{refs_made}
+use Rattle.gl_code.specs.CodeView.{seen_spot, seen_attr_spot, seen_mod_spot, seen_codes, seen_item_code, all_items}
+use Rattle.gl_code.specs.declared.code.Code.TheVariants.{Still, Put, Element, Branch, Listed, Unlisted, Let, Component, Root, Yield}
 use Rattle.gl_ends.proofs.Joins.{ends_as, ends_then}
 use Rattle.gl_ends.proofs.Loops.{left_step, left_done}
 use Rattle.gl_ends.proofs.CodeCounts.{count_code, count_item, codes_count, items_count, still_count, put_count, element_as, branch_count, listed_as, unlisted_count, let_count, component_as, root_as, yield_count, item_count, ends_code}

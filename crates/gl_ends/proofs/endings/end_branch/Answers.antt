@@ -2,7 +2,7 @@ use Rattle.std.proofs.Common.{◌+◌}
 use Rattle.gl_nodes.specs.Flat.{stamp_of}
 use Rattle.gl_plain.specs.Live.{times_in, times_comment}
 use Rattle.gl_machine.specs.Code.{lives_of}
-use Rattle.gl_append.specs.CodeView.{seen_codes}
+use Rattle.gl_code.specs.CodeView.{seen_codes}
 use Rattle.gl_ends.proofs.Joins.{does_of}
 use Rattle.gl_ends.proofs.endings.end_branch.Goals as goal
 

@@ -1,6 +1,6 @@
 use Rattle.gl_plain.specs.Live.{times_in}
 use Rattle.gl_machine.specs.Code.{lives_of}
-use Rattle.gl_append.specs.CodeView.{seen_codes}
+use Rattle.gl_code.specs.CodeView.{seen_codes}
 use Rattle.gl_ends.proofs.Joins.{does_of}
 use Rattle.gl_ends.proofs.endings.end_codes.Goals as goal
 

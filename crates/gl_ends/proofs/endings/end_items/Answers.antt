@@ -1,7 +1,7 @@
 use Rattle.std.proofs.Common.{map}
 use Rattle.gl_plain.specs.Live.{times_items}
 use Rattle.gl_machine.specs.Code.{items_of}
-use Rattle.gl_append.specs.CodeView.{seen_item_code, all_items}
+use Rattle.gl_code.specs.CodeView.{seen_item_code, all_items}
 use Rattle.gl_ends.proofs.Joins.{does_of}
 use Rattle.gl_ends.proofs.endings.end_items.Goals as goal
 

@@ -1,7 +1,7 @@
 use Rattle.std.proofs.Common.{ℕ, ◌+◌, refl, arith}
 use Rattle.std.proofs.lemmas.Result.{on_ok_weaker}
 use Rattle.gl_plain.specs.Ids.{Id as Name, instance_id, block_id, hit, occurs}
-use Rattle.gl_append.specs.View.{refs_made}
+use Rattle.gl_code.specs.View.{refs_made}
 use Rattle.gl_ends.proofs.Joins.{ends_then}
 use Rattle.gl_ends.proofs.endings.end_passed.Goals as goal
 

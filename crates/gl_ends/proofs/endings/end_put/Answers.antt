@@ -1,7 +1,7 @@
 use Rattle.std.proofs.Common.{◌+◌, refl}
 use Rattle.std.proofs.lemmas.Result.{on_ok_weaker}
 use Rattle.gl_plain.specs.Ids.{node, hit, occurs}
-use Rattle.gl_append.specs.CodeView.{seen_spot}
+use Rattle.gl_code.specs.CodeView.{seen_spot}
 use Rattle.gl_ends.proofs.Joins.{ends_then}
 use Rattle.gl_ends.proofs.endings.end_put.Goals as goal
 

@@ -2,8 +2,8 @@ use Rattle.std.proofs.Common.{[], ◌∷◌, arith}
 use Rattle.std.proofs.lemmas.Result.{on_ok_weaker}
 use Rattle.gl_plain.specs.Ids.{ref, hit, occurs}
 use Rattle.gl_plain.proofs.Moves.{occurs_append}
-use Rattle.gl_append.specs.View.{refs_made}
-use Rattle.gl_append.specs.CodeView.{seen_spot}
+use Rattle.gl_code.specs.View.{refs_made}
+use Rattle.gl_code.specs.CodeView.{seen_spot}
 use Rattle.gl_ends.proofs.Joins.{ends_then}
 use Rattle.gl_ends.proofs.references.end_spot.Goals as goal
 

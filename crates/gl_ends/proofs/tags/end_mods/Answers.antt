@@ -2,7 +2,7 @@ use Rattle.std.proofs.Common.{map}
 use Rattle.std.proofs.lemmas.Result.{on_ok_weaker}
 use Rattle.gl_plain.specs.Ids.{modifier_id, occurs}
 use Rattle.gl_plain.specs.Live.{times_mods}
-use Rattle.gl_append.specs.CodeView.{seen_mod_spot}
+use Rattle.gl_code.specs.CodeView.{seen_mod_spot}
 use Rattle.gl_ends.specs.Ending.{times_spots}
 use Rattle.gl_ends.proofs.Joins.{ends_then}
 use Rattle.gl_ends.proofs.CodeCounts.{mods_count}

@@ -2,8 +2,8 @@ use Rattle.std.proofs.Common.{ℕ, ◌+◌, map, refl}
 use Rattle.std.proofs.lemmas.Result.{on_ok_weaker}
 use Rattle.gl_plain.specs.Ids.{Id as Name, node, hit, occurs}
 use Rattle.gl_plain.specs.Live.{times_attrs}
-use Rattle.gl_append.specs.View.{refs_made}
-use Rattle.gl_append.specs.CodeView.{seen_attr_spot}
+use Rattle.gl_code.specs.View.{refs_made}
+use Rattle.gl_code.specs.CodeView.{seen_attr_spot}
 use Rattle.gl_ends.proofs.Joins.{ends_then}
 use Rattle.gl_ends.proofs.tags.end_tag.Goals as goal
 

@@ -1,7 +1,7 @@
 use Rattle.std.proofs.Common.{◌+◌, ◌++◌, drop, ap, ◌∙◌}
 use Rattle.std.proofs.lemmas.Result.{on_ok_weaker}
-use Rattle.gl_append.specs.declared.code.Code.TheVariants.{Element, Branch, Listed, Unlisted, Let, Component, Root, Yield}
-use Rattle.gl_append.specs.View.{seen_owner}
+use Rattle.gl_code.specs.declared.code.Code.TheVariants.{Element, Branch, Listed, Unlisted, Let, Component, Root, Yield}
+use Rattle.gl_code.specs.View.{seen_owner}
 use Rattle.gl_machine.specs.Gone.{gone_instance}
 use Rattle.gl_gone.specs.View.{seen_ending, all_seen}
 use Rattle.gl_gone.proofs.CodeGoes.{code_goes, codes_go, items_go, body_goes, mods_go, element_goes, branch_goes, listed_goes, unlisted_goes, let_goes, component_goes, root_goes, yield_goes, body_codes, code_more, item_more, code_last, item_last, left_step, left_end, two_parts, one_more, on_ok_code}

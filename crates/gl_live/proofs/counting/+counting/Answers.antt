@@ -2,8 +2,8 @@ use Rattle.std.proofs.Common.{◌+◌, subst}
 use Rattle.gl_machine.specs.Code.{lives_of, items_of}
 use Rattle.gl_nodes.specs.Flat.{stamp_of}
 use Rattle.std.specs.Prelude.{map}
-use Rattle.gl_append.specs.CodeView.{seen_codes, seen_item_code, all_items}
-use Rattle.gl_append.specs.declared.code.Code.TheVariants.{Element, Branch, Listed, Unlisted, Let, Component, Root, Yield}
+use Rattle.gl_code.specs.CodeView.{seen_codes, seen_item_code, all_items}
+use Rattle.gl_code.specs.declared.code.Code.TheVariants.{Element, Branch, Listed, Unlisted, Let, Component, Root, Yield}
 use Rattle.gl_live.specs.Counting.{weigh_in, weigh_items, weigh_comment, Counts}
 use Rattle.gl_live.proofs.Sums.{counts_with, counts_as}
 use Rattle.gl_live.proofs.Parts as p

@@ -1,7 +1,7 @@
 use Rattle.std.proofs.Common.{map, take}
 use Rattle.gl_machine.specs.Code.{lives_of, items_of}
 use Rattle.gl_vm.specs.View.{Tables}
-use Rattle.gl_append.specs.CodeView.{seen_code, seen_item_code, all_codes, all_items}
+use Rattle.gl_code.specs.CodeView.{seen_code, seen_item_code, all_codes, all_items}
 use Rattle.gl_live.specs.Counting.{weigh_in, weigh_items, Counts}
 use Rattle.gl_live.proofs.counting.+counting.Given as goal
 

@@ -1,7 +1,7 @@
 use Rattle.std.proofs.Common.{[], ap, ◌∙◌}
 use Rattle.std.specs.Prelude.{min}
 use Rattle.gl_machine.specs.Code.{live_of}
-use Rattle.gl_append.specs.CodeView.{seen_code}
+use Rattle.gl_code.specs.CodeView.{seen_code}
 use Rattle.gl_live.specs.Most.{most}
 use Rattle.gl_live.proofs.Stands.{nodes_weigh, instances_weigh}
 use Rattle.gl_live.proofs.counting.count.Goals as goal

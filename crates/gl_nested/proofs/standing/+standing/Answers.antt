@@ -2,9 +2,9 @@ use Rattle.std.proofs.Common.{map, rules, sym, subst}
 use Rattle.gl_nodes.specs.Flat.{stamp_of}
 use Rattle.gl_machine.specs.Code.{lives_of, items_of}
 use Rattle.gl_machine.specs.Shape.{nest_in, nest_items, nest_comment, joined}
-use Rattle.gl_append.specs.CodeView.{seen_codes, seen_item_code, all_items}
-use Rattle.gl_append.specs.declared.code.Code.TheVariants.{Element, Branch, Listed, Unlisted, Let, Component, Root, Yield}
-use Rattle.gl_append.proofs.CodeNests.{element_nest, branch_nest, listed_nest, unlisted_nest, let_nest, component_nest, root_nest, yield_nest, item_nest}
+use Rattle.gl_code.specs.CodeView.{seen_codes, seen_item_code, all_items}
+use Rattle.gl_code.specs.declared.code.Code.TheVariants.{Element, Branch, Listed, Unlisted, Let, Component, Root, Yield}
+use Rattle.gl_code.proofs.CodeNests.{element_nest, branch_nest, listed_nest, unlisted_nest, let_nest, component_nest, root_nest, yield_nest, item_nest}
 use Rattle.gl_nested.specs.Places.{IsIn, Between}
 use Rattle.gl_nested.proofs.Parts.{below_there, child_in, sibling_in}
 use Rattle.gl_nested.proofs.Betweens.{between_node, between_some}

@@ -3,7 +3,7 @@ use Rattle.gl_arena.specs.Id.{Id}
 use Rattle.gl_machine.specs.Code.{lives_of, items_of}
 use Rattle.gl_machine.specs.Shape.{nest_in, nest_items}
 use Rattle.gl_vm.specs.View.{Tables}
-use Rattle.gl_append.specs.CodeView.{seen_code, seen_item_code, all_codes, all_items}
+use Rattle.gl_code.specs.CodeView.{seen_code, seen_item_code, all_codes, all_items}
 use Rattle.gl_nested.specs.Places.{IsIn, Between}
 use Rattle.gl_nested.proofs.standing.+standing.Given as goal
 

@@ -1,7 +1,7 @@
 use Rattle.std.proofs.Common.{sym, subst}
 use Rattle.gl_machine.specs.Code.{live_of}
 use Rattle.gl_machine.specs.Shape.{nest}
-use Rattle.gl_append.specs.CodeView.{seen_code}
+use Rattle.gl_code.specs.CodeView.{seen_code}
 use Rattle.gl_nested.specs.Places.{IsIn, Between}
 use Rattle.gl_nested.proofs.Parts.{root_in}
 use Rattle.gl_nested.proofs.Betweens.{between_whole}

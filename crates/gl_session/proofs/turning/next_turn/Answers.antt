@@ -3,7 +3,7 @@ use Rattle.std.specs.Prelude.{Some}
 use Rattle.gl_meaning.specs.View.{event_view, manifest_view}
 use Rattle.gl_plain.specs.Turns.{begin}
 use Rattle.gl_vm.specs.Steps.{empty}
-use Rattle.gl_append.proofs.Taking.{does_then}
+use Rattle.gl_code.proofs.Doing.{does_then}
 use Rattle.gl_fires.specs.Worlds.{world_of}
 use Rattle.gl_fires.proofs.Standing.{has_world}
 use Rattle.gl_fires.proofs.Heard.{hears}

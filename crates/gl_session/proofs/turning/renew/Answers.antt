@@ -2,8 +2,8 @@ use Rattle.std.proofs.Common.{subst}
 use Rattle.gl_plain.specs.Naming.{by_number}
 use Rattle.gl_machine.specs.Code.{Code as PlainCode}
 use Rattle.gl_guards.specs.Along.{along_root_code_as}
-use Rattle.gl_append.specs.CodeView.{seen_code}
-use Rattle.gl_append.specs.Renewing.{Renews, RenewFails}
+use Rattle.gl_code.specs.CodeView.{seen_code}
+use Rattle.gl_code.specs.Renewing.{Renews, RenewFails}
 use Rattle.gl_session.proofs.turning.renew.Goals as goal
 
 pub returns-in-Ok-clause-ok : goal.returns-in-Ok-clause-ok

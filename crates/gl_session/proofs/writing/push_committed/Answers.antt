@@ -1,6 +1,6 @@
 use Rattle.std.proofs.Common.{◌≡◌, ◌++◌, OnOk, subst, codes, ap, ap₂, flat_map}
 use Rattle.gl_meaning.specs.View.{manifest_view}
-use Rattle.gl_append.specs.Tables.{tables_of}
+use Rattle.gl_code.specs.Tables.{tables_of}
 use Rattle.gl_session.proofs.Values.{told_same}
 use Rattle.gl_session.proofs.writing.push_committed.Goals as goal
 

@@ -1,7 +1,7 @@
 use Rattle.std.proofs.Common.{◌≡◌, ◌++◌, OnOk, subst, codes, ap, ◌∙◌}
 use Rattle.gl_meaning.specs.View.{manifest_view}
 use Rattle.gl_mods.specs.View.{seen_installed}
-use Rattle.gl_append.specs.Tables.{tables_of}
+use Rattle.gl_code.specs.Tables.{tables_of}
 use Rattle.gl_session.proofs.Values.{told_line_is}
 use Rattle.gl_session.proofs.writing.push_update.Goals as goal
 

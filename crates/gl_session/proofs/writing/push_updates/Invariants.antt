@@ -1,6 +1,6 @@
 use Rattle.std.specs.Prelude.{◌≡◌, ◌++◌, codes, take, flat_map}
 use Rattle.gl_meaning.specs.View.{manifest_view}
-use Rattle.gl_append.specs.Tables.{tables_of}
+use Rattle.gl_code.specs.Tables.{tables_of}
 use Rattle.gl_session.specs.Writing.{told_id}
 use Rattle.gl_session.proofs.writing.push_updates.Given as goal
 

@@ -3,8 +3,8 @@ use Rattle.std.specs.Prelude.{if◌then◌else◌}
 use Rattle.gl_meaning.specs.View.{path_view}
 use Rattle.gl_nodes.specs.Flat.{stamp_of}
 use Rattle.gl_machine.specs.RenewCode.{start}
-use Rattle.gl_append.specs.View.{seen_sight}
-use Rattle.gl_append.specs.CodeView.{seen_choice, seen_codes}
+use Rattle.gl_code.specs.View.{seen_sight}
+use Rattle.gl_code.specs.CodeView.{seen_choice, seen_codes}
 use Rattle.gl_update.specs.View.{trail_view}
 use Rattle.gl_update.proofs.Branching.{fresh_renews, fresh_fails}
 use Rattle.gl_update.proofs.branches.flip.Goals as goal

@@ -2,15 +2,15 @@ use Rattle.std.proofs.Common.{◌≡◌, ap}
 use Rattle.std.proofs.lemmas.Result.{IfOk-weaker, IfErr-weaker}
 use Rattle.gl_machine.specs.RenewCode.{start}
 use Rattle.gl_meaning.specs.View.{path_view}
-use Rattle.gl_append.specs.CodeView.{seen_item_code, seen_item_spot, seen_listing}
-use Rattle.gl_append.specs.MachineView.{seen_entry}
+use Rattle.gl_code.specs.CodeView.{seen_item_code, seen_item_spot, seen_listing}
+use Rattle.gl_code.specs.Entries.{seen_entry}
 use Rattle.gl_ast.specs.ExprCode.{owned}
 use Rattle.gl_each.specs.Key.{entry_key}
 use Rattle.gl_plain.specs.Live.{ItemSpot as PlainItemSpot}
 use Rattle.gl_vm.specs.View.{Tables}
-use Rattle.gl_append.specs.View.{seen_sight}
+use Rattle.gl_code.specs.View.{seen_sight}
 use Rattle.gl_update.specs.ListItems.{Item, spot_key, BodyItem, FreshItem}
-use Rattle.gl_append.specs.Renewing.{Renews, RenewFails}
+use Rattle.gl_code.specs.Renewing.{Renews, RenewFails}
 use Rattle.gl_update.proofs.FreshItems.{fresh_renews, fresh_fails}
 use Rattle.gl_update.proofs.items.fresh_item.Goals as goal
 

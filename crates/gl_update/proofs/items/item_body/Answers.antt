@@ -1,8 +1,8 @@
 use Rattle.std.proofs.Common.{ap}
 use Rattle.gl_meaning.specs.View.{path_view}
 use Rattle.gl_machine.specs.RenewCode.{start}
-use Rattle.gl_append.specs.View.{seen_sight}
-use Rattle.gl_append.specs.CodeView.{seen_item_spot, seen_codes, seen_item_code}
+use Rattle.gl_code.specs.View.{seen_sight}
+use Rattle.gl_code.specs.CodeView.{seen_item_spot, seen_codes, seen_item_code}
 use Rattle.gl_update.specs.ListItems.{Item}
 use Rattle.gl_update.proofs.FreshItems.{body_renews, body_fails}
 use Rattle.gl_update.proofs.items.item_body.Goals as goal

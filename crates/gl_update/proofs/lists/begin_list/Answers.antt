@@ -2,13 +2,13 @@ use Rattle.std.proofs.Common.{◌+◌, subst, sym}
 use Rattle.gl_nodes.specs.Flat.{stamp_of}
 use Rattle.gl_plain.specs.Live.{times_in, times_comment}
 use Rattle.gl_machine.specs.Code.{Code as PlainCode, lives_of, live_of}
-use Rattle.gl_append.specs.CodeView.{seen_code, seen_codes, seen_listing, seen_spot}
-use Rattle.gl_append.specs.MachineView.{seen_left}
-use Rattle.gl_append.specs.declared.code.Code.{Code}
+use Rattle.gl_code.specs.CodeView.{seen_code, seen_codes, seen_listing, seen_spot}
+use Rattle.gl_code.specs.Entries.{seen_left}
+use Rattle.gl_code.specs.declared.code.Code.{Code}
 use Rattle.gl_update.specs.Counted.{IsListed}
 use Rattle.gl_update.specs.View.{trail_view}
 use Rattle.gl_update.specs.ListItems.{ListsFresh}
-use Rattle.gl_append.specs.Renewing.{Renews, RenewFails}
+use Rattle.gl_code.specs.Renewing.{Renews, RenewFails}
 use Rattle.gl_update.specs.declared.taken.Ready.{Ready}
 use Rattle.gl_update.specs.declared.taken.Unlisted.{Unlisted}
 use Rattle.gl_update.proofs.lists.begin_list.Goals as goal

@@ -1,12 +1,12 @@
 use Rattle.std.proofs.Common.{map, subst, sym}
 use Rattle.gl_plain.specs.Live.{times_items}
 use Rattle.gl_machine.specs.Code.{Code as PlainCode, live_of, items_of as lives_in}
-use Rattle.gl_append.specs.CodeView.{seen_code, seen_item_code, seen_listing, seen_spot, all_items}
-use Rattle.gl_append.specs.declared.code.Code.{Code}
+use Rattle.gl_code.specs.CodeView.{seen_code, seen_item_code, seen_listing, seen_spot, all_items}
+use Rattle.gl_code.specs.declared.code.Code.{Code}
 use Rattle.gl_update.specs.Counted.{IsUnlisted}
 use Rattle.gl_update.specs.View.{trail_view}
 use Rattle.gl_update.specs.ListItems.{ListsNone}
-use Rattle.gl_append.specs.Renewing.{Renews, RenewFails}
+use Rattle.gl_code.specs.Renewing.{Renews, RenewFails}
 use Rattle.gl_update.specs.declared.taken.Listed.{Listed}
 use Rattle.gl_update.proofs.lists.end_list.Goals as goal
 

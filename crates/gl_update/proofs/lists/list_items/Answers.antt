@@ -4,10 +4,10 @@ use Rattle.gl_plain.specs.Ids.{Id}
 use Rattle.gl_plain.specs.Live.{times_in, times_comment}
 use Rattle.gl_machine.specs.Code.{Listing, ItemCodes, listed_code, lives_of}
 use Rattle.gl_vm.specs.View.{Tables}
-use Rattle.gl_append.specs.CodeView.{seen_code, seen_codes, seen_listing, seen_spot, seen_item_code, all_items}
-use Rattle.gl_append.specs.MachineView.{seen_left}
+use Rattle.gl_code.specs.CodeView.{seen_code, seen_codes, seen_listing, seen_spot, seen_item_code, all_items}
+use Rattle.gl_code.specs.Entries.{seen_left}
 use Rattle.gl_update.specs.ListItems.{FreshItems, ListsFresh}
-use Rattle.gl_append.specs.Renewing.{Renews, RenewFails}
+use Rattle.gl_code.specs.Renewing.{Renews, RenewFails}
 use Rattle.gl_update.specs.View.{trail_view}
 use Rattle.gl_update.proofs.MovedCodes.{is_listed}
 use Rattle.gl_update.proofs.ListUpdates.{lists_fresh, lists_fresh_fails}

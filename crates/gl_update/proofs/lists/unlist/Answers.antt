@@ -7,9 +7,9 @@ use Rattle.gl_plain.specs.Naming.{by_number, dropped_as}
 use Rattle.gl_machine.specs.Code.{Listing, Codes, unlisted_code, items_of}
 use Rattle.gl_machine.specs.RenewCode.{Start, start}
 use Rattle.gl_vm.specs.Steps.{Does}
-use Rattle.gl_append.specs.View.{seen_sight}
+use Rattle.gl_code.specs.View.{seen_sight}
 use Rattle.gl_vm.specs.View.{Tables}
-use Rattle.gl_append.specs.CodeView.{seen_code, seen_codes, seen_listing, seen_spot, seen_item_code, all_items}
+use Rattle.gl_code.specs.CodeView.{seen_code, seen_codes, seen_listing, seen_spot, seen_item_code, all_items}
 use Rattle.gl_update.specs.ListItems.{ListsNone}
 use Rattle.gl_update.specs.View.{trail_view}
 use Rattle.gl_update.proofs.MovedCodes.{is_unlisted}

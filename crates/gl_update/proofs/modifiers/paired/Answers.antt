@@ -4,7 +4,7 @@ use Rattle.gl_plain.specs.State.{pair_of}
 use Rattle.gl_plain.specs.Tags.{named_with}
 use Rattle.gl_vm.specs.Labels.{labelled, names_labelled}
 use Rattle.gl_vm.specs.View.{state_of}
-use Rattle.gl_append.proofs.ListLaws.{listed_on}
+use Rattle.gl_code.proofs.ListLaws.{listed_on}
 use Rattle.gl_update.proofs.Arguments.{given, pair_next, names_end, ids_end}
 use Rattle.gl_update.proofs.modifiers.paired.Goals as goal
 

@@ -1,7 +1,7 @@
 use Rattle.std.proofs.Common.{◌∙◌}
 use Rattle.std.proofs.lemmas.Result.{on_ok_weaker}
 use Rattle.gl_vm.specs.Labels.{all_labelled, names_labelled}
-use Rattle.gl_append.specs.CodeView.{seen_mod_spot}
+use Rattle.gl_code.specs.CodeView.{seen_mod_spot}
 use Rattle.gl_update.proofs.Spots.{mod_idle, mod_renewed}
 use Rattle.gl_update.proofs.modifiers.renew_mod.Goals as goal
 

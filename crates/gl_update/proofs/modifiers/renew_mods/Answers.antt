@@ -1,6 +1,6 @@
 use Rattle.std.proofs.Common.{refl}
 use Rattle.gl_plain.specs.Renew.{renew_mods}
-use Rattle.gl_append.specs.CodeView.{seen_mod_spot}
+use Rattle.gl_code.specs.CodeView.{seen_mod_spot}
 use Rattle.gl_update.proofs.Spots.{left_next, left_end}
 use Rattle.gl_update.proofs.modifiers.renew_mods.Goals as goal
 

@@ -1,7 +1,7 @@
 use Rattle.std.proofs.Common.{refl}
 use Rattle.gl_plain.specs.Renew.{renew_mods}
 use Rattle.gl_vm.specs.View.{Calm}
-use Rattle.gl_append.specs.CodeView.{seen_mod_spot}
+use Rattle.gl_code.specs.CodeView.{seen_mod_spot}
 use Rattle.gl_update.proofs.Spots.{Left}
 use Rattle.gl_update.proofs.modifiers.renew_mods.Given as goal
 

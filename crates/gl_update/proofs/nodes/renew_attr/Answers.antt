@@ -1,6 +1,6 @@
 use Rattle.std.proofs.Common.{◌∙◌}
 use Rattle.std.proofs.lemmas.Result.{on_ok_weaker}
-use Rattle.gl_append.specs.CodeView.{seen_attr_spot}
+use Rattle.gl_code.specs.CodeView.{seen_attr_spot}
 use Rattle.gl_update.proofs.Spots.{attr_idle, attr_renewed}
 use Rattle.gl_update.proofs.nodes.renew_attr.Goals as goal
 

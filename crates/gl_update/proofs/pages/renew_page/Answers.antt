@@ -3,14 +3,14 @@ use Rattle.gl_meaning.specs.declared.manifest.Manifest.{Manifest}
 use Rattle.gl_plain.specs.Naming.{by_number}
 use Rattle.gl_machine.specs.Code.{Code as PlainCode, Codes as PlainCodes}
 use Rattle.gl_guards.specs.Along.{along_body_as}
-use Rattle.gl_append.specs.CodeView.{seen_code, seen_codes, component_seen}
-use Rattle.gl_append.specs.declared.code.Code.{the_lemmas}
-use Rattle.gl_append.specs.declared.code.Codes.{Codes}
+use Rattle.gl_code.specs.CodeView.{seen_code, seen_codes, component_seen}
+use Rattle.gl_code.specs.declared.code.Code.{the_lemmas}
+use Rattle.gl_code.specs.declared.code.Codes.{Codes}
 use Rattle.gl_vm.specs.View.{Tables}
-use Rattle.gl_append.specs.View.{refs_made, seen_owner}
+use Rattle.gl_code.specs.View.{refs_made, seen_owner}
 use Rattle.gl_update.specs.Counted.{CodesMoved}
 use Rattle.gl_update.specs.View.{trail_view}
-use Rattle.gl_append.specs.Renewing.{Renews, RenewFails}
+use Rattle.gl_code.specs.Renewing.{Renews, RenewFails}
 use Rattle.gl_update.proofs.Arms.{root_is, page_renews, page_fails}
 use Rattle.gl_update.proofs.MovedCodes.{page_moved}
 use Rattle.gl_update.proofs.pages.renew_page.Goals as goal

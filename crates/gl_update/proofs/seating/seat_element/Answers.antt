@@ -4,8 +4,8 @@ use Rattle.gl_nodes.specs.Flat.{stamp_of}
 use Rattle.gl_machine.specs.Code.{lives_of}
 use Rattle.gl_machine.specs.Shape.{nest_in}
 use Rattle.gl_vm.specs.View.{Tables}
-use Rattle.gl_append.specs.CodeView.{seen_codes}
-use Rattle.gl_append.specs.Hung.{Hangs}
+use Rattle.gl_code.specs.CodeView.{seen_codes}
+use Rattle.gl_code.specs.Hung.{Hangs}
 use Rattle.gl_update.proofs.seating.seat_element.Goals as goal
 
 pub returns : goal.returns

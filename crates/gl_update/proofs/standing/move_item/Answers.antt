@@ -1,7 +1,7 @@
 use Rattle.std.proofs.Common.{◌≡◌, refl}
 use Rattle.std.proofs.lemmas.Result.{on_ok_weaker}
 use Rattle.gl_vm.specs.declared.vm.Vm.{Vm}
-use Rattle.gl_append.proofs.Calming.{tree_calm}
+use Rattle.gl_code.proofs.Calming.{tree_calm}
 use Rattle.gl_update.proofs.Still.{tree_does}
 use Rattle.gl_update.proofs.standing.move_item.Goals as goal
 

@@ -4,8 +4,8 @@ use Rattle.gl_plain.specs.Live.{times_items}
 use Rattle.gl_plain.specs.Naming.{by_number, dropped_as}
 use Rattle.gl_machine.specs.Code.{items_of}
 use Rattle.gl_vm.specs.Steps.{Does}
-use Rattle.gl_append.specs.CodeView.{seen_item_code, all_items}
-use Rattle.gl_append.specs.declared.code.ItemCode.{ItemCode}
+use Rattle.gl_code.specs.CodeView.{seen_item_code, all_items}
+use Rattle.gl_code.specs.declared.code.ItemCode.{ItemCode}
 use Rattle.gl_update.proofs.staying.end_none.Goals as goal
 
 pub returns-clause-step : goal.returns-clause-step

@@ -5,7 +5,7 @@ use Rattle.gl_value.specs.View.{view}
 use Rattle.gl_plain.specs.Renew as r
 use Rattle.gl_vm.specs.Labels.{label, labelled}
 use Rattle.gl_vm.specs.Steps.{Does}
-use Rattle.gl_append.proofs.Taking.{does_then}
+use Rattle.gl_code.proofs.Doing.{does_then}
 use Rattle.gl_update.proofs.staying.give_at.Goals as goal
 
 same_some : (x y : Value ℕ) → Some x ≡ Some y → x ≡ y

@@ -3,8 +3,8 @@ use Rattle.gl_value.specs.View.{view}
 use Rattle.gl_plain.specs.Renew.{give}
 use Rattle.gl_vm.specs.Labels.{label, labelled}
 use Rattle.gl_vm.specs.Steps.{Does}
-use Rattle.gl_append.specs.declared.code.ItemCode.{ItemCode}
-use Rattle.gl_append.specs.declared.machine.Entry.{Entry}
+use Rattle.gl_code.specs.declared.code.ItemCode.{ItemCode}
+use Rattle.gl_code.specs.declared.entries.Entry.{Entry}
 use Rattle.gl_update.proofs.SyncItems.{given_item, item_given}
 use Rattle.gl_update.proofs.syncing.begin_item.Goals as goal
 

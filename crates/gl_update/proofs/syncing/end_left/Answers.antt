@@ -4,12 +4,12 @@ use Rattle.gl_plain.specs.Live.{times_items}
 use Rattle.gl_plain.specs.Naming.{by_number, dropped_as}
 use Rattle.gl_machine.specs.Code.{items_of}
 use Rattle.gl_vm.specs.Steps.{Does}
-use Rattle.gl_append.specs.CodeView.{seen_item_code, all_items}
+use Rattle.gl_code.specs.CodeView.{seen_item_code, all_items}
 use Rattle.gl_update.specs.ListItems.{there}
 use Rattle.std.specs.Prelude.{Option}
 use Rattle.std.specs.declared.vec.Vec.{Vec}
 use Rattle.std.specs.declared.alloc.Global.{Global}
-use Rattle.gl_append.specs.declared.code.ItemCode.{ItemCode}
+use Rattle.gl_code.specs.declared.code.ItemCode.{ItemCode}
 use Rattle.gl_update.proofs.OldKeys.{there_is}
 use Rattle.gl_update.proofs.syncing.end_left.Goals as goal
 

@@ -4,12 +4,12 @@ use Rattle.gl_value.specs.View.{view}
 use Rattle.gl_meaning.specs.Path.{item, Path}
 use Rattle.gl_meaning.specs.View.{path_view}
 use Rattle.gl_each.specs.Key.{entry_key}
-use Rattle.gl_append.specs.CodeView.{seen_item_code, seen_listing}
-use Rattle.gl_append.specs.MachineView.{seen_entry}
-use Rattle.gl_append.specs.declared.code.ItemCode.{ItemCode}
-use Rattle.gl_append.specs.declared.machine.Entry.{Entry}
+use Rattle.gl_code.specs.CodeView.{seen_item_code, seen_listing}
+use Rattle.gl_code.specs.Entries.{seen_entry}
+use Rattle.gl_code.specs.declared.code.ItemCode.{ItemCode}
+use Rattle.gl_code.specs.declared.entries.Entry.{Entry}
 use Rattle.gl_update.specs.ListItems.{Item, spot_key, FreshItem}
-use Rattle.gl_append.specs.Renewing.{Renews, RenewFails}
+use Rattle.gl_code.specs.Renewing.{Renews, RenewFails}
 use Rattle.gl_update.proofs.syncing.new_item.Goals as goal
 
 pub returns-in_ok-boxed-in-Ok-clause-ok : goal.returns-in_ok-boxed-in-Ok-clause-ok

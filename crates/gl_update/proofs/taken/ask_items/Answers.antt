@@ -3,7 +3,7 @@ use Rattle.gl_plain.specs.Counts.{positions_items}
 use Rattle.gl_machine.specs.Code.{items_of}
 use Rattle.gl_guards.specs.Along.{enters_few}
 use Rattle.gl_vm.specs.View.{state_of}
-use Rattle.gl_append.specs.CodeView.{seen_item_code, all_items}
+use Rattle.gl_code.specs.CodeView.{seen_item_code, all_items}
 use Rattle.gl_update.specs.declared.taken.Listed.{Listed}
 use Rattle.gl_update.proofs.taken.ask_items.Goals as goal
 

@@ -5,7 +5,7 @@ use Rattle.gl_meaning.specs.Scope.{Source}
 use Rattle.gl_plain.specs.Binding.{first_value}
 use Rattle.gl_plain.specs.Renew.{spot_pairs}
 use Rattle.gl_vm.specs.View.{Tables, state_of}
-use Rattle.gl_append.specs.MachineView.{seen_left}
+use Rattle.gl_code.specs.Entries.{seen_left}
 use Rattle.gl_update.proofs.taken.read_list.Goals as goal
 
 pub returns-clause-entries : goal.returns-clause-entries

@@ -2,11 +2,11 @@ use Rattle.std.proofs.Common.{◌≡◌, ℕ, suc, ◌∙◌, ap}
 use Rattle.std.proofs.lemmas.Result.{on_ok_weaker}
 use Rattle.gl_meaning.specs.View.{path_view}
 use Rattle.gl_vm.specs.View.{name_stamps}
-use Rattle.gl_append.specs.View.{refs_made, seen_owner, seen_sight}
+use Rattle.gl_code.specs.View.{refs_made, seen_owner, seen_sight}
 use Rattle.gl_append.specs.MachineView.{seen_making}
 use Rattle.gl_append.specs.Steps.{Changes}
 use Rattle.gl_append.specs.Components.{program_entered, component_entered}
-use Rattle.gl_append.specs.declared.sight.Sight.{Sight}
+use Rattle.gl_code.specs.declared.sight.Sight.{Sight}
 use Rattle.gl_append.proofs.ComponentBegins.{tag_taken}
 use Rattle.gl_append.proofs.machine.Machine.begin_component.Goals as goal
 

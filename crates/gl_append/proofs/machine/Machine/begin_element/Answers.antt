@@ -3,10 +3,10 @@ use Rattle.std.proofs.lemmas.Result.{on_ok_weaker}
 use Rattle.gl_plain.specs.State.{element_content}
 use Rattle.gl_plain.specs.Grow.{made_node}
 use Rattle.gl_vm.specs.Steps.{Does}
-use Rattle.gl_append.specs.CodeView.{seen_attr_spot}
+use Rattle.gl_code.specs.CodeView.{seen_attr_spot}
 use Rattle.gl_append.specs.MachineView.{seen_making}
 use Rattle.gl_append.specs.declared.machine.Making.{Making}
-use Rattle.gl_append.proofs.Calming.{tree_calm}
+use Rattle.gl_code.proofs.Calming.{tree_calm}
 use Rattle.gl_append.proofs.ElementSteps.{element_made}
 use Rattle.gl_append.proofs.machine.Machine.begin_element.Goals as goal
 

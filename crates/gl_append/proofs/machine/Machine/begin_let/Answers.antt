@@ -2,7 +2,7 @@ use Rattle.std.proofs.Common.{◌∙◌, subst}
 use Rattle.std.proofs.lemmas.Result.{on_ok_weaker}
 use Rattle.gl_meaning.specs.View.{path_view}
 use Rattle.gl_vm.specs.View.{stamps}
-use Rattle.gl_append.specs.View.{seen_sight}
+use Rattle.gl_code.specs.View.{seen_sight}
 use Rattle.gl_append.specs.Steps.{Changes, let_entered}
 use Rattle.gl_append.proofs.LetBegins.{entered_after}
 use Rattle.gl_append.proofs.machine.Machine.begin_let.Goals as goal

@@ -8,7 +8,7 @@ use Rattle.gl_machine.specs.Sight.{inst_in}
 use Rattle.gl_machine.specs.Step as s
 use Rattle.gl_vm.specs.Labels.{labelled}
 use Rattle.gl_append.specs.Steps.{Takes}
-use Rattle.gl_append.specs.declared.sight.Owner.{Owner}
+use Rattle.gl_code.specs.declared.sight.Owner.{Owner}
 use Rattle.gl_append.proofs.machine.Machine.do_action.Goals as goal
 
 pub returns-clause-step : goal.returns-clause-step

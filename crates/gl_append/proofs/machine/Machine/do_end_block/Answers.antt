@@ -1,7 +1,7 @@
 use Rattle.std.proofs.Common.{◌∙◌, ap, drop}
 use Rattle.std.proofs.lemmas.Result.{on_ok_weaker}
 use Rattle.gl_machine.specs.RenewCode.{refs_in}
-use Rattle.gl_append.specs.View.{seen_locals}
+use Rattle.gl_code.specs.View.{seen_locals}
 use Rattle.gl_append.proofs.BlockEnds.{block_ended}
 use Rattle.gl_append.proofs.machine.Machine.do_end_block.Goals as goal
 

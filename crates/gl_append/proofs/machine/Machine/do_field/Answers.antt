@@ -1,5 +1,5 @@
 use Rattle.std.proofs.Common.{◌≡◌, length, slice_get, ap, sym, ◌∙◌, arith}
-use Rattle.gl_append.specs.declared.sight.Owner.{Owner}
+use Rattle.gl_code.specs.declared.sight.Owner.{Owner}
 use Rattle.std.proofs.lemmas.Result.{on_ok_weaker}
 use Rattle.gl_machine.specs.Env.{Env}
 use Rattle.gl_meaning.specs.Eval.{Store}

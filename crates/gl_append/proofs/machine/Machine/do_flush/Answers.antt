@@ -1,6 +1,6 @@
 use Rattle.std.proofs.Common.{map}
 use Rattle.std.proofs.lemmas.Result.{on_ok_weaker}
-use Rattle.gl_append.specs.CodeView.{seen_attr_spot}
+use Rattle.gl_code.specs.CodeView.{seen_attr_spot}
 use Rattle.gl_append.proofs.ElementSteps.{flushed}
 use Rattle.gl_append.proofs.machine.Machine.do_flush.Goals as goal
 

@@ -9,8 +9,8 @@ use Rattle.gl_machine.specs.Sight.{Sight}
 use Rattle.gl_vm.specs.Labels.{owner_path}
 use Rattle.gl_vm.specs.View.{stamps}
 use Rattle.gl_vm.specs.Steps.{Does}
-use Rattle.gl_append.proofs.Taking.{placed_in}
-use Rattle.gl_append.proofs.Preparing.{prepared_does, prepared_numbers, prepared_value, still_there}
+use Rattle.gl_parts.proofs.Leading.{placed_in}
+use Rattle.gl_code.proofs.Preparing.{prepared_does, prepared_numbers, prepared_value, still_there}
 use Rattle.gl_refs.specs.Refs.{forms_of}
 use Rattle.gl_append.proofs.BranchBegins.{if_begun}
 use Rattle.gl_append.proofs.machine.Machine.do_if.Goals as goal

@@ -3,10 +3,11 @@ use Rattle.std.proofs.lemmas.Result.{on_ok_weaker}
 use Rattle.gl_meaning.specs.Path.{into}
 use Rattle.gl_meaning.specs.View.{path_view, class_view}
 use Rattle.gl_vm.specs.Labels.{all_labelled}
-use Rattle.gl_append.specs.View.{refs_made, seen_owner}
+use Rattle.gl_code.specs.View.{refs_made, seen_owner}
 use Rattle.gl_append.specs.Steps.{Changes}
-use Rattle.gl_append.specs.Cells.{cells_at, initial_values}
-use Rattle.gl_append.specs.Components.{Lays, Invokes, component_entered}
+use Rattle.gl_code.specs.Cells.{cells_at, initial_values}
+use Rattle.gl_code.specs.Instances.{Lays}
+use Rattle.gl_append.specs.Components.{Invokes, component_entered}
 use Rattle.gl_append.proofs.Invocations.{invoked}
 use Rattle.gl_append.proofs.machine.Machine.do_invoke.Goals as goal
 

@@ -4,7 +4,7 @@ use Rattle.gl_meaning.specs.Path.{main}
 use Rattle.gl_meaning.specs.View.{path_view}
 use Rattle.gl_machine.specs.Step as s
 use Rattle.gl_vm.specs.View.{stamps}
-use Rattle.gl_append.specs.View.{seen_sight}
+use Rattle.gl_code.specs.View.{seen_sight}
 use Rattle.gl_append.specs.MachineView.{seen_stack}
 use Rattle.gl_append.proofs.LetBegins.{let_begun}
 use Rattle.gl_append.proofs.machine.Machine.do_let.Goals as goal

@@ -8,7 +8,7 @@ use Rattle.gl_machine.specs.Step as s
 use Rattle.gl_vm.specs.View.{Tables}
 use Rattle.gl_append.specs.ListSteps.{each_at}
 use Rattle.gl_append.specs.Steps.{PopsFrame}
-use Rattle.gl_append.specs.Tables.{tables_of}
+use Rattle.gl_code.specs.Tables.{tables_of}
 use Rattle.gl_append.specs.declared.step.Next.TheVariants as next
 use Rattle.gl_append.specs.Stepping.{Stepped, DoesOp}
 use Rattle.gl_append.proofs.FrameEnds.{takes_ended, over_ended}

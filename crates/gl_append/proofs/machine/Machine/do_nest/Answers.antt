@@ -5,10 +5,10 @@ use Rattle.gl_machine.specs.Env.{Env}
 use Rattle.gl_machine.specs.Step as s
 use Rattle.gl_append.specs.MachineView.{mach_of}
 use Rattle.gl_append.specs.Steps.{GoesOn}
-use Rattle.gl_append.specs.Cells.{store_of}
-use Rattle.gl_append.specs.Components.{Suits}
-use Rattle.gl_append.specs.Tables.{tables_of}
-use Rattle.gl_append.specs.Stepping.{env_of}
+use Rattle.gl_code.specs.Cells.{store_of}
+use Rattle.gl_code.specs.Instances.{Suits}
+use Rattle.gl_code.specs.Tables.{tables_of}
+use Rattle.gl_code.specs.Tables.{env_of}
 use Rattle.gl_append.proofs.RunSteps.{one_less}
 use Rattle.gl_append.proofs.machine.Machine.do_nest.Goals as goal
 

@@ -7,7 +7,7 @@ use Rattle.gl_machine.specs.Step as s
 use Rattle.gl_vm.specs.View.{Tables}
 use Rattle.gl_ops.specs.declared.op.Op.TheVariants as op
 use Rattle.gl_meaning.specs.View.{manifest_view}
-use Rattle.gl_append.specs.Tables.{tables_of}
+use Rattle.gl_code.specs.Tables.{tables_of}
 use Rattle.gl_append.proofs.OpSteps.{does, text_does, after_top}
 use Rattle.gl_append.proofs.Taking.{moved}
 use Rattle.gl_append.proofs.machine.Machine.do_op.Goals as goal

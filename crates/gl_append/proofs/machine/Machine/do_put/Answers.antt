@@ -7,12 +7,13 @@ use Rattle.gl_plain.specs.State.{text_content}
 use Rattle.gl_plain.specs.Grow.{made_node}
 use Rattle.gl_plain.specs.Ids.{ref}
 use Rattle.gl_machine.specs.Code.{put_code}
-use Rattle.gl_append.specs.View.{refs_made}
+use Rattle.gl_code.specs.View.{refs_made}
 use Rattle.gl_vm.specs.Labels.{owner_path}
 use Rattle.gl_vm.specs.View.{Calm, stamps}
 use Rattle.gl_vm.specs.Steps.{Does}
-use Rattle.gl_append.proofs.Taking.{put_shown, placed_in}
-use Rattle.gl_append.proofs.Preparing.{prepared_does, prepared_numbers, prepared_value, still_there}
+use Rattle.gl_append.proofs.Taking.{put_shown}
+use Rattle.gl_parts.proofs.Leading.{placed_in}
+use Rattle.gl_code.proofs.Preparing.{prepared_does, prepared_numbers, prepared_value, still_there}
 use Rattle.gl_refs.specs.Refs.{forms_of}
 use Rattle.gl_append.proofs.machine.Machine.do_put.Goals as goal
 

@@ -4,10 +4,10 @@ use Rattle.gl_base.specs.Texts.{Text}
 use Rattle.gl_machine.specs.Sight.{passing, passing_in}
 use Rattle.gl_machine.specs.Step as s
 use Rattle.gl_vm.specs.View.{Tables}
-use Rattle.gl_append.specs.View.{seen_links, seen_level, seen_slots, shared}
+use Rattle.gl_code.specs.View.{seen_links, seen_level, seen_slots, shared}
 use Rattle.gl_append.specs.MachineView.{mach_by}
 use Rattle.gl_append.specs.Steps.{Moves}
-use Rattle.gl_append.specs.declared.sight.Link.{Link}
+use Rattle.gl_code.specs.declared.sight.Link.{Link}
 use Rattle.gl_append.proofs.machine.Machine.do_spread.Goals as goal
 
 pub returns-in_ok-chain-in-Some : goal.returns-in_ok-chain-in-Some

@@ -8,7 +8,7 @@ use Rattle.gl_ops.specs.declared.op.Op.TheVariants as op
 use Rattle.gl_append.specs.MachineView.{mach_by}
 use Rattle.gl_machine.specs.Mach.{Mach, Run}
 use Rattle.gl_meaning.specs.View.{manifest_view}
-use Rattle.gl_append.specs.Tables.{tables_of}
+use Rattle.gl_code.specs.Tables.{tables_of}
 use Rattle.gl_append.proofs.OpSteps.{does, text_does, name_does, both_do, given_by, top_moves}
 use Rattle.gl_append.proofs.Taking.{moved}
 use Rattle.gl_append.proofs.machine.Machine.do_tag_op.Goals as goal

@@ -2,8 +2,8 @@ use Rattle.std.proofs.Common.{◌∙◌, ap}
 use Rattle.std.proofs.lemmas.Result.{on_ok_weaker}
 use Rattle.gl_machine.specs.Sight.{passing_in}
 use Rattle.gl_machine.specs.Step as s
-use Rattle.gl_append.specs.View.{seen_sight}
-use Rattle.gl_append.specs.Blocks.{block_of}
+use Rattle.gl_code.specs.View.{seen_sight}
+use Rattle.gl_code.specs.Written.{block_of}
 use Rattle.gl_append.specs.MachineView.{seen_stack}
 use Rattle.gl_append.proofs.Yields.{nothing_yielded, block_yielded}
 use Rattle.gl_append.proofs.machine.Machine.do_yield.Goals as goal

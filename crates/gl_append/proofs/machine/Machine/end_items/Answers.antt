@@ -1,7 +1,8 @@
 use Rattle.std.proofs.Common.{◌≡◌, ◌∙◌, sym, rules, length}
 use Rattle.std.specs.Vec.{vec_len}
 use Rattle.std.proofs.lemmas.Result.{on_ok_weaker}
-use Rattle.gl_append.proofs.ListEnds.{none_counted, list_ended}
+use Rattle.gl_code.proofs.EntryCounts.{none_counted}
+use Rattle.gl_append.proofs.ListEnds.{list_ended}
 use Rattle.gl_append.proofs.machine.Machine.end_items.Goals as goal
 
 pub returns : goal.returns

@@ -5,8 +5,8 @@ use Rattle.gl_machine.specs.RenewCode.{refs_in}
 use Rattle.gl_machine.specs.Mach.{going}
 use Rattle.gl_machine.specs.Step as s
 use Rattle.gl_vm.specs.View.{Tables}
-use Rattle.gl_append.specs.View.{seen_locals}
-use Rattle.gl_append.specs.CodeView.{seen_code}
+use Rattle.gl_code.specs.View.{seen_locals}
+use Rattle.gl_code.specs.CodeView.{seen_code}
 use Rattle.gl_append.specs.MachineView.{seen_here, seen_kind, mach_by}
 use Rattle.gl_append.specs.Steps.{Moves}
 use Rattle.gl_append.proofs.LetEnds.{let_ended}

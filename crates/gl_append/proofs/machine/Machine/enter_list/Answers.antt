@@ -1,7 +1,8 @@
 use Rattle.std.proofs.Common.{◌≡◌, ◌∙◌, sym, rules, length}
 use Rattle.std.specs.Vec.{vec_len}
 use Rattle.std.proofs.lemmas.Result.{on_ok_weaker}
-use Rattle.gl_append.proofs.ListEnds.{none_counted, some_counted, list_waits, list_other}
+use Rattle.gl_code.proofs.EntryCounts.{none_counted, some_counted}
+use Rattle.gl_append.proofs.ListEnds.{list_waits, list_other}
 use Rattle.gl_append.proofs.machine.Machine.enter_list.Goals as goal
 
 pub returns-then-is_empty : goal.returns-then-is_empty

@@ -1,8 +1,8 @@
 use Rattle.std.proofs.Common.{suc, ◌∙◌, ap}
 use Rattle.std.proofs.lemmas.Result.{on_ok_weaker}
 use Rattle.gl_machine.specs.Step as s
-use Rattle.gl_append.specs.View.{seen_sight}
-use Rattle.gl_append.specs.MachineView.{seen_left}
+use Rattle.gl_code.specs.View.{seen_sight}
+use Rattle.gl_code.specs.Entries.{seen_left}
 use Rattle.gl_append.proofs.ItemSteps.{one_done}
 use Rattle.gl_append.proofs.machine.Machine.item_done.Goals as goal
 

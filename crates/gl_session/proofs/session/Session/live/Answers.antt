@@ -1,7 +1,7 @@
 use Rattle.std.proofs.Common.{ap, ◌∙◌}
 use Rattle.std.specs.Prelude.{min}
 use Rattle.gl_meaning.specs.View.{manifest_view}
-use Rattle.gl_append.specs.Tables.{tables_of}
+use Rattle.gl_code.specs.Tables.{tables_of}
 use Rattle.gl_live.specs.Most.{most}
 use Rattle.gl_session.proofs.Alive.{nodes_are, instances_are}
 use Rattle.gl_session.proofs.session.Session.live.Goals as goal

@@ -1,7 +1,0 @@
-use Rattle.std.proofs.Common.{◌≡◌, drop}
-use Rattle.gl_meaning.specs.Parts.{spaced}
-use Rattle.gl_append.specs.TagSteps.{words_of, spaced_after}
-use Rattle.gl_append.proofs.attributes.joined.Given as goal
-
-abbrev pub invariant-loop-text : goal.invariant-loop-text
-invariant-loop-text l = spaced_after l.out (words_of (drop l.text-index l.texts)) ≡ spaced (words_of l.texts)

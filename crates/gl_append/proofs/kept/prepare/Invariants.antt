@@ -1,9 +1,0 @@
-use Rattle.gl_vm.specs.View.{Calm}
-use Rattle.gl_vm.specs.Steps.{Prepares}
-use Rattle.gl_append.proofs.kept.prepare.Given as goal
-
-abbrev pub invariant-loop-id : goal.invariant-loop-id
-invariant-loop-id l = record {
-  step : Prepares l.fn.vm l.vm;
-  calm : Calm l.vm;
-}

@@ -1,6 +1,0 @@
-use Rattle.std.proofs.Common.{◌≡◌, ◌++◌, drop}
-use Rattle.gl_append.specs.View.{shared}
-use Rattle.gl_append.proofs.sight.copied.Given as goal
-
-abbrev pub invariant-loop-link : goal.invariant-loop-link
-invariant-loop-link l = shared l.list.items ++ shared (drop l.link-index l.chain) ≡ shared l.chain

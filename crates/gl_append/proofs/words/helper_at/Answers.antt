@@ -1,5 +1,0 @@
-use Rattle.gl_append.proofs.HelperNames.{number_named}
-use Rattle.gl_append.proofs.words.helper_at.Goals as goal
-
-pub returns : goal.returns
-returns c = number_named c.args.helper c.if-helper.false

@@ -1,0 +1,16 @@
+pub mod Laying
+pub mod ListLaws
+pub mod Commenting
+pub mod EntryLists
+pub mod NodesIn
+pub mod Readable
+pub mod SamePaths
+pub mod HelperNames
+pub mod Hanging
+pub mod Calming
+pub mod CodeNests
+pub mod Preparing
+pub mod Links
+pub mod EntryCounts
+pub mod Doing
+pub mod Blocks

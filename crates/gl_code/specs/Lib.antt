@@ -1,0 +1,10 @@
+pub mod View
+pub mod CodeView
+pub mod Tables
+pub mod Cells
+pub mod Renewing
+pub mod Hung
+pub mod Written
+pub mod Instances
+pub mod Entries
+pub mod Comments

@@ -1,0 +1,4 @@
+pub mod AttrLaws
+pub mod Leading
+pub mod ModLaws
+pub mod NameLists
