@@ -10,6 +10,7 @@ use gl_run::{Last, Status, run};
 use std::alloc::{AllocError, Global};
 use std::env;
 use std::io::ErrorKind;
+use std::mem;
 use std::process::ExitCode;
 use std::rt::Env;
 
@@ -41,7 +42,10 @@ fn run_words(rt: &HostRuntime, words: &[&str]) -> Status {
     let mut out = StdSink::new(rt.stdout());
     let mut err = StdSink::new(rt.stderr());
     let mut last = Last::new();
-    run(rt.alloc(), words, &mut shelf, &mut out, &mut err, &mut last)
+    let status = run(rt.alloc(), words, &mut shelf, &mut out, &mut err, &mut last);
+    // The process ends here, and the system takes back what was kept.
+    mem::forget(last);
+    status
 }
 
 // Says that memory is wanting. It takes none itself, and what the sink does not take changes nothing else.
