@@ -8,11 +8,10 @@ ghost use Rattle.gl_run.specs.Run.{memory_line};
 use gl_outside::{DirShelf, Sink, SinkFault, StdSink};
 use gl_run::{Last, Status, run};
 use std::alloc::{AllocError, Global};
-use std::env;
 use std::io::ErrorKind;
-use std::mem;
 use std::process::ExitCode;
 use std::rt::Env;
+use std::{env, mem};
 
 // The words after the program's name, or none where they are not texts.
 fn words_of<R: Env + AllocGlobal>(rt: &R) -> Result<Vec<String>, AllocError> {
