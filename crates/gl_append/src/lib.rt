@@ -25,5 +25,5 @@ mod step;
 mod tags;
 mod words;
 
-pub use appending::append_block;
+pub use appending::Opcodes;
 pub use page::append;

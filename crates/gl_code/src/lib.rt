@@ -2,6 +2,7 @@
 //! read for it, and the words of programs. Contracts see it as that of the machine over words.
 #![tactic(auto)]
 
+mod appending;
 mod branches;
 mod cells;
 mod code;
@@ -19,6 +20,7 @@ mod values;
 mod words;
 mod written;
 
+pub use appending::AppendBlock;
 pub use branches::{after, chosen, side, takes};
 pub use cells::Cells;
 pub use code::{AttrSpot, Choice, Code, Codes, ItemCode, ItemSpot, Listing, ModSpot, Spot};

@@ -23,7 +23,7 @@ ghost use Rattle.gl_session.specs.Standing.{Goes, TurnFails};
 use crate::laying::{begin_turn, givens_for, lay};
 use crate::turn::{Turn, Work};
 use crate::writing::{front, push_committed};
-use gl_append::append;
+use gl_append::{Opcodes, append};
 use gl_code::{Cells, Page, VmFault};
 use gl_events::{Applied, apply};
 use gl_gone::{Standing, push_destroyed, standing};
@@ -90,7 +90,7 @@ fn renew(alloc: Global, app: &App, page: &mut Page) -> Result<u128, VmFault>
     ensures calm { Calm page.new.vm }
 {
     let cells = Cells::new(alloc);
-    match update(alloc, app, &cells, page) {
+    match update::<Opcodes>(alloc, app, &cells, page) {
         Ok(moved) => Ok(moved.items),
         Err(fault) => Err(fault),
     }

@@ -17,7 +17,7 @@ use crate::counting::Moved;
 use crate::taken::{Listed, ask_items, boxed_code};
 use crate::trail::Trail;
 use gl_asks::enters_body;
-use gl_code::{Cells, Code, ItemCode, ItemSpot, VmFault};
+use gl_code::{AppendBlock, Cells, Code, ItemCode, ItemSpot, VmFault};
 use gl_meaning::PathStep;
 use gl_nodes::NodeId;
 use gl_opc::App;
@@ -41,7 +41,7 @@ fn enter_item(trail: &mut Trail<'_>, spot: &ItemSpot) -> Result<(), AllocError>
 /// An item, where it is entered. The trail is that of the items of the list.
 #[cycle(renewing)]
 #[inline(never)]
-pub(crate) fn walk_item(
+pub(crate) fn walk_item<A: AppendBlock>(
     vm: &mut Vm,
     alloc: Global,
     app: &App,
@@ -62,7 +62,7 @@ pub(crate) fn walk_item(
 {
     if enters_body(vm, &item.body)? {
         enter_item(trail, &item.spot)?;
-        match renew_codes(
+        match renew_codes::<A>(
             vm,
             alloc,
             app,
@@ -87,7 +87,7 @@ pub(crate) fn walk_item(
 // The items, one after another. The trail is theirs.
 #[cycle(renewing)]
 #[inline(never)]
-fn walk_items(
+fn walk_items<A: AppendBlock>(
     vm: &mut Vm,
     alloc: Global,
     app: &App,
@@ -106,7 +106,7 @@ fn walk_items(
     ensures calm { Calm vm.new }
 {
     for item in items.iter_mut() {
-        match walk_item(vm, alloc, app, cells, trail, left, item, parent, moved) {
+        match walk_item::<A>(vm, alloc, app, cells, trail, left, item, parent, moved) {
             Ok(()) => {}
             Err(fault) => return Err(fault),
         }
@@ -135,7 +135,7 @@ fn lost_items(list: Box<Listed>, fault: VmFault) -> VmFault
 // The items of a list that are entered. It stands in the frame of its caller.
 #[cycle(renewing)]
 #[inline(always)]
-fn walk_entered(
+fn walk_entered<A: AppendBlock>(
     vm: &mut Vm,
     alloc: Global,
     app: &App,
@@ -155,7 +155,7 @@ fn walk_entered(
 {
     let mut list = list;
     trail.push(PathStep::Items)?;
-    match walk_items(
+    match walk_items::<A>(
         vm,
         alloc,
         app,
@@ -177,7 +177,7 @@ fn walk_entered(
 /// The items of a list are walked along, where they are entered.
 #[cycle(renewing)]
 #[inline(never)]
-pub(crate) fn walk_list(
+pub(crate) fn walk_list<A: AppendBlock>(
     vm: &mut Vm,
     alloc: Global,
     app: &App,
@@ -198,7 +198,7 @@ pub(crate) fn walk_list(
     let asked = ask_items(vm, list)?;
     let enters = asked.1;
     if enters {
-        walk_entered(vm, alloc, app, cells, trail, left, asked.0, parent, moved)
+        walk_entered::<A>(vm, alloc, app, cells, trail, left, asked.0, parent, moved)
     } else {
         Ok(with_items(alloc, asked.0)?)
     }

@@ -19,8 +19,7 @@ use crate::ending::end_branch;
 use crate::positions::condition;
 use crate::standing::{behind, seat_with_comment};
 use crate::trail::Trail;
-use gl_append::append_block;
-use gl_code::{Cells, Choice, Codes, Spot, VmFault, chosen, side};
+use gl_code::{AppendBlock, Cells, Choice, Codes, Spot, VmFault, chosen, side};
 use gl_nodes::NodeId;
 use gl_opc::App;
 use gl_vm::Vm;
@@ -29,7 +28,7 @@ use std::alloc::Global;
 /// A branch: its condition is evaluated again where it is stale.
 #[cycle(renewing)]
 #[inline(never)]
-pub(crate) fn renew_branch(
+pub(crate) fn renew_branch<A: AppendBlock>(
     vm: &mut Vm,
     alloc: Global,
     app: &App,
@@ -53,7 +52,7 @@ pub(crate) fn renew_branch(
 {
     let shows = condition(vm, choice.unless, spot.id)?;
     if shows == *main {
-        renew_side(
+        renew_side::<A>(
             vm,
             alloc,
             app,
@@ -67,7 +66,7 @@ pub(crate) fn renew_branch(
         )
     } else {
         *main = shows;
-        flip(
+        flip::<A>(
             vm, alloc, app, cells, trail, left, choice, shows, comment, body, parent,
         )
     }
@@ -75,7 +74,7 @@ pub(crate) fn renew_branch(
 
 /// The other body is appended in the place of what stood there, which is ended.
 #[inline(never)]
-fn flip(
+fn flip<A: AppendBlock>(
     vm: &mut Vm,
     alloc: Global,
     app: &App,
@@ -98,7 +97,7 @@ fn flip(
     let seat = behind(vm, parent, body, comment)?;
     end_branch(vm, body, comment)?;
     let pc = chosen(shows, choice.first, choice.second);
-    match append_block(vm, alloc, app, cells, sight, pc, path, left) {
+    match A::append_block(vm, alloc, app, cells, sight, pc, path, left) {
         Ok(codes) => {
             *comment = seat_with_comment(vm, &seat, &codes)?;
             *body = codes;

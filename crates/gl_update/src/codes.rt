@@ -19,7 +19,7 @@ use crate::modifiers::renew_mods;
 use crate::nodes::{renew_attrs, renew_text};
 use crate::trail::Trail;
 use gl_asks::enters_body;
-use gl_code::{AttrSpot, Cells, Code, Codes, ModSpot, VmFault};
+use gl_code::{AppendBlock, AttrSpot, Cells, Code, Codes, ModSpot, VmFault};
 use gl_meaning::{Path, PathStep};
 use gl_nodes::NodeId;
 use gl_opc::App;
@@ -30,7 +30,7 @@ use std::alloc::Global;
 /// What was rendered of a body, of which the path is the trail. Its nodes stand in the parent, or at the top.
 #[cycle(renewing)]
 #[inline(never)]
-pub(crate) fn renew_codes(
+pub(crate) fn renew_codes<A: AppendBlock>(
     vm: &mut Vm,
     alloc: Global,
     app: &App,
@@ -50,7 +50,7 @@ pub(crate) fn renew_codes(
 {
     for (place, code) in codes.list.iter_mut().enumerate() {
         trail.push(PathStep::At(place as u64))?;
-        match renew_code(vm, alloc, app, cells, trail, left, code, parent, moved) {
+        match renew_code::<A>(vm, alloc, app, cells, trail, left, code, parent, moved) {
             Ok(()) => trail.pop(alloc),
             Err(fault) => return Err(fault),
         }
@@ -62,7 +62,7 @@ pub(crate) fn renew_codes(
 /// of its caller, so that a level takes no more stack.
 #[cycle(renewing)]
 #[inline(always)]
-pub(crate) fn renew_body(
+pub(crate) fn renew_body<A: AppendBlock>(
     vm: &mut Vm,
     alloc: Global,
     app: &App,
@@ -81,7 +81,7 @@ pub(crate) fn renew_body(
     ensures calm { Calm vm.new }
 {
     if enters_body(vm, codes)? {
-        renew_codes(vm, alloc, app, cells, trail, left, codes, parent, moved)
+        renew_codes::<A>(vm, alloc, app, cells, trail, left, codes, parent, moved)
     } else {
         Ok(())
     }
@@ -90,7 +90,7 @@ pub(crate) fn renew_body(
 /// What was rendered of a statement, of which the path is the trail.
 #[cycle(renewing)]
 #[inline(never)]
-pub(crate) fn renew_code(
+pub(crate) fn renew_code<A: AppendBlock>(
     vm: &mut Vm,
     alloc: Global,
     app: &App,
@@ -120,7 +120,7 @@ pub(crate) fn renew_code(
             mods,
             body,
             ..
-        } => renew_element(
+        } => renew_element::<A>(
             vm, alloc, app, cells, trail, left, *node, attrs, mods, body, moved,
         ),
         Code::Branch {
@@ -129,18 +129,20 @@ pub(crate) fn renew_code(
             main,
             comment,
             body,
-        } => renew_branch(
+        } => renew_branch::<A>(
             vm, alloc, app, cells, trail, left, choice, spot, main, comment, body, parent, moved,
         ),
-        Code::Listed { .. } => renew_list(vm, alloc, app, cells, trail, left, code, parent, moved),
-        Code::Unlisted { .. } => renew_list(
+        Code::Listed { .. } => renew_list::<A>(
             vm, alloc, app, cells, trail, left, code, parent, moved,
         ),
-        Code::Let { body, .. } => renew_let(
+        Code::Unlisted { .. } => renew_list::<A>(
+            vm, alloc, app, cells, trail, left, code, parent, moved,
+        ),
+        Code::Let { body, .. } => renew_let::<A>(
             vm, alloc, app, cells, trail, left, body, parent, moved,
         ),
         Code::Component { owner, body, .. } => {
-            renew_component(
+            renew_component::<A>(
                 vm,
                 alloc,
                 app,
@@ -153,7 +155,7 @@ pub(crate) fn renew_code(
             )
         }
         Code::Root { .. } => Err(VmFault::Memory),
-        Code::Yield { name, body, .. } => renew_yield(
+        Code::Yield { name, body, .. } => renew_yield::<A>(
             vm, alloc, app, cells, trail, left, name, body, parent, moved,
         ),
     }
@@ -162,7 +164,7 @@ pub(crate) fn renew_code(
 /// An element: its attributes, what is in it, and its modifiers.
 #[cycle(renewing)]
 #[inline(never)]
-fn renew_element(
+fn renew_element<A: AppendBlock>(
     vm: &mut Vm,
     alloc: Global,
     app: &App,
@@ -183,7 +185,7 @@ fn renew_element(
     ensures calm { Calm vm.new }
 {
     renew_attrs(vm, alloc, node, attrs.as_slice())?;
-    match renew_codes(vm, alloc, app, cells, trail, left, body, &Some(node), moved) {
+    match renew_codes::<A>(vm, alloc, app, cells, trail, left, body, &Some(node), moved) {
         Ok(()) => {
             renew_mods(vm, alloc, mods.as_slice())?;
             Ok(())
@@ -195,7 +197,7 @@ fn renew_element(
 /// What was rendered of a body, of which the path is one step below the trail.
 #[cycle(renewing)]
 #[inline(never)]
-pub(crate) fn renew_below(
+pub(crate) fn renew_below<A: AppendBlock>(
     vm: &mut Vm,
     alloc: Global,
     app: &App,
@@ -215,7 +217,7 @@ pub(crate) fn renew_below(
     ensures calm { Calm vm.new }
 {
     trail.push(step)?;
-    match renew_codes(vm, alloc, app, cells, trail, left, body, parent, moved) {
+    match renew_codes::<A>(vm, alloc, app, cells, trail, left, body, parent, moved) {
         Ok(()) => {
             trail.pop(alloc);
             Ok(())
@@ -227,7 +229,7 @@ pub(crate) fn renew_below(
 /// A body that is a region, of which the path is one step below the trail.
 #[cycle(renewing)]
 #[inline(always)]
-pub(crate) fn renew_side(
+pub(crate) fn renew_side<A: AppendBlock>(
     vm: &mut Vm,
     alloc: Global,
     app: &App,
@@ -247,7 +249,7 @@ pub(crate) fn renew_side(
     ensures calm { Calm vm.new }
 {
     if enters_body(vm, body)? {
-        renew_below(
+        renew_below::<A>(
             vm, alloc, app, cells, trail, step, left, body, parent, moved,
         )
     } else {
@@ -258,7 +260,7 @@ pub(crate) fn renew_side(
 /// The body of a `let`.
 #[cycle(renewing)]
 #[inline(never)]
-fn renew_let(
+fn renew_let<A: AppendBlock>(
     vm: &mut Vm,
     alloc: Global,
     app: &App,
@@ -277,7 +279,7 @@ fn renew_let(
     ensures calm { Calm vm.new }
 {
     let step = PathStep::Then;
-    renew_below(
+    renew_below::<A>(
         vm, alloc, app, cells, trail, step, left, body, parent, moved,
     )
 }
@@ -285,7 +287,7 @@ fn renew_let(
 /// What stands in the place of a list's items.
 #[cycle(renewing)]
 #[inline(never)]
-pub(crate) fn renew_else(
+pub(crate) fn renew_else<A: AppendBlock>(
     vm: &mut Vm,
     alloc: Global,
     app: &App,
@@ -304,7 +306,7 @@ pub(crate) fn renew_else(
     ensures calm { Calm vm.new }
 {
     let step = PathStep::Else;
-    renew_side(
+    renew_side::<A>(
         vm, alloc, app, cells, trail, step, left, body, parent, moved,
     )
 }
@@ -312,7 +314,7 @@ pub(crate) fn renew_else(
 /// A block that was yielded to, or what stands in its place.
 #[cycle(renewing)]
 #[inline(never)]
-fn renew_yield(
+fn renew_yield<A: AppendBlock>(
     vm: &mut Vm,
     alloc: Global,
     app: &App,
@@ -332,7 +334,7 @@ fn renew_yield(
     ensures calm { Calm vm.new }
 {
     let step = PathStep::Slot(name.copy()?);
-    renew_below(
+    renew_below::<A>(
         vm, alloc, app, cells, trail, step, left, body, parent, moved,
     )
 }
@@ -340,7 +342,7 @@ fn renew_yield(
 /// What was rendered of a component, of which the path is its instance's: one level of nesting less is left.
 #[cycle(renewing)]
 #[inline(never)]
-fn renew_component(
+fn renew_component<A: AppendBlock>(
     vm: &mut Vm,
     alloc: Global,
     app: &App,
@@ -361,7 +363,7 @@ fn renew_component(
         return Err(VmFault::Memory);
     }
     let mut trail = Trail::of(alloc, path);
-    renew_body(
+    renew_body::<A>(
         vm,
         alloc,
         app,

@@ -16,10 +16,9 @@ ghost use Rattle.gl_code.specs.Renewing.{Renews, RenewFails};
 
 use crate::seating::Seat;
 use crate::standing::seat_with_comment;
-use gl_append::append_block;
 use gl_code::{
-    Cells, Entry, ItemCode, ItemSpot, Listing, Sight, VmFault, below, counted, item_params,
-    item_sight,
+    AppendBlock, Cells, Entry, ItemCode, ItemSpot, Listing, Sight, VmFault, below, counted,
+    item_params, item_sight,
 };
 use gl_meaning::{Path, PathStep};
 use gl_opc::App;
@@ -52,7 +51,7 @@ pub(crate) fn add(items: &mut Vec<ItemCode>, item: ItemCode) -> Result<(), Alloc
 
 // The body of an item is appended, which has its references: what is seen there, and the address of its first word.
 #[inline(never)]
-fn item_body(
+fn item_body<A: AppendBlock>(
     vm: &mut Vm,
     alloc: Global,
     app: &App,
@@ -70,7 +69,7 @@ fn item_body(
     ensures key { IfOk result (λ r. (n : _) → (seen_item_code n r).0 ≡ seen_item_spot spot) }
     ensures calm { Calm vm.new }
 {
-    match append_block(vm, alloc, app, cells, sight, pc, path, left) {
+    match A::append_block(vm, alloc, app, cells, sight, pc, path, left) {
         Ok(body) => {
             let comment = seat_with_comment(vm, seat, &body)?;
             Ok(ItemCode::rendered(spot, comment, body))
@@ -81,7 +80,7 @@ fn item_body(
 
 /// Appends an item of a list at its path, and puts its nodes into the tree.
 #[inline(never)]
-pub(crate) fn fresh_item(
+pub(crate) fn fresh_item<A: AppendBlock>(
     vm: &mut Vm,
     alloc: Global,
     app: &App,
@@ -109,7 +108,7 @@ pub(crate) fn fresh_item(
         index,
         params,
     };
-    item_body(
+    item_body::<A>(
         vm,
         alloc,
         app,
@@ -126,7 +125,7 @@ pub(crate) fn fresh_item(
 /// Appends all items of a list, of which the first one is the last, below the path of its items, and puts their nodes into
 /// the tree.
 #[inline(never)]
-pub(crate) fn fresh_items(
+pub(crate) fn fresh_items<A: AppendBlock>(
     vm: &mut Vm,
     alloc: Global,
     app: &App,
@@ -146,7 +145,7 @@ pub(crate) fn fresh_items(
     let mut done = Vec::new(alloc);
     while let Some(entry) = waiting.pop() {
         let path = item_path(alloc, base, &entry.key, entry.occurrence)?;
-        match fresh_item(vm, alloc, app, cells, left, listing, path, entry, seat) {
+        match fresh_item::<A>(vm, alloc, app, cells, left, listing, path, entry, seat) {
             Ok(item) => add(&mut done, item)?,
             Err(fault) => return Err(fault),
         }

@@ -29,8 +29,7 @@ use crate::taken::{
     read_unlisted, take_list, without_items,
 };
 use crate::trail::Trail;
-use gl_append::append_block;
-use gl_code::{Cells, Code, Codes, Entry, ItemCode, Listing, Spot, VmFault};
+use gl_code::{AppendBlock, Cells, Code, Codes, Entry, ItemCode, Listing, Spot, VmFault};
 use gl_meaning::PathStep;
 use gl_nodes::NodeId;
 use gl_opc::App;
@@ -40,7 +39,7 @@ use std::alloc::Global;
 /// An `each`, with or without items. Anything else is told as want of memory.
 #[cycle(renewing)]
 #[inline(never)]
-pub(crate) fn renew_list(
+pub(crate) fn renew_list<A: AppendBlock>(
     vm: &mut Vm,
     alloc: Global,
     app: &App,
@@ -59,7 +58,7 @@ pub(crate) fn renew_list(
     ensures calm { Calm vm.new }
 {
     match take_list(alloc, code)? {
-        Taken::Items(list) => match renew_listed(
+        Taken::Items(list) => match renew_listed::<A>(
             vm, alloc, app, cells, trail, left, list, parent, moved,
         ) {
             Ok(new) => {
@@ -68,7 +67,7 @@ pub(crate) fn renew_list(
             }
             Err(fault) => Err(fault),
         },
-        Taken::Other(list) => match renew_unlisted(
+        Taken::Other(list) => match renew_unlisted::<A>(
             vm, alloc, app, cells, trail, left, list, parent, moved,
         ) {
             Ok(new) => {
@@ -85,7 +84,7 @@ pub(crate) fn renew_list(
 // its caller, so that a level of lists takes no more stack.
 #[cycle(renewing)]
 #[inline(always)]
-fn renew_listed(
+fn renew_listed<A: AppendBlock>(
     vm: &mut Vm,
     alloc: Global,
     app: &App,
@@ -106,9 +105,9 @@ fn renew_listed(
     let asked = ask_list(vm, list)?;
     let stale = asked.1;
     if stale {
-        relist(vm, alloc, app, cells, trail, left, asked.0, parent, moved)
+        relist::<A>(vm, alloc, app, cells, trail, left, asked.0, parent, moved)
     } else {
-        walk_list(vm, alloc, app, cells, trail, left, asked.0, parent, moved)
+        walk_list::<A>(vm, alloc, app, cells, trail, left, asked.0, parent, moved)
     }
 }
 
@@ -116,7 +115,7 @@ fn renew_listed(
 // frame of its caller too.
 #[cycle(renewing)]
 #[inline(always)]
-fn relist(
+fn relist<A: AppendBlock>(
     vm: &mut Vm,
     alloc: Global,
     app: &App,
@@ -136,14 +135,14 @@ fn relist(
 {
     let read = read_listed(vm, alloc, list)?;
     match read {
-        Read::Same(list, values) => stay_list(
+        Read::Same(list, values) => stay_list::<A>(
             vm, alloc, app, cells, trail, left, list, values, parent, moved,
         ),
         Read::Other(list, ready) => {
             if ready.entries.is_empty() {
-                end_list(vm, alloc, app, cells, trail, left, list, ready, parent)
+                end_list::<A>(vm, alloc, app, cells, trail, left, list, ready, parent)
             } else {
-                sync_list(
+                sync_list::<A>(
                     vm, alloc, app, cells, trail, left, list, ready, parent, moved,
                 )
             }
@@ -153,7 +152,7 @@ fn relist(
 
 // The items are ended, and the other body is appended in their place.
 #[inline(never)]
-fn end_list(
+fn end_list<A: AppendBlock>(
     vm: &mut Vm,
     alloc: Global,
     app: &App,
@@ -172,7 +171,7 @@ fn end_list(
 {
     drop(ready);
     let list = Box::into_inner(list);
-    match unlist(
+    match unlist::<A>(
         vm,
         alloc,
         app,
@@ -191,7 +190,7 @@ fn end_list(
 
 // The items are ended, and the other body is appended in their place.
 #[inline(never)]
-fn unlist(
+fn unlist<A: AppendBlock>(
     vm: &mut Vm,
     alloc: Global,
     app: &App,
@@ -213,7 +212,7 @@ fn unlist(
     let path = trail.below(alloc, PathStep::Else)?;
     let seat = behind_items(vm, parent, items.as_slice())?;
     end_items(vm, items.as_slice())?;
-    match append_block(vm, alloc, app, cells, sight, listing.other, path, left) {
+    match A::append_block(vm, alloc, app, cells, sight, listing.other, path, left) {
         Ok(codes) => {
             let comment = seat_with_comment(vm, &seat, &codes)?;
             Ok(Code::unlisted(listing, spot, comment, codes))
@@ -225,7 +224,7 @@ fn unlist(
 // An `each` without items. Where it has some now, what stood there is ended and all items are appended.
 #[cycle(renewing)]
 #[inline(never)]
-fn renew_unlisted(
+fn renew_unlisted<A: AppendBlock>(
     vm: &mut Vm,
     alloc: Global,
     app: &App,
@@ -246,7 +245,7 @@ fn renew_unlisted(
     let read = read_unlisted(vm, alloc, list)?;
     if read.1.entries.is_empty() {
         let mut list = first_of(read.0, read.1);
-        match renew_else(
+        match renew_else::<A>(
             vm,
             alloc,
             app,
@@ -261,13 +260,13 @@ fn renew_unlisted(
             Err(fault) => Err(lost_list(list, fault)),
         }
     } else {
-        begin_list(vm, alloc, app, cells, trail, left, read.0, read.1, parent)
+        begin_list::<A>(vm, alloc, app, cells, trail, left, read.0, read.1, parent)
     }
 }
 
 // What stood there is ended, and these items are appended in its place.
 #[inline(never)]
-fn begin_list(
+fn begin_list<A: AppendBlock>(
     vm: &mut Vm,
     alloc: Global,
     app: &App,
@@ -286,7 +285,7 @@ fn begin_list(
 {
     let list = Box::into_inner(list);
     let ready = Box::into_inner(ready);
-    match list_items(
+    match list_items::<A>(
         vm,
         alloc,
         app,
@@ -307,7 +306,7 @@ fn begin_list(
 
 // What stood there is ended, and these items are appended in its place.
 #[inline(never)]
-fn list_items(
+fn list_items<A: AppendBlock>(
     vm: &mut Vm,
     alloc: Global,
     app: &App,
@@ -330,7 +329,7 @@ fn list_items(
     let base = trail.below(alloc, PathStep::Items)?;
     let seat = behind(vm, parent, body, comment)?;
     end_branch(vm, body, comment)?;
-    match fresh_items(vm, alloc, app, cells, left, &listing, &base, entries, &seat) {
+    match fresh_items::<A>(vm, alloc, app, cells, left, &listing, &base, entries, &seat) {
         Ok(items) => Ok(Code::listed(listing, spot, items)),
         Err(fault) => Err(fault),
     }

@@ -14,7 +14,7 @@ ghost use Rattle.gl_code.specs.Renewing.{Renews, RenewFails};
 use crate::codes::renew_body;
 use crate::counting::Moved;
 use crate::trail::Trail;
-use gl_code::{Cells, Code, Page, VmFault};
+use gl_code::{AppendBlock, Cells, Code, Page, VmFault};
 use gl_meaning::{Path, PathSteps};
 use gl_nested::stands;
 use gl_opc::App;
@@ -25,7 +25,12 @@ use std::alloc::Global;
 /// values of their fields. The nodes of the page then stand in its tree as they were rendered, in their order, and no others.
 /// What has few positions, none of them stale, is passed over. It answers how many items were moved, each by one move of nodes; that they are
 /// those between the two updating programs is said of one in which no key of a list stands twice. After a fault the page is not to be used.
-pub fn update(alloc: Global, app: &App, cells: &Cells, page: &mut Page) -> Result<Moved, VmFault>
+pub fn update<A: AppendBlock>(
+    alloc: Global,
+    app: &App,
+    cells: &Cells,
+    page: &mut Page,
+) -> Result<Moved, VmFault>
     requires calm { Calm page.old.vm }
     ensures ok { OnOk result (Renews app.now cells.now (λ n run. along_root_code_as by_number app.now.manifest.limit run (seen_code n page.old.code)) page.old.vm (λ n. seen_code n page.new.code) page.new.vm) }
     ensures fails { IfErr result (RenewFails {A = PlainCode} app.now cells.now (λ n run. along_root_code_as by_number app.now.manifest.limit run (seen_code n page.old.code)) page.old.vm) }
@@ -35,7 +40,7 @@ pub fn update(alloc: Global, app: &App, cells: &Cells, page: &mut Page) -> Resul
     ensures calm { Calm page.new.vm }
 {
     let before = page.vm.tree.moves();
-    let moved = renew_page(alloc, app, cells, page)?;
+    let moved = renew_page::<A>(alloc, app, cells, page)?;
     if is_settled(page, before, &moved) {
         Ok(moved)
     } else {
@@ -53,7 +58,12 @@ fn is_settled(page: &Page, before: u128, moved: &Moved) -> bool
 }
 
 // The walk along a page. It answers how many items were moved.
-fn renew_page(alloc: Global, app: &App, cells: &Cells, page: &mut Page) -> Result<Moved, VmFault>
+fn renew_page<A: AppendBlock>(
+    alloc: Global,
+    app: &App,
+    cells: &Cells,
+    page: &mut Page,
+) -> Result<Moved, VmFault>
     requires calm { Calm page.old.vm }
     ensures ok { OnOk result (Renews app.now cells.now (λ n run. along_root_code_as by_number app.now.manifest.limit run (seen_code n page.old.code)) page.old.vm (λ n. seen_code n page.new.code) page.new.vm) }
     ensures fails { IfErr result (RenewFails {A = PlainCode} app.now cells.now (λ n run. along_root_code_as by_number app.now.manifest.limit run (seen_code n page.old.code)) page.old.vm) }
@@ -70,7 +80,7 @@ fn renew_page(alloc: Global, app: &App, cells: &Cells, page: &mut Page) -> Resul
     let mut trail = Trail::of(alloc, &root);
     let mut moved = Moved::none();
     match &mut page.code {
-        Code::Root { body, .. } => match renew_body(
+        Code::Root { body, .. } => match renew_body::<A>(
             &mut page.vm,
             alloc,
             app,

@@ -27,7 +27,7 @@ use crate::ending_items::end_items;
 use crate::syncing::give;
 use crate::taken::Listed;
 use crate::trail::Trail;
-use gl_code::{Cells, Code, ItemCode, ItemSpot, VmFault, counted};
+use gl_code::{AppendBlock, Cells, Code, ItemCode, ItemSpot, VmFault, counted};
 use gl_meaning::PathStep;
 use gl_nodes::NodeId;
 use gl_opc::App;
@@ -64,7 +64,7 @@ fn end_none(vm: &mut Vm, alloc: Global) -> Result<(), AllocError>
 // The items, one after another, each with the value at its place. The trail is that of the items of the list.
 #[cycle(renewing)]
 #[inline(never)]
-fn stay_items(
+fn stay_items<A: AppendBlock>(
     vm: &mut Vm,
     alloc: Global,
     app: &App,
@@ -86,7 +86,7 @@ fn stay_items(
     let mut index: usize = 0;
     for kept in items.iter_mut() {
         give_at(vm, &kept.spot, values, index)?;
-        match walk_item(vm, alloc, app, cells, trail, left, kept, parent, moved) {
+        match walk_item::<A>(vm, alloc, app, cells, trail, left, kept, parent, moved) {
             Ok(()) => index += 1,
             Err(fault) => return Err(fault),
         }
@@ -135,7 +135,7 @@ fn lost_stay(list: Box<Listed>, values: List, fault: VmFault) -> VmFault
 /// The items of a list get the values and indexes that they have now, where their keys are what they were.
 #[cycle(renewing)]
 #[inline(never)]
-pub(crate) fn stay_list(
+pub(crate) fn stay_list<A: AppendBlock>(
     vm: &mut Vm,
     alloc: Global,
     app: &App,
@@ -156,7 +156,7 @@ pub(crate) fn stay_list(
     ensures calm { Calm vm.new }
 {
     let mut begun = begin_stay(trail, list, values)?;
-    match stay_items(
+    match stay_items::<A>(
         vm,
         alloc,
         app,

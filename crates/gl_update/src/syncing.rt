@@ -33,7 +33,7 @@ use crate::seating::Seat;
 use crate::standing::settle_item;
 use crate::taken::{Begun, Listed, Ready, begin_sync, end_sync, lost_sync};
 use crate::trail::Trail;
-use gl_code::{Cells, Code, Entry, ItemCode, Listing, VmFault, counted};
+use gl_code::{AppendBlock, Cells, Code, Entry, ItemCode, Listing, VmFault, counted};
 use gl_meaning::{Path, PathStep};
 use gl_nodes::NodeId;
 use gl_opc::App;
@@ -116,7 +116,7 @@ fn lost_item(item: Box<ItemCode>, fault: VmFault) -> VmFault
 // the items of the list.
 #[cycle(renewing)]
 #[inline(never)]
-fn kept_item(
+fn kept_item<A: AppendBlock>(
     vm: &mut Vm,
     alloc: Global,
     app: &App,
@@ -138,7 +138,7 @@ fn kept_item(
     ensures calm { Calm vm.new }
 {
     let mut kept = begin_item(vm, trail, old, entry)?;
-    match renew_body(
+    match renew_body::<A>(
         vm,
         alloc,
         app,
@@ -166,7 +166,7 @@ fn boxed(alloc: Global, item: ItemCode) -> Result<Box<ItemCode>, AllocError>
 
 // The item of an entry, which is a new one.
 #[inline(never)]
-fn new_item(
+fn new_item<A: AppendBlock>(
     vm: &mut Vm,
     alloc: Global,
     app: &App,
@@ -185,7 +185,7 @@ fn new_item(
 {
     let entry = Box::into_inner(entry);
     let path = item_path(alloc, base, &entry.key, entry.occurrence)?;
-    match fresh_item(vm, alloc, app, cells, left, listing, path, entry, seat) {
+    match fresh_item::<A>(vm, alloc, app, cells, left, listing, path, entry, seat) {
         Ok(item) => Ok(boxed(alloc, item)?),
         Err(fault) => Err(fault),
     }
@@ -194,7 +194,7 @@ fn new_item(
 // The item of an entry: the old one that was taken for it, or a new one. The trail is that of the items of the list.
 #[cycle(renewing)]
 #[inline(never)]
-fn entry_item(
+fn entry_item<A: AppendBlock>(
     vm: &mut Vm,
     alloc: Global,
     app: &App,
@@ -218,10 +218,10 @@ fn entry_item(
 {
     let Next { entry, old, moves } = next;
     match old {
-        Some(item) => kept_item(
+        Some(item) => kept_item::<A>(
             vm, alloc, app, cells, trail, left, item, entry, moves, seat, moved,
         ),
-        None => new_item(vm, alloc, app, cells, left, listing, base, entry, seat),
+        None => new_item::<A>(vm, alloc, app, cells, left, listing, base, entry, seat),
     }
 }
 
@@ -249,7 +249,7 @@ fn end_left(vm: &mut Vm, alloc: Global, work: &mut Work) -> Result<(), AllocErro
 // of the list.
 #[cycle(renewing)]
 #[inline(never)]
-fn sync_items(
+fn sync_items<A: AppendBlock>(
     vm: &mut Vm,
     alloc: Global,
     app: &App,
@@ -273,7 +273,7 @@ fn sync_items(
 {
     let mut done = Vec::new(alloc);
     while let Some(next) = begun.work.next(alloc)? {
-        match entry_item(
+        match entry_item::<A>(
             vm,
             alloc,
             app,
@@ -297,7 +297,7 @@ fn sync_items(
 /// The items of a list become those that it has now.
 #[cycle(renewing)]
 #[inline(never)]
-pub(crate) fn sync_list(
+pub(crate) fn sync_list<A: AppendBlock>(
     vm: &mut Vm,
     alloc: Global,
     app: &App,
@@ -318,7 +318,7 @@ pub(crate) fn sync_list(
     ensures calm { Calm vm.new }
 {
     let mut begun = begin_sync(alloc, trail, list, ready, parent)?;
-    match sync_items(vm, alloc, app, cells, trail, left, &mut begun, moved) {
+    match sync_items::<A>(vm, alloc, app, cells, trail, left, &mut begun, moved) {
         Ok(items) => {
             trail.pop(alloc);
             Ok(end_sync(alloc, begun, items)?)

@@ -76,78 +76,78 @@ use Rattle.gl_update.proofs.SyncCounts.{syncing_begin, syncing_next, syncing_end
 use Rattle.gl_update.proofs.+renewing.Goals as goal
 
 pub codes::renew_below-returns-in-Ok-clause-ok : goal.codes::renew_below-returns-in-Ok-clause-ok
-codes::renew_below-returns-in-Ok-clause-ok t c =
+codes::renew_below-returns-in-Ok-clause-ok g t c =
     subst (λ q. Renews c.args.app.now c.args.cells.now (Below c.args.app.now c.args.cells.now c.args.left q q c.args.body.now) c.args.vm.now (λ n. seen_codes n c.renew_codes.new.codes) c.renew_codes.new.vm) c.in_ok-push.ensures.view c.in-Ok.ensures.ok
 
 pub codes::renew_below-returns-in-Err-clause-fails : goal.codes::renew_below-returns-in-Err-clause-fails
-codes::renew_below-returns-in-Err-clause-fails t c =
+codes::renew_below-returns-in-Err-clause-fails g t c =
     subst (λ q. RenewFails c.args.app.now c.args.cells.now (Below c.args.app.now c.args.cells.now c.args.left q q c.args.body.now) c.args.vm.now c.in-Err.fault) c.in_ok-push.ensures.view c.in-Err.ensures.fails
 
 pub codes::renew_yield-returns-clause-ok : goal.codes::renew_yield-returns-clause-ok
-codes::renew_yield-returns-clause-ok t c =
+codes::renew_yield-returns-clause-ok g t c =
     subst (λ y. OnOk c.renew_below.result (Renews c.args.app.now c.args.cells.now (λ n run. along_codes_as by_number run c.args.left (slot y ∷ trail_view c.args.trail.now) 0 (seen_codes n c.args.body.now)) c.args.vm.now (λ n. seen_codes n c.renew_below.new.body) c.renew_below.new.vm)) c.in_ok-copy.ensures c.renew_below.ensures.ok
 
 pub codes::renew_yield-returns-clause-fails : goal.codes::renew_yield-returns-clause-fails
-codes::renew_yield-returns-clause-fails t c =
+codes::renew_yield-returns-clause-fails g t c =
     subst (λ y. IfErr c.renew_below.result (RenewFails {A = p.Codes} c.args.app.now c.args.cells.now (λ n run. along_codes_as by_number run c.args.left (slot y ∷ trail_view c.args.trail.now) 0 (seen_codes n c.args.body.now)) c.args.vm.now)) c.in_ok-copy.ensures c.renew_below.ensures.fails
 
 pub codes::renew_element-returns-in_ok-renew_mods-in-Ok-clause-ok : goal.codes::renew_element-returns-in_ok-renew_mods-in-Ok-clause-ok
-codes::renew_element-returns-in_ok-renew_mods-in-Ok-clause-ok t c = λ made.
+codes::renew_element-returns-in_ok-renew_mods-in-Ok-clause-ok g t c = λ made.
     element_renews c.args.app.now c.args.cells.now c.args.left (trail_view c.args.trail.now) c.args.node.1 made (map seen_attr_spot c.args.attrs.now.items) (map seen_mod_spot c.args.mods.now.items) c.args.body.now c.renew_codes.new.codes c.args.vm.now c.renew_attrs.new.vm c.renew_codes.new.vm c.renew_mods.new.vm
     (subst (λ xs. Does (λ n. renew_attrs c.args.node.1 (map seen_attr_spot xs)) c.args.vm.now c.renew_attrs.new.vm) c.as_slice.ensures.value c.in_ok-renew_attrs.ensures.step) c.in-Ok.ensures.ok
     (subst (λ xs. Does (λ n. renew_mods (map seen_mod_spot xs)) c.renew_codes.new.vm c.renew_mods.new.vm) c.as_slice-in-Ok.ensures.value c.in_ok-renew_mods-in-Ok.ensures.step)
 
 pub codes::renew_element-returns-in-Err-clause-fails : goal.codes::renew_element-returns-in-Err-clause-fails
-codes::renew_element-returns-in-Err-clause-fails t c = λ made.
+codes::renew_element-returns-in-Err-clause-fails g t c = λ made.
     element_fails c.args.app.now c.args.cells.now c.args.left (trail_view c.args.trail.now) c.args.node.1 made (map seen_attr_spot c.args.attrs.now.items) (map seen_mod_spot c.args.mods.now.items) c.args.body.now c.args.vm.now c.renew_attrs.new.vm c.in-Err.fault
     (subst (λ xs. Does (λ n. renew_attrs c.args.node.1 (map seen_attr_spot xs)) c.args.vm.now c.renew_attrs.new.vm) c.as_slice.ensures.value c.in_ok-renew_attrs.ensures.step) c.in-Err.ensures.fails
 
 pub codes::renew_body-returns-then-branch-clause-ok : goal.codes::renew_body-returns-then-branch-clause-ok
-codes::renew_body-returns-then-branch-clause-ok t c =
+codes::renew_body-returns-then-branch-clause-ok g t c =
     on_ok_weaker c.renew_codes.result
     (region_entered c.args.app.now c.args.cells.now p.Codes (λ n. positions_in (lives_of (seen_codes n c.args.codes.now))) (λ n. seen_codes n c.args.codes.now) (Below c.args.app.now c.args.cells.now c.args.left (trail_view c.args.trail.now) (trail_view c.args.trail.now) c.args.codes.now)
     c.args.vm.now c.enters_body.new.vm c.renew_codes.new.vm (λ n. seen_codes n c.renew_codes.new.codes) (λ n u agrees. c.in_ok-enters_body.ensures.asked n u agrees ∙ c.if-branch.true) c.enters_body.ensures.still)
     c.renew_codes.ensures.ok
 
 pub codes::renew_body-returns-then-branch-clause-fails : goal.codes::renew_body-returns-then-branch-clause-fails
-codes::renew_body-returns-then-branch-clause-fails t c =
+codes::renew_body-returns-then-branch-clause-fails g t c =
     if_err c.renew_codes.result
     (λ f r. region_fails c.args.app.now c.args.cells.now p.Codes (λ n. positions_in (lives_of (seen_codes n c.args.codes.now))) (λ n. seen_codes n c.args.codes.now) (Below c.args.app.now c.args.cells.now c.args.left (trail_view c.args.trail.now) (trail_view c.args.trail.now) c.args.codes.now)
     c.args.vm.now c.enters_body.new.vm f (λ n u agrees. c.in_ok-enters_body.ensures.asked n u agrees ∙ c.if-branch.true) c.enters_body.ensures.still r)
     c.renew_codes.ensures.fails
 
 pub codes::renew_body-returns-else-branch-clause-ok : goal.codes::renew_body-returns-else-branch-clause-ok
-codes::renew_body-returns-else-branch-clause-ok t c =
+codes::renew_body-returns-else-branch-clause-ok g t c =
     region_passed c.args.app.now c.args.cells.now p.Codes (λ n. positions_in (lives_of (seen_codes n c.args.codes.now))) (λ n. seen_codes n c.args.codes.now) (Below c.args.app.now c.args.cells.now c.args.left (trail_view c.args.trail.now) (trail_view c.args.trail.now) c.args.codes.now)
     c.args.vm.now c.enters_body.new.vm (λ n u agrees. c.in_ok-enters_body.ensures.asked n u agrees ∙ c.if-branch.false) c.enters_body.ensures.still
 
 pub codes::renew_body-returns-else-branch-clause-moved : goal.codes::renew_body-returns-else-branch-clause-moved
-codes::renew_body-returns-else-branch-clause-moved t c = stays_moved c.args.moved.now (λ n. seen_codes n c.args.codes.now)
+codes::renew_body-returns-else-branch-clause-moved g t c = stays_moved c.args.moved.now (λ n. seen_codes n c.args.codes.now)
 
 pub codes::renew_side-returns-then-branch-clause-ok : goal.codes::renew_side-returns-then-branch-clause-ok
-codes::renew_side-returns-then-branch-clause-ok t c =
+codes::renew_side-returns-then-branch-clause-ok g t c =
     on_ok_weaker c.renew_below.result
     (region_entered c.args.app.now c.args.cells.now p.Codes (λ n. positions_in (lives_of (seen_codes n c.args.body.now))) (λ n. seen_codes n c.args.body.now) (Below c.args.app.now c.args.cells.now c.args.left (path_step_view c.args.step ∷ trail_view c.args.trail.now) (path_step_view c.args.step ∷ trail_view c.args.trail.now) c.args.body.now)
     c.args.vm.now c.enters_body.new.vm c.renew_below.new.vm (λ n. seen_codes n c.renew_below.new.body) (λ n u agrees. c.in_ok-enters_body.ensures.asked n u agrees ∙ c.if-branch.true) c.enters_body.ensures.still)
     c.renew_below.ensures.ok
 
 pub codes::renew_side-returns-then-branch-clause-fails : goal.codes::renew_side-returns-then-branch-clause-fails
-codes::renew_side-returns-then-branch-clause-fails t c =
+codes::renew_side-returns-then-branch-clause-fails g t c =
     if_err c.renew_below.result
     (λ f r. region_fails c.args.app.now c.args.cells.now p.Codes (λ n. positions_in (lives_of (seen_codes n c.args.body.now))) (λ n. seen_codes n c.args.body.now) (Below c.args.app.now c.args.cells.now c.args.left (path_step_view c.args.step ∷ trail_view c.args.trail.now) (path_step_view c.args.step ∷ trail_view c.args.trail.now) c.args.body.now)
     c.args.vm.now c.enters_body.new.vm f (λ n u agrees. c.in_ok-enters_body.ensures.asked n u agrees ∙ c.if-branch.true) c.enters_body.ensures.still r)
     c.renew_below.ensures.fails
 
 pub codes::renew_side-returns-else-branch-clause-ok : goal.codes::renew_side-returns-else-branch-clause-ok
-codes::renew_side-returns-else-branch-clause-ok t c =
+codes::renew_side-returns-else-branch-clause-ok g t c =
     region_passed c.args.app.now c.args.cells.now p.Codes (λ n. positions_in (lives_of (seen_codes n c.args.body.now))) (λ n. seen_codes n c.args.body.now) (Below c.args.app.now c.args.cells.now c.args.left (path_step_view c.args.step ∷ trail_view c.args.trail.now) (path_step_view c.args.step ∷ trail_view c.args.trail.now) c.args.body.now)
     c.args.vm.now c.enters_body.new.vm (λ n u agrees. c.in_ok-enters_body.ensures.asked n u agrees ∙ c.if-branch.false) c.enters_body.ensures.still
 
 pub codes::renew_side-returns-else-branch-clause-moved : goal.codes::renew_side-returns-else-branch-clause-moved
-codes::renew_side-returns-else-branch-clause-moved t c = stays_moved c.args.moved.now (λ n. seen_codes n c.args.body.now)
+codes::renew_side-returns-else-branch-clause-moved g t c = stays_moved c.args.moved.now (λ n. seen_codes n c.args.body.now)
 
 pub along::walk_list-returns-then-enters-clause-ok : goal.along::walk_list-returns-then-enters-clause-ok
-along::walk_list-returns-then-enters-clause-ok t c =
+along::walk_list-returns-then-enters-clause-ok g t c =
     let z : Tables → Listing = λ n. seen_listing n c.args.list.value.listing in
     let s = seen_spot c.args.list.value.spot in
     let p = trail_view c.args.trail.now in
@@ -158,7 +158,7 @@ along::walk_list-returns-then-enters-clause-ok t c =
     (subst (λ (b : Box Listed Global). IfOk c.walk_entered.result (λ r. Renews c.args.app.now c.args.cells.now (EntersList (λ n. seen_listing n b.value.listing) (seen_spot b.value.spot) c.args.left p (λ n. map (seen_item_code n) b.value.items.items)) c.ask_items.new.vm (λ n. seen_code n r.value) c.walk_entered.new.vm)) c.in_ok-asked.ensures.list c.walk_entered.ensures.ok)
 
 pub along::walk_list-returns-then-enters-clause-fails : goal.along::walk_list-returns-then-enters-clause-fails
-along::walk_list-returns-then-enters-clause-fails t c =
+along::walk_list-returns-then-enters-clause-fails g t c =
     let z : Tables → Listing = λ n. seen_listing n c.args.list.value.listing in
     let s = seen_spot c.args.list.value.spot in
     let p = trail_view c.args.trail.now in
@@ -168,11 +168,11 @@ along::walk_list-returns-then-enters-clause-fails t c =
     (subst (λ (b : Box Listed Global). IfErr c.walk_entered.result (RenewFails {A = PlainCode} c.args.app.now c.args.cells.now (EntersList (λ n. seen_listing n b.value.listing) (seen_spot b.value.spot) c.args.left p (λ n. map (seen_item_code n) b.value.items.items)) c.ask_items.new.vm)) c.in_ok-asked.ensures.list c.walk_entered.ensures.fails)
 
 pub along::walk_list-returns-then-enters-clause-moved : goal.along::walk_list-returns-then-enters-clause-moved
-along::walk_list-returns-then-enters-clause-moved t c =
+along::walk_list-returns-then-enters-clause-moved g t c =
     subst (λ (b : Box Listed Global). IfOk c.walk_entered.result (λ r. CodeMoved c.args.moved.now c.walk_entered.new.moved (λ n. listed_code (seen_listing n b.value.listing) (seen_spot b.value.spot) (all_items (map (seen_item_code n) b.value.items.items))) (λ n. seen_code n r.value))) c.in_ok-asked.ensures.list c.walk_entered.ensures.moved
 
 pub along::walk_list-returns-in_ok-with_items-clause-ok : goal.along::walk_list-returns-in_ok-with_items-clause-ok
-along::walk_list-returns-in_ok-with_items-clause-ok t c =
+along::walk_list-returns-in_ok-with_items-clause-ok g t c =
     let l = c.args.list.value in
     let made : (n : Tables) → seen_code n c.in_ok-with_items.field-0.value ≡ listed_code (seen_listing n l.listing) (seen_spot l.spot) (all_items (map (seen_item_code n) l.items.items)) =
     λ n. c.in_ok-with_items.ensures n ∙ ap (λ (b : Box Listed Global). listed_code (seen_listing n b.value.listing) (seen_spot b.value.spot) (all_items (map (seen_item_code n) b.value.items.items))) c.in_ok-asked.ensures.list in
@@ -180,26 +180,26 @@ along::walk_list-returns-in_ok-with_items-clause-ok t c =
     (λ n u agrees. c.in_ok-asked.ensures.asked n u agrees ∙ c.if-enters.false) c.ask_items.ensures.still
 
 pub along::walk_list-returns-in_ok-with_items-clause-moved : goal.along::walk_list-returns-in_ok-with_items-clause-moved
-along::walk_list-returns-in_ok-with_items-clause-moved t c =
+along::walk_list-returns-in_ok-with_items-clause-moved g t c =
     let l = c.args.list.value in
     let made : (n : Tables) → seen_code n c.in_ok-with_items.field-0.value ≡ listed_code (seen_listing n l.listing) (seen_spot l.spot) (all_items (map (seen_item_code n) l.items.items)) =
     λ n. c.in_ok-with_items.ensures n ∙ ap (λ (b : Box Listed Global). listed_code (seen_listing n b.value.listing) (seen_spot b.value.spot) (all_items (map (seen_item_code n) b.value.items.items))) c.in_ok-asked.ensures.list in
     list_stays c.args.moved.now (λ n. seen_listing n l.listing) (seen_spot l.spot) l.items.items (λ n. seen_code n c.in_ok-with_items.field-0.value) made
 
 pub codes::renew_component-returns-clause-ok : goal.codes::renew_component-returns-clause-ok
-codes::renew_component-returns-clause-ok t c =
+codes::renew_component-returns-clause-ok g t c =
     on_ok_weaker c.renew_body.result
     (λ r i made gm args k q e. component_renews c.args.app.now c.args.cells.now c.args.left q i made gm args k (c.args.left - 1) (omega arith) (trail_view c.of-trail.result) (e ∙ sym c.of-trail.ensures) c.args.body.now c.renew_body.new.codes c.args.vm.now c.renew_body.new.vm r)
     c.renew_body.ensures.ok
 
 pub codes::renew_component-returns-clause-fails : goal.codes::renew_component-returns-clause-fails
-codes::renew_component-returns-clause-fails t c = λ i made gm args k q e.
+codes::renew_component-returns-clause-fails g t c = λ i made gm args k q e.
     if_err c.renew_body.result
     (λ f r. component_fails c.args.app.now c.args.cells.now c.args.left q i made gm args k (c.args.left - 1) (omega arith) (trail_view c.of-trail.result) (e ∙ sym c.of-trail.ensures) c.args.body.now c.args.vm.now f r)
     c.renew_body.ensures.fails
 
 pub codes::renew_codes-loop-place-init : goal.codes::renew_codes-loop-place-init
-codes::renew_codes-loop-place-init t c = record {
+codes::renew_codes-loop-place-init g t c = record {
   unvisited = search rules;
   trail = search rules;
   calm = c.requires.calm;
@@ -208,7 +208,7 @@ codes::renew_codes-loop-place-init t c = record {
 }
 
 pub codes::renew_codes-loop-place-preserved : goal.codes::renew_codes-loop-place-preserved
-codes::renew_codes-loop-place-preserved t c = record {
+codes::renew_codes-loop-place-preserved g t c = record {
   unvisited = (
     length-set c.loop-place.code-items c.loop-place.place c.renew_code.new.code ∙ c.loop-place.invariant.unvisited.0,
     λ k d le. let ne : k ≢ c.loop-place.place = omega (arith, le) in
@@ -229,20 +229,20 @@ codes::renew_codes-loop-place-preserved t c = record {
 }
 
 pub codes::renew_codes-returns-in-Err-clause-fails : goal.codes::renew_codes-returns-in-Err-clause-fails
-codes::renew_codes-returns-in-Err-clause-fails t c =
+codes::renew_codes-returns-in-Err-clause-fails g t c =
     walks_fail c.args.app.now c.args.cells.now c.args.left (trail_view c.args.trail.now) c.loop-place.code-items c.loop-place.place c.code-item.result (let lt = c.loop-place-test.true in let e = c.loop-place.invariant.unvisited.0 in omega (arith, lt, e)) c.code-item.is (trail_view c.push.new.self)
     (c.in_ok-push.ensures.view ∙ ap (λ x. at c.loop-place.place ∷ trail_view x) c.loop-place.invariant.trail) c.args.codes.now c.args.vm.now c.loop-place.vm c.in-Err.fault c.loop-place.invariant.walks
     (subst (λ z. RenewFails c.args.app.now c.args.cells.now (One c.args.app.now c.args.cells.now c.args.left (trail_view c.args.trail.now) (trail_view c.push.new.self) z) c.loop-place.vm c.in-Err.fault) (sym c.code-item.is) c.in-Err.ensures.fails)
 
 pub codes::renew_codes-returns-clause-ok : goal.codes::renew_codes-returns-clause-ok
-codes::renew_codes-returns-clause-ok t c =
+codes::renew_codes-returns-clause-ok g t c =
     walks_end c.args.app.now c.args.cells.now c.args.left (trail_view c.args.trail.now) c.args.codes.now _ c.args.vm.now c.loop-place.vm c.loop-place.code-items c.loop-place.place
     (let le = c.loop-place-test.false in let e = c.loop-place.invariant.unvisited.0 in omega (arith, le, e)) c.loop-place.invariant.walks
     (written c.loop-place.code-items (drop (length c.loop-place.code-items) c.args.codes.now.list.items) c.args.codes.now.list.len
     (c.args.codes.now.list.ok.0 ∙ (ap length (sym c.deref_mut-code-items.ensures.value) ∙ sym c.loop-place.invariant.unvisited.0)))
 
 pub codes::renew_codes-returns-clause-moved : goal.codes::renew_codes-returns-clause-moved
-codes::renew_codes-returns-clause-moved t c =
+codes::renew_codes-returns-clause-moved g t c =
     walked_end c.args.moved.now c.loop-place.moved c.args.codes.now _ c.loop-place.code-items c.loop-place.place
     (c.loop-place.invariant.unvisited.0 ∙ ap length c.deref_mut-code-items.ensures.value)
     (let le = c.loop-place-test.false in let e = c.loop-place.invariant.unvisited.0 in omega (arith, le, e))
@@ -251,14 +251,14 @@ codes::renew_codes-returns-clause-moved t c =
     c.loop-place.invariant.moved
 
 pub branches::renew_branch-returns-then-shows-main-clause-moved : goal.branches::renew_branch-returns-then-shows-main-clause-moved
-branches::renew_branch-returns-then-shows-main-clause-moved t c =
+branches::renew_branch-returns-then-shows-main-clause-moved g t c =
     let z : Tables → p.Choice = λ n. seen_choice n c.args.choice.now in
     on_ok_weaker c.renew_side.result
     (λ r. same_moved c.args.moved.now c.renew_side.new.moved z z (seen_spot c.args.spot.now) c.args.main.now (stamp_of c.args.comment.now) (stamp_of c.args.comment.now) (λ n. seen_codes n c.args.body.now) (λ n. seen_codes n c.renew_side.new.body) r)
     c.renew_side.ensures.moved
 
 pub branches::renew_branch-returns-else-shows-main-clause-moved : goal.branches::renew_branch-returns-else-shows-main-clause-moved
-branches::renew_branch-returns-else-shows-main-clause-moved t c =
+branches::renew_branch-returns-else-shows-main-clause-moved g t c =
     let z : Tables → p.Choice = λ n. seen_choice n c.args.choice.now in
     let ne : c.in_ok-shows.shows ≢ c.args.main.now = (sides_differ c.in_ok-shows.shows c.args.main.now c.if-shows-main.false) in
     on_ok_weaker c.flip.result
@@ -266,7 +266,7 @@ branches::renew_branch-returns-else-shows-main-clause-moved t c =
     c.flip.ensures.ok
 
 pub branches::renew_branch-returns-then-shows-main-clause-ok : goal.branches::renew_branch-returns-then-shows-main-clause-ok
-branches::renew_branch-returns-then-shows-main-clause-ok t c =
+branches::renew_branch-returns-then-shows-main-clause-ok g t c =
     let b = c.args.main.now in
     let e : c.in_ok-shows.shows ≡ b = (booleans_Decides c.in_ok-shows.shows b).0 c.if-shows-main.true in
     on_ok_weaker c.renew_side.result
@@ -277,7 +277,7 @@ branches::renew_branch-returns-then-shows-main-clause-ok t c =
     c.renew_side.ensures.ok
 
 pub branches::renew_branch-returns-then-shows-main-clause-fails : goal.branches::renew_branch-returns-then-shows-main-clause-fails
-branches::renew_branch-returns-then-shows-main-clause-fails t c =
+branches::renew_branch-returns-then-shows-main-clause-fails g t c =
     let b = c.args.main.now in
     let e : c.in_ok-shows.shows ≡ b = (booleans_Decides c.in_ok-shows.shows b).0 c.if-shows-main.true in
     if_err c.renew_side.result
@@ -288,7 +288,7 @@ branches::renew_branch-returns-then-shows-main-clause-fails t c =
     c.renew_side.ensures.fails
 
 pub branches::renew_branch-returns-else-shows-main-clause-ok : goal.branches::renew_branch-returns-else-shows-main-clause-ok
-branches::renew_branch-returns-else-shows-main-clause-ok t c =
+branches::renew_branch-returns-else-shows-main-clause-ok g t c =
     let s = seen_spot c.args.spot.now in
     let ne : c.in_ok-shows.shows ≢ c.args.main.now = (sides_differ c.in_ok-shows.shows c.args.main.now c.if-shows-main.false) in
     on_ok_weaker c.flip.result
@@ -297,7 +297,7 @@ branches::renew_branch-returns-else-shows-main-clause-ok t c =
     c.flip.ensures.ok
 
 pub branches::renew_branch-returns-else-shows-main-clause-fails : goal.branches::renew_branch-returns-else-shows-main-clause-fails
-branches::renew_branch-returns-else-shows-main-clause-fails t c =
+branches::renew_branch-returns-else-shows-main-clause-fails g t c =
     let s = seen_spot c.args.spot.now in
     let ne : c.in_ok-shows.shows ≢ c.args.main.now = (sides_differ c.in_ok-shows.shows c.args.main.now c.if-shows-main.false) in
     if_err c.flip.result
@@ -306,12 +306,12 @@ branches::renew_branch-returns-else-shows-main-clause-fails t c =
     (c.flip.ensures.fails s)
 
 pub codes::renew_code-returns-in-Still-clause-ok : goal.codes::renew_code-returns-in-Still-clause-ok
-codes::renew_code-returns-in-Still-clause-ok t c =
+codes::renew_code-returns-in-Still-clause-ok g t c =
     let k : Tables → p.Code = λ n. p.still_code c.in-Still.node.1 in
     arm c.args.app.now c.args.cells.now c.args.left (trail_view c.args.trail.now) c.args.code.now c.args.code.now k k c.args.vm.now c.args.vm.now (λ n. ap (seen_code n) c.in-Still.is ∙ still_is n c.in-Still.node) (λ n. ap (seen_code n) c.in-Still.is ∙ still_is n c.in-Still.node) (renews_still c.args.app.now c.args.cells.now k c.args.vm.now)
 
 pub codes::renew_code-returns-in-Let-clause-ok : goal.codes::renew_code-returns-in-Let-clause-ok
-codes::renew_code-returns-in-Let-clause-ok t c =
+codes::renew_code-returns-in-Let-clause-ok g t c =
     let k : Tables → p.Codes → p.Code = λ n cs. p.let_code (refs_made c.in-Let.made) (stamps c.in-Let.params) cs in
     let held : OnOk c.renew_let.result (Renews c.args.app.now c.args.cells.now (λ n run. along_codes_as by_number run c.args.left (main ∷ trail_view c.args.trail.now) 0 (seen_codes n c.in-Let.body)) c.args.vm.now (λ n. seen_codes n c.renew_let.new.body) c.renew_let.new.vm) =
     subst (λ z. OnOk c.renew_let.result (Renews c.args.app.now c.args.cells.now (λ n run. along_codes_as by_number run c.args.left (main ∷ trail_view c.args.trail.now) 0 (seen_codes n z)) c.args.vm.now (λ n. seen_codes n c.renew_let.new.body) c.renew_let.new.vm)) c.in-Let.body-is c.renew_let.ensures.ok in
@@ -321,7 +321,7 @@ codes::renew_code-returns-in-Let-clause-ok t c =
     held
 
 pub codes::renew_code-returns-in-Let-clause-fails : goal.codes::renew_code-returns-in-Let-clause-fails
-codes::renew_code-returns-in-Let-clause-fails t c =
+codes::renew_code-returns-in-Let-clause-fails g t c =
     let k : Tables → p.Codes → p.Code = λ n cs. p.let_code (refs_made c.in-Let.made) (stamps c.in-Let.params) cs in
     let held : IfErr c.renew_let.result (RenewFails {A = p.Codes} c.args.app.now c.args.cells.now (λ n run. along_codes_as by_number run c.args.left (main ∷ trail_view c.args.trail.now) 0 (seen_codes n c.in-Let.body)) c.args.vm.now) =
     subst (λ z. IfErr c.renew_let.result (RenewFails {A = p.Codes} c.args.app.now c.args.cells.now (λ n run. along_codes_as by_number run c.args.left (main ∷ trail_view c.args.trail.now) 0 (seen_codes n z)) c.args.vm.now)) c.in-Let.body-is c.renew_let.ensures.fails in
@@ -331,7 +331,7 @@ codes::renew_code-returns-in-Let-clause-fails t c =
     held
 
 pub codes::renew_code-returns-in-Component-clause-ok : goal.codes::renew_code-returns-in-Component-clause-ok
-codes::renew_code-returns-in-Component-clause-ok t c =
+codes::renew_code-returns-in-Component-clause-ok g t c =
     let k : Tables → p.Codes → p.Code = λ m cs. p.component_code (seen_owner m c.in-Component.owner.value) (ids.instance_id (seen_owner m c.in-Component.owner.value).id ∷ ((ids.block_id c.in-Component.block.1 ∷ refs_made c.in-Component.made) ++ refs_made c.in-Component.owner.value.cells)) (ids.block_id c.in-Component.block.1 ∷ refs_made c.in-Component.made) (name_stamps c.in-Component.args.value) (Some c.in-Component.block.1) cs in
     let held : OnOk c.renew_component.result ((i : Inst) (made gm : List ids.Id) (args : Names) (k : Option ℕ) (q : Path) → i.path ≡ path_view c.deref.result.now.path → Renews c.args.app.now c.args.cells.now (λ n run. along_code_as by_number run c.args.left q (p.component_code i made gm args k (seen_codes n c.in-Component.body))) c.args.vm.now (λ n. p.component_code i made gm args k (seen_codes n c.renew_component.new.body)) c.renew_component.new.vm) = subst (λ z. OnOk c.renew_component.result ((i : Inst) (made gm : List ids.Id) (args : Names) (k : Option ℕ) (q : Path) → i.path ≡ path_view c.deref.result.now.path → Renews c.args.app.now c.args.cells.now (λ n run. along_code_as by_number run c.args.left q (p.component_code i made gm args k (seen_codes n z))) c.args.vm.now (λ n. p.component_code i made gm args k (seen_codes n c.renew_component.new.body)) c.renew_component.new.vm)) c.in-Component.body-is c.renew_component.ensures.ok in
     on_ok_weaker c.renew_component.result
@@ -341,7 +341,7 @@ codes::renew_code-returns-in-Component-clause-ok t c =
     held
 
 pub codes::renew_code-returns-in-Component-clause-fails : goal.codes::renew_code-returns-in-Component-clause-fails
-codes::renew_code-returns-in-Component-clause-fails t c =
+codes::renew_code-returns-in-Component-clause-fails g t c =
     let k : Tables → p.Codes → p.Code = λ m cs. p.component_code (seen_owner m c.in-Component.owner.value) (ids.instance_id (seen_owner m c.in-Component.owner.value).id ∷ ((ids.block_id c.in-Component.block.1 ∷ refs_made c.in-Component.made) ++ refs_made c.in-Component.owner.value.cells)) (ids.block_id c.in-Component.block.1 ∷ refs_made c.in-Component.made) (name_stamps c.in-Component.args.value) (Some c.in-Component.block.1) cs in
     let held : (i : Inst) (made gm : List ids.Id) (args : Names) (k : Option ℕ) (q : Path) → i.path ≡ path_view c.deref.result.now.path → IfErr c.renew_component.result (RenewFails {A = p.Code} c.args.app.now c.args.cells.now (λ n run. along_code_as by_number run c.args.left q (p.component_code i made gm args k (seen_codes n c.in-Component.body))) c.args.vm.now) = subst (λ z. (i : Inst) (made gm : List ids.Id) (args : Names) (k : Option ℕ) (q : Path) → i.path ≡ path_view c.deref.result.now.path → IfErr c.renew_component.result (RenewFails {A = p.Code} c.args.app.now c.args.cells.now (λ n run. along_code_as by_number run c.args.left q (p.component_code i made gm args k (seen_codes n z))) c.args.vm.now)) c.in-Component.body-is c.renew_component.ensures.fails in
     if_err_all c.renew_component.result
@@ -350,41 +350,41 @@ codes::renew_code-returns-in-Component-clause-fails t c =
     (λ m. held (seen_owner m c.in-Component.owner.value) (ids.instance_id (seen_owner m c.in-Component.owner.value).id ∷ ((ids.block_id c.in-Component.block.1 ∷ refs_made c.in-Component.made) ++ refs_made c.in-Component.owner.value.cells)) (ids.block_id c.in-Component.block.1 ∷ refs_made c.in-Component.made) (name_stamps c.in-Component.args.value) (Some c.in-Component.block.1) (trail_view c.args.trail.now) (ap (λ (o : Owner). path_view o.path) (ap (λ z. z.value) (sym c.in-Component.owner-is) ∙ sym c.deref.ensures)))
 
 pub codes::renew_code-returns-in_ok-renew_text-in-Put-clause-ok : goal.codes::renew_code-returns-in_ok-renew_text-in-Put-clause-ok
-codes::renew_code-returns-in_ok-renew_text-in-Put-clause-ok t c =
+codes::renew_code-returns-in_ok-renew_text-in-Put-clause-ok g t c =
     let k : Tables → p.Code = λ n. p.put_code c.in-Put.node.1 (seen_spot c.in-Put.spot) in
     arm c.args.app.now c.args.cells.now c.args.left (trail_view c.args.trail.now) c.args.code.now _ k k c.args.vm.now c.renew_text.new.vm (λ n. ap (seen_code n) c.in-Put.is ∙ put_is n c.in-Put.node c.in-Put.spot) (λ n. search (rules, the_lemmas))
     (renews_by c.args.app.now c.args.cells.now (λ n. renew_text c.in-Put.node.1 c.in-Put.spot.id.1) k c.args.vm.now c.renew_text.new.vm
     (moved2 (λ (y : Id) (z : Spot). Does (λ n. renew_text y.1 z.id.1) c.args.vm.now c.renew_text.new.vm) c.in-Put.node-is c.in-Put.spot-is c.in_ok-renew_text-in-Put.ensures.step))
 
 pub codes::renew_code-returns-in-Element-clause-ok : goal.codes::renew_code-returns-in-Element-clause-ok
-codes::renew_code-returns-in-Element-clause-ok t c =
+codes::renew_code-returns-in-Element-clause-ok g t c =
     let k : Tables → p.Codes → p.Code = λ n cs. p.element_code c.in-Element.node.1 (refs_made c.in-Element.made) (map seen_attr_spot c.in-Element.attrs.items) (map seen_mod_spot c.in-Element.mods.items) cs in
     on_ok_weaker c.renew_element.result
     (λ r. arm c.args.app.now c.args.cells.now c.args.left (trail_view c.args.trail.now) c.args.code.now _ (λ n. k n (seen_codes n c.in-Element.body)) (λ n. k n (seen_codes n c.renew_element.new.body)) c.args.vm.now c.renew_element.new.vm (λ n. ap (seen_code n) c.in-Element.is ∙ element_is n c.in-Element.node c.in-Element.made c.in-Element.attrs c.in-Element.mods c.in-Element.body) (λ n. search (rules, the_lemmas)) (r (refs_made c.in-Element.made)))
     (moved4 (λ (y : Id) (xs : Vec AttrSpot Global) (zs : Vec ModSpot Global) (b : Codes). OnOk c.renew_element.result ((made : List ids.Id) → Renews c.args.app.now c.args.cells.now (λ n run. along_code_as by_number run c.args.left (trail_view c.args.trail.now) (p.element_code y.1 made (map seen_attr_spot xs.items) (map seen_mod_spot zs.items) (seen_codes n b))) c.args.vm.now (λ n. (p.element_code y.1 made (map seen_attr_spot xs.items) (map seen_mod_spot zs.items) (seen_codes n c.renew_element.new.body))) c.renew_element.new.vm)) c.in-Element.node-is c.in-Element.attrs-is c.in-Element.mods-is c.in-Element.body-is c.renew_element.ensures.ok)
 
 pub codes::renew_code-returns-in-Element-clause-fails : goal.codes::renew_code-returns-in-Element-clause-fails
-codes::renew_code-returns-in-Element-clause-fails t c =
+codes::renew_code-returns-in-Element-clause-fails g t c =
     let k : Tables → p.Codes → p.Code = λ n cs. p.element_code c.in-Element.node.1 (refs_made c.in-Element.made) (map seen_attr_spot c.in-Element.attrs.items) (map seen_mod_spot c.in-Element.mods.items) cs in
     if_err c.renew_element.result
     (λ f r. arm_fails c.args.app.now c.args.cells.now c.args.left (trail_view c.args.trail.now) c.args.code.now (λ n. k n (seen_codes n c.in-Element.body)) c.args.vm.now f (λ n. ap (seen_code n) c.in-Element.is ∙ element_is n c.in-Element.node c.in-Element.made c.in-Element.attrs c.in-Element.mods c.in-Element.body) r)
     (moved4 (λ (y : Id) (xs : Vec AttrSpot Global) (zs : Vec ModSpot Global) (b : Codes). (made : List ids.Id) → IfErr c.renew_element.result (RenewFails {A = p.Code} c.args.app.now c.args.cells.now (λ n run. along_code_as by_number run c.args.left (trail_view c.args.trail.now) (p.element_code y.1 made (map seen_attr_spot xs.items) (map seen_mod_spot zs.items) (seen_codes n b))) c.args.vm.now)) c.in-Element.node-is c.in-Element.attrs-is c.in-Element.mods-is c.in-Element.body-is c.renew_element.ensures.fails (refs_made c.in-Element.made))
 
 pub codes::renew_code-returns-in-Branch-clause-ok : goal.codes::renew_code-returns-in-Branch-clause-ok
-codes::renew_code-returns-in-Branch-clause-ok t c =
+codes::renew_code-returns-in-Branch-clause-ok g t c =
     on_ok_weaker c.renew_branch.result
     (λ r. arm c.args.app.now c.args.cells.now c.args.left (trail_view c.args.trail.now) c.args.code.now _ (λ n. p.branch_code (seen_choice n c.in-Branch.choice) (seen_spot c.in-Branch.spot) c.in-Branch.main (stamp_of c.in-Branch.comment) (seen_codes n c.in-Branch.body))
     (λ n. p.branch_code (seen_choice n c.in-Branch.choice) (seen_spot c.in-Branch.spot) c.renew_branch.new.main (stamp_of c.renew_branch.new.comment) (seen_codes n c.renew_branch.new.body)) c.args.vm.now c.renew_branch.new.vm (λ n. ap (seen_code n) c.in-Branch.is ∙ branch_is n c.in-Branch.choice c.in-Branch.spot c.in-Branch.main c.in-Branch.comment c.in-Branch.body) (λ n. search (rules, the_lemmas)) r)
     (moved5 (λ (z : Choice) (x : Spot) (u : Bool) (k : Option Id) (b : Codes). OnOk c.renew_branch.result (Renews c.args.app.now c.args.cells.now (λ n run. along_code_as by_number run c.args.left (trail_view c.args.trail.now) (p.branch_code (seen_choice n z) (seen_spot x) u (stamp_of k) (seen_codes n b))) c.args.vm.now (λ n. p.branch_code (seen_choice n z) (seen_spot x) c.renew_branch.new.main (stamp_of c.renew_branch.new.comment) (seen_codes n c.renew_branch.new.body)) c.renew_branch.new.vm)) c.in-Branch.choice-is c.in-Branch.spot-is c.in-Branch.main-is c.in-Branch.comment-is c.in-Branch.body-is c.renew_branch.ensures.ok)
 
 pub codes::renew_code-returns-in-Branch-clause-fails : goal.codes::renew_code-returns-in-Branch-clause-fails
-codes::renew_code-returns-in-Branch-clause-fails t c =
+codes::renew_code-returns-in-Branch-clause-fails g t c =
     if_err c.renew_branch.result
     (λ f r. arm_fails c.args.app.now c.args.cells.now c.args.left (trail_view c.args.trail.now) c.args.code.now (λ n. p.branch_code (seen_choice n c.in-Branch.choice) (seen_spot c.in-Branch.spot) c.in-Branch.main (stamp_of c.in-Branch.comment) (seen_codes n c.in-Branch.body)) c.args.vm.now f (λ n. ap (seen_code n) c.in-Branch.is ∙ branch_is n c.in-Branch.choice c.in-Branch.spot c.in-Branch.main c.in-Branch.comment c.in-Branch.body) r)
     (moved5 (λ (z : Choice) (x : Spot) (u : Bool) (k : Option Id) (b : Codes). IfErr c.renew_branch.result (RenewFails {A = p.Code} c.args.app.now c.args.cells.now (λ n run. along_code_as by_number run c.args.left (trail_view c.args.trail.now) (p.branch_code (seen_choice n z) (seen_spot x) u (stamp_of k) (seen_codes n b))) c.args.vm.now)) c.in-Branch.choice-is c.in-Branch.spot-is c.in-Branch.main-is c.in-Branch.comment-is c.in-Branch.body-is c.renew_branch.ensures.fails)
 
 pub codes::renew_code-returns-in-Yield-clause-ok : goal.codes::renew_code-returns-in-Yield-clause-ok
-codes::renew_code-returns-in-Yield-clause-ok t c =
+codes::renew_code-returns-in-Yield-clause-ok g t c =
     let k : Tables → p.Codes → p.Code = λ n cs. p.yield_code c.in-Yield.name (refs_made c.in-Yield.made) (stamps c.in-Yield.params) cs in
     on_ok_weaker c.renew_yield.result
     (λ r. arm c.args.app.now c.args.cells.now c.args.left (trail_view c.args.trail.now) c.args.code.now _ (λ n. k n (seen_codes n c.in-Yield.body)) (λ n. k n (seen_codes n c.renew_yield.new.body)) c.args.vm.now c.renew_yield.new.vm (λ n. ap (seen_code n) c.in-Yield.is ∙ yield_is n c.in-Yield.name c.in-Yield.made c.in-Yield.params c.in-Yield.body) (λ n. search (rules, the_lemmas))
@@ -392,7 +392,7 @@ codes::renew_code-returns-in-Yield-clause-ok t c =
     (moved2 (λ (y : Text) (b : Codes). OnOk c.renew_yield.result (Renews c.args.app.now c.args.cells.now (λ n run. along_codes_as by_number run c.args.left (slot y ∷ trail_view c.args.trail.now) 0 (seen_codes n b)) c.args.vm.now (λ n. seen_codes n c.renew_yield.new.body) c.renew_yield.new.vm)) c.in-Yield.name-is c.in-Yield.body-is c.renew_yield.ensures.ok)
 
 pub codes::renew_code-returns-in-Yield-clause-fails : goal.codes::renew_code-returns-in-Yield-clause-fails
-codes::renew_code-returns-in-Yield-clause-fails t c =
+codes::renew_code-returns-in-Yield-clause-fails g t c =
     let k : Tables → p.Codes → p.Code = λ n cs. p.yield_code c.in-Yield.name (refs_made c.in-Yield.made) (stamps c.in-Yield.params) cs in
     if_err c.renew_yield.result
     (λ f r. arm_fails c.args.app.now c.args.cells.now c.args.left (trail_view c.args.trail.now) c.args.code.now (λ n. k n (seen_codes n c.in-Yield.body)) c.args.vm.now f (λ n. ap (seen_code n) c.in-Yield.is ∙ yield_is n c.in-Yield.name c.in-Yield.made c.in-Yield.params c.in-Yield.body) (fails_in c.args.app.now c.args.cells.now (λ n run. along_codes_as by_number run c.args.left (slot c.in-Yield.name ∷ trail_view c.args.trail.now) 0 (seen_codes n c.in-Yield.body)) k (λ n st. st) c.args.vm.now f r))
@@ -401,19 +401,19 @@ codes::renew_code-returns-in-Yield-clause-fails t c =
 -- what was moved
 
 pub codes::renew_code-returns-in-Still-clause-moved : goal.codes::renew_code-returns-in-Still-clause-moved
-codes::renew_code-returns-in-Still-clause-moved t c =
+codes::renew_code-returns-in-Still-clause-moved g t c =
     let k : Tables → p.Code = λ n. p.still_code c.in-Still.node.1 in
     arm_moved c.args.moved.now c.args.moved.now c.args.code.now c.args.code.now k k (λ n. ap (seen_code n) c.in-Still.is ∙ still_is n c.in-Still.node) (λ n. ap (seen_code n) c.in-Still.is ∙ still_is n c.in-Still.node)
     (none_moved c.args.moved.now k k (λ n. refl))
 
 pub codes::renew_code-returns-in_ok-renew_text-in-Put-clause-moved : goal.codes::renew_code-returns-in_ok-renew_text-in-Put-clause-moved
-codes::renew_code-returns-in_ok-renew_text-in-Put-clause-moved t c =
+codes::renew_code-returns-in_ok-renew_text-in-Put-clause-moved g t c =
     let k : Tables → p.Code = λ n. p.put_code c.in-Put.node.1 (seen_spot c.in-Put.spot) in
     arm_moved c.args.moved.now c.args.moved.now c.args.code.now _ k k (λ n. ap (seen_code n) c.in-Put.is ∙ put_is n c.in-Put.node c.in-Put.spot) (λ n. search (rules, the_lemmas))
     (none_moved c.args.moved.now k k (λ n. refl))
 
 pub codes::renew_code-returns-in-Let-clause-moved : goal.codes::renew_code-returns-in-Let-clause-moved
-codes::renew_code-returns-in-Let-clause-moved t c =
+codes::renew_code-returns-in-Let-clause-moved g t c =
     let k : Tables → p.Codes → p.Code = λ n cs. p.let_code (refs_made c.in-Let.made) (stamps c.in-Let.params) cs in
     let held : OnOk c.renew_let.result (CodesMoved c.args.moved.now c.renew_let.new.moved (λ n. seen_codes n c.in-Let.body) (λ n. seen_codes n c.renew_let.new.body)) =
     subst (λ z. OnOk c.renew_let.result (CodesMoved c.args.moved.now c.renew_let.new.moved (λ n. seen_codes n z) (λ n. seen_codes n c.renew_let.new.body))) c.in-Let.body-is c.renew_let.ensures.moved in
@@ -422,7 +422,7 @@ codes::renew_code-returns-in-Let-clause-moved t c =
     held
 
 pub codes::renew_code-returns-in-Yield-clause-moved : goal.codes::renew_code-returns-in-Yield-clause-moved
-codes::renew_code-returns-in-Yield-clause-moved t c =
+codes::renew_code-returns-in-Yield-clause-moved g t c =
     let k : Tables → p.Codes → p.Code = λ n cs. p.yield_code c.in-Yield.name (refs_made c.in-Yield.made) (stamps c.in-Yield.params) cs in
     let m = c.args.moved.now in
     let m2 = c.renew_yield.new.moved in
@@ -433,7 +433,7 @@ codes::renew_code-returns-in-Yield-clause-moved t c =
     held
 
 pub codes::renew_code-returns-in-Component-clause-moved : goal.codes::renew_code-returns-in-Component-clause-moved
-codes::renew_code-returns-in-Component-clause-moved t c =
+codes::renew_code-returns-in-Component-clause-moved g t c =
     let k : Tables → p.Codes → p.Code = λ m cs. p.component_code (seen_owner m c.in-Component.owner.value) (ids.instance_id (seen_owner m c.in-Component.owner.value).id ∷ ((ids.block_id c.in-Component.block.1 ∷ refs_made c.in-Component.made) ++ refs_made c.in-Component.owner.value.cells)) (ids.block_id c.in-Component.block.1 ∷ refs_made c.in-Component.made) (name_stamps c.in-Component.args.value) (Some c.in-Component.block.1) cs in
     let m = c.args.moved.now in
     let m2 = c.renew_component.new.moved in
@@ -444,7 +444,7 @@ codes::renew_code-returns-in-Component-clause-moved t c =
     held
 
 pub codes::renew_code-returns-in-Element-clause-moved : goal.codes::renew_code-returns-in-Element-clause-moved
-codes::renew_code-returns-in-Element-clause-moved t c =
+codes::renew_code-returns-in-Element-clause-moved g t c =
     let k : Tables → p.Codes → p.Code = λ n cs. p.element_code c.in-Element.node.1 (refs_made c.in-Element.made) (map seen_attr_spot c.in-Element.attrs.items) (map seen_mod_spot c.in-Element.mods.items) cs in
     let m = c.args.moved.now in
     let m2 = c.renew_element.new.moved in
@@ -455,7 +455,7 @@ codes::renew_code-returns-in-Element-clause-moved t c =
     held
 
 pub codes::renew_code-returns-in-Branch-clause-moved : goal.codes::renew_code-returns-in-Branch-clause-moved
-codes::renew_code-returns-in-Branch-clause-moved t c =
+codes::renew_code-returns-in-Branch-clause-moved g t c =
     let m = c.args.moved.now in
     let m2 = c.renew_branch.new.moved in
     on_ok_weaker c.renew_branch.result
@@ -466,7 +466,7 @@ codes::renew_code-returns-in-Branch-clause-moved t c =
 -- the list that is there
 
 pub lists::renew_list-returns-in-Ok-clause-moved : goal.lists::renew_list-returns-in-Ok-clause-moved
-lists::renew_list-returns-in-Ok-clause-moved t c =
+lists::renew_list-returns-in-Ok-clause-moved g t c =
     let l = c.in-Items.list.value.listing in
     let s = c.in-Items.list.value.spot in
     let xs = c.in-Items.list.value.items in
@@ -474,7 +474,7 @@ lists::renew_list-returns-in-Ok-clause-moved t c =
     (subst (TakenOut c.args.code.now) c.in-Items.is c.in_ok-list.ensures) (λ n. ap (seen_code n) c.put_list.ensures) c.in-Ok.ensures.moved
 
 pub lists::renew_list-returns-in-Ok-renew_unlisted-clause-moved : goal.lists::renew_list-returns-in-Ok-renew_unlisted-clause-moved
-lists::renew_list-returns-in-Ok-renew_unlisted-clause-moved t c =
+lists::renew_list-returns-in-Ok-renew_unlisted-clause-moved g t c =
     let l = c.in-Other.list.value.listing in
     let s = c.in-Other.list.value.spot in
     let k = c.in-Other.list.value.comment in
@@ -483,7 +483,7 @@ lists::renew_list-returns-in-Ok-renew_unlisted-clause-moved t c =
     (subst (TakenOut c.args.code.now) c.in-Other.is c.in_ok-list.ensures) (λ n. ap (seen_code n) c.put_list-in-Ok-renew_unlisted.ensures) c.in-Ok-renew_unlisted.ensures.moved
 
 pub lists::renew_list-returns-in-Ok-clause-ok : goal.lists::renew_list-returns-in-Ok-clause-ok
-lists::renew_list-returns-in-Ok-clause-ok t c =
+lists::renew_list-returns-in-Ok-clause-ok g t c =
     let l = c.in-Items.list.value.listing in
     let s = c.in-Items.list.value.spot in
     let xs = c.in-Items.list.value.items in
@@ -491,7 +491,7 @@ lists::renew_list-returns-in-Ok-clause-ok t c =
     (subst (TakenOut c.args.code.now) c.in-Items.is c.in_ok-list.ensures) (λ n. ap (seen_code n) c.put_list.ensures) c.in-Ok.ensures.ok
 
 pub lists::renew_list-returns-in-Err-clause-fails : goal.lists::renew_list-returns-in-Err-clause-fails
-lists::renew_list-returns-in-Err-clause-fails t c =
+lists::renew_list-returns-in-Err-clause-fails g t c =
     let l = c.in-Items.list.value.listing in
     let s = c.in-Items.list.value.spot in
     let xs = c.in-Items.list.value.items in
@@ -499,7 +499,7 @@ lists::renew_list-returns-in-Err-clause-fails t c =
     (subst (TakenOut c.args.code.now) c.in-Items.is c.in_ok-list.ensures) c.in-Err.ensures.fails
 
 pub lists::renew_list-returns-in-Ok-renew_unlisted-clause-ok : goal.lists::renew_list-returns-in-Ok-renew_unlisted-clause-ok
-lists::renew_list-returns-in-Ok-renew_unlisted-clause-ok t c =
+lists::renew_list-returns-in-Ok-renew_unlisted-clause-ok g t c =
     let l = c.in-Other.list.value.listing in
     let s = c.in-Other.list.value.spot in
     let k = c.in-Other.list.value.comment in
@@ -508,7 +508,7 @@ lists::renew_list-returns-in-Ok-renew_unlisted-clause-ok t c =
     (subst (TakenOut c.args.code.now) c.in-Other.is c.in_ok-list.ensures) (λ n. ap (seen_code n) c.put_list-in-Ok-renew_unlisted.ensures) c.in-Ok-renew_unlisted.ensures.ok
 
 pub lists::renew_list-returns-in-Err-renew_unlisted-clause-fails : goal.lists::renew_list-returns-in-Err-renew_unlisted-clause-fails
-lists::renew_list-returns-in-Err-renew_unlisted-clause-fails t c =
+lists::renew_list-returns-in-Err-renew_unlisted-clause-fails g t c =
     let l = c.in-Other.list.value.listing in
     let s = c.in-Other.list.value.spot in
     let k = c.in-Other.list.value.comment in
@@ -519,7 +519,7 @@ lists::renew_list-returns-in-Err-renew_unlisted-clause-fails t c =
 -- with items
 
 pub lists::relist-returns-then-is_empty-clause-ok : goal.lists::relist-returns-then-is_empty-clause-ok
-lists::relist-returns-then-is_empty-clause-ok t c =
+lists::relist-returns-then-is_empty-clause-ok g t c =
     let z : Tables → Listing = λ n. seen_listing n c.args.list.value.listing in
     let key = c.args.list.value.listing.key in
     let s = seen_spot c.args.list.value.spot in
@@ -539,7 +539,7 @@ lists::relist-returns-then-is_empty-clause-ok t c =
     (subst (λ (b : Box Listed Global). IfOk c.end_list.result (λ r. Renews c.args.app.now c.args.cells.now (ListsNone (λ n. seen_listing n b.value.listing) (seen_spot b.value.spot) c.args.left p (λ n q. times_items q (items_of (all_items (map (seen_item_code n) b.value.items.items))))) c.read_listed.new.vm (λ n. seen_code n r.value) c.end_list.new.vm)) is.0 c.end_list.ensures.ok)
 
 pub lists::relist-returns-then-is_empty-clause-fails : goal.lists::relist-returns-then-is_empty-clause-fails
-lists::relist-returns-then-is_empty-clause-fails t c =
+lists::relist-returns-then-is_empty-clause-fails g t c =
     let z : Tables → Listing = λ n. seen_listing n c.args.list.value.listing in
     let key = c.args.list.value.listing.key in
     let s = seen_spot c.args.list.value.spot in
@@ -559,7 +559,7 @@ lists::relist-returns-then-is_empty-clause-fails t c =
     (subst (λ (b : Box Listed Global). IfErr c.end_list.result (RenewFails {A = PlainCode} c.args.app.now c.args.cells.now (ListsNone (λ n. seen_listing n b.value.listing) (seen_spot b.value.spot) c.args.left p (λ n q. times_items q (items_of (all_items (map (seen_item_code n) b.value.items.items))))) c.read_listed.new.vm)) is.0 c.end_list.ensures.fails)
 
 pub lists::relist-returns-then-is_empty-clause-moved : goal.lists::relist-returns-then-is_empty-clause-moved
-lists::relist-returns-then-is_empty-clause-moved t c =
+lists::relist-returns-then-is_empty-clause-moved g t c =
     let z : Tables → Listing = λ n. seen_listing n c.args.list.value.listing in
     let s = seen_spot c.args.list.value.spot in
     let xs : Tables → List Item = λ n. map (seen_item_code n) c.args.list.value.items.items in
@@ -567,7 +567,7 @@ lists::relist-returns-then-is_empty-clause-moved t c =
     (λ r h. ended_moved c.args.moved.now z s xs (λ n. seen_code n r.value) h) c.end_list.ensures.none
 
 pub lists::relist-returns-else-is_empty-clause-ok : goal.lists::relist-returns-else-is_empty-clause-ok
-lists::relist-returns-else-is_empty-clause-ok t c =
+lists::relist-returns-else-is_empty-clause-ok g t c =
     let z : Tables → Listing = λ n. seen_listing n c.args.list.value.listing in
     let key = c.args.list.value.listing.key in
     let s = seen_spot c.args.list.value.spot in
@@ -586,7 +586,7 @@ lists::relist-returns-else-is_empty-clause-ok t c =
     (subst (λ (b : Box Listed Global). IfOk c.sync_list.result (λ r. Renews c.args.app.now c.args.cells.now (Syncs (λ n. seen_listing n b.value.listing) (seen_spot b.value.spot) c.args.left p (seen_left es.items) (λ n. map (seen_item_code n) b.value.items.items)) c.read_listed.new.vm (λ n. seen_code n r.value) c.sync_list.new.vm)) is.0 c.sync_list.ensures.ok)
 
 pub lists::relist-returns-else-is_empty-clause-fails : goal.lists::relist-returns-else-is_empty-clause-fails
-lists::relist-returns-else-is_empty-clause-fails t c =
+lists::relist-returns-else-is_empty-clause-fails g t c =
     let z : Tables → Listing = λ n. seen_listing n c.args.list.value.listing in
     let key = c.args.list.value.listing.key in
     let s = seen_spot c.args.list.value.spot in
@@ -605,12 +605,12 @@ lists::relist-returns-else-is_empty-clause-fails t c =
     (subst (λ (b : Box Listed Global). IfErr c.sync_list.result (RenewFails {A = PlainCode} c.args.app.now c.args.cells.now (Syncs (λ n. seen_listing n b.value.listing) (seen_spot b.value.spot) c.args.left p (seen_left es.items) (λ n. map (seen_item_code n) b.value.items.items)) c.read_listed.new.vm)) is.0 c.sync_list.ensures.fails)
 
 pub lists::relist-returns-else-is_empty-clause-moved : goal.lists::relist-returns-else-is_empty-clause-moved
-lists::relist-returns-else-is_empty-clause-moved t c =
+lists::relist-returns-else-is_empty-clause-moved g t c =
     let is : IsOf c.args.list (r.Other c.in-Other.list c.in-Other.ready) = subst (IsOf c.args.list) c.in-Other.is c.in_ok-read.ensures.is in
     subst (λ (b : Box Listed Global). IfOk c.sync_list.result (λ r. CodeMoved c.args.moved.now c.sync_list.new.moved (λ n. listed_code (seen_listing n b.value.listing) (seen_spot b.value.spot) (all_items (map (seen_item_code n) b.value.items.items))) (λ n. seen_code n r.value))) is.0 c.sync_list.ensures.moved
 
 pub lists::relist-returns-in-Same-clause-ok : goal.lists::relist-returns-in-Same-clause-ok
-lists::relist-returns-in-Same-clause-ok t c =
+lists::relist-returns-in-Same-clause-ok g t c =
     let z : Tables → Listing = λ n. seen_listing n c.args.list.value.listing in
     let key = c.args.list.value.listing.key in
     let s = seen_spot c.args.list.value.spot in
@@ -628,7 +628,7 @@ lists::relist-returns-in-Same-clause-ok t c =
     (subst (λ (b : Box Listed Global). IfOk c.stay_list.result (λ r. Renews c.args.app.now c.args.cells.now (Syncs (λ n. seen_listing n b.value.listing) (seen_spot b.value.spot) c.args.left p (entries_now b.value.listing.key c.in-Same.values) (λ n. map (seen_item_code n) b.value.items.items)) c.read_listed.new.vm (λ n. seen_code n r.value) c.stay_list.new.vm)) is.0 c.stay_list.ensures.ok)
 
 pub lists::relist-returns-in-Same-clause-fails : goal.lists::relist-returns-in-Same-clause-fails
-lists::relist-returns-in-Same-clause-fails t c =
+lists::relist-returns-in-Same-clause-fails g t c =
     let z : Tables → Listing = λ n. seen_listing n c.args.list.value.listing in
     let key = c.args.list.value.listing.key in
     let s = seen_spot c.args.list.value.spot in
@@ -646,14 +646,14 @@ lists::relist-returns-in-Same-clause-fails t c =
     (subst (λ (b : Box Listed Global). IfErr c.stay_list.result (RenewFails {A = PlainCode} c.args.app.now c.args.cells.now (Syncs (λ n. seen_listing n b.value.listing) (seen_spot b.value.spot) c.args.left p (entries_now b.value.listing.key c.in-Same.values) (λ n. map (seen_item_code n) b.value.items.items)) c.read_listed.new.vm)) is.0 c.stay_list.ensures.fails)
 
 pub lists::relist-returns-in-Same-clause-moved : goal.lists::relist-returns-in-Same-clause-moved
-lists::relist-returns-in-Same-clause-moved t c =
+lists::relist-returns-in-Same-clause-moved g t c =
     let is : IsOf c.args.list (r.Same c.in-Same.list c.in-Same.values) = subst (IsOf c.args.list) c.in-Same.is c.in_ok-read.ensures.is in
     subst (λ (b : Box Listed Global). IfOk c.stay_list.result (λ r. CodeMoved c.args.moved.now c.stay_list.new.moved (λ n. listed_code (seen_listing n b.value.listing) (seen_spot b.value.spot) (all_items (map (seen_item_code n) b.value.items.items))) (λ n. seen_code n r.value))) is.0 c.stay_list.ensures.moved
 
 -- without items
 
 pub lists::renew_listed-returns-then-stale-clause-ok : goal.lists::renew_listed-returns-then-stale-clause-ok
-lists::renew_listed-returns-then-stale-clause-ok t c =
+lists::renew_listed-returns-then-stale-clause-ok g t c =
     let z : Tables → Listing = λ n. seen_listing n c.args.list.value.listing in
     let s = seen_spot c.args.list.value.spot in
     let p = trail_view c.args.trail.now in
@@ -665,7 +665,7 @@ lists::renew_listed-returns-then-stale-clause-ok t c =
     (subst (λ (b : Box Listed Global). IfOk c.relist.result (λ r. Renews c.args.app.now c.args.cells.now (Relists (λ n. seen_listing n b.value.listing) (seen_spot b.value.spot) c.args.left p (λ n. map (seen_item_code n) b.value.items.items)) c.ask_list.new.vm (λ n. seen_code n r.value) c.relist.new.vm)) c.in_ok-asked.ensures.list c.relist.ensures.ok)
 
 pub lists::renew_listed-returns-then-stale-clause-fails : goal.lists::renew_listed-returns-then-stale-clause-fails
-lists::renew_listed-returns-then-stale-clause-fails t c =
+lists::renew_listed-returns-then-stale-clause-fails g t c =
     let z : Tables → Listing = λ n. seen_listing n c.args.list.value.listing in
     let s = seen_spot c.args.list.value.spot in
     let p = trail_view c.args.trail.now in
@@ -676,11 +676,11 @@ lists::renew_listed-returns-then-stale-clause-fails t c =
     (subst (λ (b : Box Listed Global). IfErr c.relist.result (RenewFails {A = PlainCode} c.args.app.now c.args.cells.now (Relists (λ n. seen_listing n b.value.listing) (seen_spot b.value.spot) c.args.left p (λ n. map (seen_item_code n) b.value.items.items)) c.ask_list.new.vm)) c.in_ok-asked.ensures.list c.relist.ensures.fails)
 
 pub lists::renew_listed-returns-then-stale-clause-moved : goal.lists::renew_listed-returns-then-stale-clause-moved
-lists::renew_listed-returns-then-stale-clause-moved t c =
+lists::renew_listed-returns-then-stale-clause-moved g t c =
     subst (λ (b : Box Listed Global). IfOk c.relist.result (λ r. CodeMoved c.args.moved.now c.relist.new.moved (λ n. listed_code (seen_listing n b.value.listing) (seen_spot b.value.spot) (all_items (map (seen_item_code n) b.value.items.items))) (λ n. seen_code n r.value))) c.in_ok-asked.ensures.list c.relist.ensures.moved
 
 pub lists::renew_listed-returns-else-stale-clause-ok : goal.lists::renew_listed-returns-else-stale-clause-ok
-lists::renew_listed-returns-else-stale-clause-ok t c =
+lists::renew_listed-returns-else-stale-clause-ok g t c =
     let z : Tables → Listing = λ n. seen_listing n c.args.list.value.listing in
     let s = seen_spot c.args.list.value.spot in
     let p = trail_view c.args.trail.now in
@@ -692,7 +692,7 @@ lists::renew_listed-returns-else-stale-clause-ok t c =
     (subst (λ (b : Box Listed Global). IfOk c.walk_list.result (λ r. Renews c.args.app.now c.args.cells.now (GoesAlong (λ n. seen_listing n b.value.listing) (seen_spot b.value.spot) c.args.left p (λ n. map (seen_item_code n) b.value.items.items)) c.ask_list.new.vm (λ n. seen_code n r.value) c.walk_list.new.vm)) c.in_ok-asked.ensures.list c.walk_list.ensures.ok)
 
 pub lists::renew_listed-returns-else-stale-clause-fails : goal.lists::renew_listed-returns-else-stale-clause-fails
-lists::renew_listed-returns-else-stale-clause-fails t c =
+lists::renew_listed-returns-else-stale-clause-fails g t c =
     let z : Tables → Listing = λ n. seen_listing n c.args.list.value.listing in
     let s = seen_spot c.args.list.value.spot in
     let p = trail_view c.args.trail.now in
@@ -703,13 +703,13 @@ lists::renew_listed-returns-else-stale-clause-fails t c =
     (subst (λ (b : Box Listed Global). IfErr c.walk_list.result (RenewFails {A = PlainCode} c.args.app.now c.args.cells.now (GoesAlong (λ n. seen_listing n b.value.listing) (seen_spot b.value.spot) c.args.left p (λ n. map (seen_item_code n) b.value.items.items)) c.ask_list.new.vm)) c.in_ok-asked.ensures.list c.walk_list.ensures.fails)
 
 pub lists::renew_listed-returns-else-stale-clause-moved : goal.lists::renew_listed-returns-else-stale-clause-moved
-lists::renew_listed-returns-else-stale-clause-moved t c =
+lists::renew_listed-returns-else-stale-clause-moved g t c =
     subst (λ (b : Box Listed Global). IfOk c.walk_list.result (λ r. CodeMoved c.args.moved.now c.walk_list.new.moved (λ n. listed_code (seen_listing n b.value.listing) (seen_spot b.value.spot) (all_items (map (seen_item_code n) b.value.items.items))) (λ n. seen_code n r.value))) c.in_ok-asked.ensures.list c.walk_list.ensures.moved
 
 -- a list that wasn't touched
 
 pub along::walk_entered-returns-in_ok-with_items-in-Ok-clause-ok : goal.along::walk_entered-returns-in_ok-with_items-in-Ok-clause-ok
-along::walk_entered-returns-in_ok-with_items-in-Ok-clause-ok t c =
+along::walk_entered-returns-in_ok-with_items-in-Ok-clause-ok g t c =
     let l = c.args.list.value in
     let d : c.deref_mut.result.now ≡ l = c.deref_mut.ensures.value in
     let made : (n : Tables) → seen_code n c.in_ok-with_items-in-Ok.field-0.value ≡ listed_code (seen_listing n l.listing) (seen_spot l.spot) (all_items (map (seen_item_code n) c.walk_items.new.items.items)) =
@@ -718,7 +718,7 @@ along::walk_entered-returns-in_ok-with_items-in-Ok-clause-ok t c =
     (λ n. all_items (map (seen_item_code n) c.walk_items.new.items.items)) (λ n. seen_code n c.in_ok-with_items-in-Ok.field-0.value) c.args.vm.now c.walk_items.new.vm made c.in-Ok.ensures.ok
 
 pub along::walk_entered-returns-in-Err-clause-fails : goal.along::walk_entered-returns-in-Err-clause-fails
-along::walk_entered-returns-in-Err-clause-fails t c =
+along::walk_entered-returns-in-Err-clause-fails g t c =
     let l = c.args.list.value in
     let d : c.deref_mut.result.now ≡ l = c.deref_mut.ensures.value in
     subst (RenewFails {A = PlainCode} c.args.app.now c.args.cells.now (EntersList (λ n. seen_listing n l.listing) (seen_spot l.spot) c.args.left (trail_view c.args.trail.now) (λ n. map (seen_item_code n) l.items.items)) c.args.vm.now) (sym c.lost_items.ensures)
@@ -726,7 +726,7 @@ along::walk_entered-returns-in-Err-clause-fails t c =
     c.args.vm.now c.in-Err.fault c.in-Err.ensures.fails)
 
 pub along::walk_entered-returns-in_ok-with_items-in-Ok-clause-moved : goal.along::walk_entered-returns-in_ok-with_items-in-Ok-clause-moved
-along::walk_entered-returns-in_ok-with_items-in-Ok-clause-moved t c =
+along::walk_entered-returns-in_ok-with_items-in-Ok-clause-moved g t c =
     let l = c.args.list.value in
     let d : c.deref_mut.result.now ≡ l = c.deref_mut.ensures.value in
     let made : (n : Tables) → seen_code n c.in_ok-with_items-in-Ok.field-0.value ≡ listed_code (seen_listing n l.listing) (seen_spot l.spot) (all_items (map (seen_item_code n) c.walk_items.new.items.items)) =
@@ -735,7 +735,7 @@ along::walk_entered-returns-in_ok-with_items-in-Ok-clause-moved t c =
     (subst (λ (x : Listed). ItemsAlong c.args.moved.now c.walk_items.new.moved x.items.items c.walk_items.new.items.items) d c.in-Ok.ensures.moved) made
 
 pub along::walk_item-returns-in-Ok-clause-ok : goal.along::walk_item-returns-in-Ok-clause-ok
-along::walk_item-returns-in-Ok-clause-ok t c =
+along::walk_item-returns-in-Ok-clause-ok g t c =
     let x = c.args.item.now in
     let a = c.args.app.now in
     let q : Path = item (plain (view x.spot.key)) x.spot.occurrence ∷ trail_view c.args.trail.now in
@@ -746,7 +746,7 @@ along::walk_item-returns-in-Ok-clause-ok t c =
     (subst (λ w. Renews a c.args.cells.now (λ n run. along_codes_as by_number run c.args.left w 0 (seen_codes n x.body)) c.enters_body.new.vm (λ n. seen_codes n c.renew_codes.new.codes) c.renew_codes.new.vm) c.in_ok-enter_item.ensures.view c.in-Ok.ensures.ok))
 
 pub along::walk_item-returns-in-Err-clause-fails : goal.along::walk_item-returns-in-Err-clause-fails
-along::walk_item-returns-in-Err-clause-fails t c =
+along::walk_item-returns-in-Err-clause-fails g t c =
     let x = c.args.item.now in
     let a = c.args.app.now in
     let q : Path = item (plain (view x.spot.key)) x.spot.occurrence ∷ trail_view c.args.trail.now in
@@ -756,20 +756,20 @@ along::walk_item-returns-in-Err-clause-fails t c =
     (subst (λ w. RenewFails {A = PlainCodes} a c.args.cells.now (λ n run. along_codes_as by_number run c.args.left w 0 (seen_codes n x.body)) c.enters_body.new.vm c.in-Err.fault) c.in_ok-enter_item.ensures.view c.in-Err.ensures.fails))
 
 pub along::walk_item-returns-in-Ok-clause-moved : goal.along::walk_item-returns-in-Ok-clause-moved
-along::walk_item-returns-in-Ok-clause-moved t c =
+along::walk_item-returns-in-Ok-clause-moved g t c =
     let x = c.args.item.now in
     let y : ItemCode = record { spot = x.spot; comment = x.comment; body = c.renew_codes.new.codes } in
     kept_moved c.args.moved.now c.renew_codes.new.moved c.renew_codes.new.moved false (λ n. seen_item_code n x) (λ n. seen_item_code n y) (λ n. seen_codes n x.body) (λ n. seen_codes n c.renew_codes.new.codes)
     (λ n. ap (λ (z : Item). z.1.1) (item_is n x)) (λ n. ap (λ (z : Item). z.1.1) (item_is n y)) c.in-Ok.ensures.moved (omega arith)
 
 pub along::walk_item-returns-in-Ok-clause-key : goal.along::walk_item-returns-in-Ok-clause-key
-along::walk_item-returns-in-Ok-clause-key t c = λ n.
+along::walk_item-returns-in-Ok-clause-key g t c = λ n.
     let x = c.args.item.now in
     let y : ItemCode = record { spot = x.spot; comment = x.comment; body = c.renew_codes.new.codes } in
     ap spot_key (item_is n y) ∙ sym (ap spot_key (item_is n x))
 
 pub along::walk_item-returns-else-branch-clause-ok : goal.along::walk_item-returns-else-branch-clause-ok
-along::walk_item-returns-else-branch-clause-ok t c =
+along::walk_item-returns-else-branch-clause-ok g t c =
     let x = c.args.item.now in
     let a = c.args.app.now in
     let q : Path = item (plain (view x.spot.key)) x.spot.occurrence ∷ trail_view c.args.trail.now in
@@ -778,14 +778,14 @@ along::walk_item-returns-else-branch-clause-ok t c =
     c.args.vm.now c.enters_body.new.vm (λ n u agrees. c.in_ok-enters_body.ensures.asked n u agrees ∙ c.if-branch.false) c.enters_body.ensures.still)
 
 pub along::walk_item-returns-else-branch-clause-moved : goal.along::walk_item-returns-else-branch-clause-moved
-along::walk_item-returns-else-branch-clause-moved t c =
+along::walk_item-returns-else-branch-clause-moved g t c =
     let x = c.args.item.now in
     let m = c.args.moved.now in
     kept_moved m m m false (λ n. seen_item_code n x) (λ n. seen_item_code n x) (λ n. seen_codes n x.body) (λ n. seen_codes n x.body)
     (λ n. ap (λ (z : Item). z.1.1) (item_is n x)) (λ n. ap (λ (z : Item). z.1.1) (item_is n x)) (stays_moved m (λ n. seen_codes n x.body)) (omega arith)
 
 pub along::walk_items-loop-item-init : goal.along::walk_items-loop-item-init
-along::walk_items-loop-item-init t c = record {
+along::walk_items-loop-item-init g t c = record {
   unvisited = search rules;
   trail = search rules;
   calm = c.requires.calm;
@@ -794,7 +794,7 @@ along::walk_items-loop-item-init t c = record {
 }
 
 pub along::walk_items-loop-item-preserved : goal.along::walk_items-loop-item-preserved
-along::walk_items-loop-item-preserved t c = record {
+along::walk_items-loop-item-preserved g t c = record {
   unvisited = (
     length-set c.loop-item.item-items c.loop-item.item-index c.walk_item.new.item ∙ c.loop-item.invariant.unvisited.0,
     λ k d le. let ne : k ≢ c.loop-item.item-index = omega (arith, le) in get_or-set_other c.loop-item.item-items c.loop-item.item-index k c.walk_item.new.item d ne ∙ c.loop-item.invariant.unvisited.1 k d (omega (arith, le)),
@@ -812,25 +812,25 @@ along::walk_items-loop-item-preserved t c = record {
 }
 
 pub along::walk_items-returns-in-Err-clause-fails : goal.along::walk_items-returns-in-Err-clause-fails
-along::walk_items-returns-in-Err-clause-fails t c =
+along::walk_items-returns-in-Err-clause-fails g t c =
     items_fail c.args.app.now c.args.cells.now c.args.left (trail_view c.args.trail.now) c.loop-item.item-items c.loop-item.item-index c.item-item.result (let lt = c.loop-item-test.true in let e = c.loop-item.invariant.unvisited.0 in omega (arith, lt, e)) c.item-item.is c.args.items.now.items c.args.vm.now c.loop-item.vm c.in-Err.fault c.loop-item.invariant.walks
     (subst (λ w. RenewFails {A = Item} c.args.app.now c.args.cells.now (AlongItem c.args.left (trail_view w) (λ n. seen_item_code n c.item-item.result)) c.loop-item.vm c.in-Err.fault) c.loop-item.invariant.trail
     (subst (λ z. RenewFails {A = Item} c.args.app.now c.args.cells.now (AlongItem c.args.left (trail_view c.loop-item.trail) (λ n. seen_item_code n z)) c.loop-item.vm c.in-Err.fault) (sym c.item-item.is) c.in-Err.ensures.fails))
 
 pub along::walk_items-returns-clause-ok : goal.along::walk_items-returns-clause-ok
-along::walk_items-returns-clause-ok t c =
+along::walk_items-returns-clause-ok g t c =
     items_end c.args.app.now c.args.cells.now c.args.left (trail_view c.args.trail.now) c.args.items.now.items _ c.args.vm.now c.loop-item.vm c.loop-item.item-items c.loop-item.item-index (let le = c.loop-item-test.false in let e = c.loop-item.invariant.unvisited.0 in omega (arith, le, e)) c.loop-item.invariant.walks
     (written c.loop-item.item-items (drop (length c.loop-item.item-items) c.args.items.now.items) c.args.items.now.len
     (c.args.items.now.ok.0 ∙ (ap length (sym c.deref_mut-item-items.ensures.value) ∙ sym c.loop-item.invariant.unvisited.0)))
 
 pub along::walk_items-returns-clause-moved : goal.along::walk_items-returns-clause-moved
-along::walk_items-returns-clause-moved t c =
+along::walk_items-returns-clause-moved g t c =
     along_end c.args.moved.now c.loop-item.moved c.args.items.now.items _ c.loop-item.item-items c.loop-item.item-index (c.loop-item.invariant.unvisited.0 ∙ ap length c.deref_mut-item-items.ensures.value) (let le = c.loop-item-test.false in let e = c.loop-item.invariant.unvisited.0 in omega (arith, le, e))
     (written c.loop-item.item-items (drop (length c.loop-item.item-items) c.args.items.now.items) c.args.items.now.len
     (c.args.items.now.ok.0 ∙ (ap length (sym c.deref_mut-item-items.ensures.value) ∙ sym c.loop-item.invariant.unvisited.0))) c.loop-item.invariant.moved
 
 pub lists::renew_unlisted-returns-in_ok-without_items-in-Ok-clause-moved : goal.lists::renew_unlisted-returns-in_ok-without_items-in-Ok-clause-moved
-lists::renew_unlisted-returns-in_ok-without_items-in-Ok-clause-moved t c =
+lists::renew_unlisted-returns-in_ok-without_items-in-Ok-clause-moved g t c =
     let z : Tables → Listing = λ n. seen_listing n c.args.list.value.listing in
     let s = seen_spot c.args.list.value.spot in
     let p = trail_view c.args.trail.now in
@@ -846,7 +846,7 @@ lists::renew_unlisted-returns-in_ok-without_items-in-Ok-clause-moved t c =
     (subst (λ (x : Unlisted). CodesMoved c.args.moved.now c.renew_else.new.moved (λ n. seen_codes n x.body) (λ n. seen_codes n c.renew_else.new.body)) d c.in-Ok.ensures.moved)
 
 pub lists::renew_unlisted-returns-else-is_empty-clause-moved : goal.lists::renew_unlisted-returns-else-is_empty-clause-moved
-lists::renew_unlisted-returns-else-is_empty-clause-moved t c =
+lists::renew_unlisted-returns-else-is_empty-clause-moved g t c =
     let z : Tables → Listing = λ n. seen_listing n c.args.list.value.listing in
     let s = seen_spot c.args.list.value.spot in
     let p = trail_view c.args.trail.now in
@@ -858,7 +858,7 @@ lists::renew_unlisted-returns-else-is_empty-clause-moved t c =
     (λ r h. begun_moved c.args.moved.now z s k cs (λ n. seen_code n r.value) h) c.begin_list.ensures.some
 
 pub lists::renew_unlisted-returns-in_ok-without_items-in-Ok-clause-ok : goal.lists::renew_unlisted-returns-in_ok-without_items-in-Ok-clause-ok
-lists::renew_unlisted-returns-in_ok-without_items-in-Ok-clause-ok t c =
+lists::renew_unlisted-returns-in_ok-without_items-in-Ok-clause-ok g t c =
     let z : Tables → Listing = λ n. seen_listing n c.args.list.value.listing in
     let s = seen_spot c.args.list.value.spot in
     let p = trail_view c.args.trail.now in
@@ -877,7 +877,7 @@ lists::renew_unlisted-returns-in_ok-without_items-in-Ok-clause-ok t c =
     (subst (λ (x : Unlisted). Renews c.args.app.now c.args.cells.now (λ n run. along_body_as by_number run c.args.left (otherwise ∷ p) (seen_codes n x.body)) c.read_unlisted.new.vm ds c.renew_else.new.vm) d c.in-Ok.ensures.ok))
 
 pub lists::renew_unlisted-returns-in-Err-clause-fails : goal.lists::renew_unlisted-returns-in-Err-clause-fails
-lists::renew_unlisted-returns-in-Err-clause-fails t c =
+lists::renew_unlisted-returns-in-Err-clause-fails g t c =
     let z : Tables → Listing = λ n. seen_listing n c.args.list.value.listing in
     let s = seen_spot c.args.list.value.spot in
     let p = trail_view c.args.trail.now in
@@ -893,7 +893,7 @@ lists::renew_unlisted-returns-in-Err-clause-fails t c =
     (subst (λ (x : Unlisted). RenewFails {A = PlainCodes} c.args.app.now c.args.cells.now (λ n run. along_body_as by_number run c.args.left (otherwise ∷ p) (seen_codes n x.body)) c.read_unlisted.new.vm c.in-Err.fault) d c.in-Err.ensures.fails))
 
 pub lists::renew_unlisted-returns-else-is_empty-clause-ok : goal.lists::renew_unlisted-returns-else-is_empty-clause-ok
-lists::renew_unlisted-returns-else-is_empty-clause-ok t c =
+lists::renew_unlisted-returns-else-is_empty-clause-ok g t c =
     let z : Tables → Listing = λ n. seen_listing n c.args.list.value.listing in
     let s = seen_spot c.args.list.value.spot in
     let p = trail_view c.args.trail.now in
@@ -910,7 +910,7 @@ lists::renew_unlisted-returns-else-is_empty-clause-ok t c =
     (subst (λ (b : Box Unlisted Global). IfOk c.begin_list.result (λ r. Renews c.args.app.now c.args.cells.now (ListsFresh (λ n. seen_listing n b.value.listing) (seen_spot b.value.spot) c.args.left (trail_view c.args.trail.now) (seen_left es.items) (λ n q. times_in q (lives_of (seen_codes n b.value.body)) + times_comment q (stamp_of b.value.comment))) c.read_unlisted.new.vm (λ n. seen_code n r.value) c.begin_list.new.vm)) c.in_ok-read.ensures.list c.begin_list.ensures.ok)
 
 pub lists::renew_unlisted-returns-else-is_empty-clause-fails : goal.lists::renew_unlisted-returns-else-is_empty-clause-fails
-lists::renew_unlisted-returns-else-is_empty-clause-fails t c =
+lists::renew_unlisted-returns-else-is_empty-clause-fails g t c =
     let z : Tables → Listing = λ n. seen_listing n c.args.list.value.listing in
     let s = seen_spot c.args.list.value.spot in
     let p = trail_view c.args.trail.now in
@@ -929,7 +929,7 @@ lists::renew_unlisted-returns-else-is_empty-clause-fails t c =
 -- an item
 
 pub syncing::kept_item-returns-in_ok-settled-in-Ok-clause-ok : goal.syncing::kept_item-returns-in_ok-settled-in-Ok-clause-ok
-syncing::kept_item-returns-in_ok-settled-in-Ok-clause-ok t c =
+syncing::kept_item-returns-in_ok-settled-in-Ok-clause-ok g t c =
     let e = c.args.entry.value in
     let o = c.args.old.value in
     let q : Path = item (plain (view e.key)) e.occurrence ∷ trail_view c.args.trail.now in
@@ -947,7 +947,7 @@ syncing::kept_item-returns-in_ok-settled-in-Ok-clause-ok t c =
     c.in_ok-settled-in-Ok.ensures.step))
 
 pub syncing::kept_item-returns-in-Err-clause-fails : goal.syncing::kept_item-returns-in-Err-clause-fails
-syncing::kept_item-returns-in-Err-clause-fails t c =
+syncing::kept_item-returns-in-Err-clause-fails g t c =
     let e = c.args.entry.value in
     let o = c.args.old.value in
     let q : Path = item (plain (view e.key)) e.occurrence ∷ trail_view c.args.trail.now in
@@ -961,7 +961,7 @@ syncing::kept_item-returns-in-Err-clause-fails t c =
     (subst (λ w. RenewFails {A = p.Codes} c.args.app.now c.args.cells.now (λ n run. along_body_as by_number run c.args.left w (seen_codes n x.body)) c.begin_item.new.vm c.in-Err.fault) c.in_ok-kept.ensures.view c.in-Err.ensures.fails)))
 
 pub syncing::kept_item-returns-in_ok-settled-in-Ok-clause-moved : goal.syncing::kept_item-returns-in_ok-settled-in-Ok-clause-moved
-syncing::kept_item-returns-in_ok-settled-in-Ok-clause-moved t c =
+syncing::kept_item-returns-in_ok-settled-in-Ok-clause-moved g t c =
     let e = c.args.entry.value in
     let o = c.args.old.value in
     let q : Path = item (plain (view e.key)) e.occurrence ∷ trail_view c.args.trail.now in
@@ -975,7 +975,7 @@ syncing::kept_item-returns-in_ok-settled-in-Ok-clause-moved t c =
     (λ n. ap (λ (z : Item). z.1.1) (ap (seen_item_code n) (sym is) ∙ item_is n x)) (λ n. ap (λ (z : Item). z.1.1) (new n)) c.in-Ok.ensures.moved c.in_ok-settled-in-Ok.ensures.moved
 
 pub syncing::kept_item-returns-in_ok-settled-in-Ok-clause-key : goal.syncing::kept_item-returns-in_ok-settled-in-Ok-clause-key
-syncing::kept_item-returns-in_ok-settled-in-Ok-clause-key t c = λ n.
+syncing::kept_item-returns-in_ok-settled-in-Ok-clause-key g t c = λ n.
     let e = c.args.entry.value in
     let o = c.args.old.value in
     let q : Path = item (plain (view e.key)) e.occurrence ∷ trail_view c.args.trail.now in
@@ -988,52 +988,52 @@ syncing::kept_item-returns-in_ok-settled-in-Ok-clause-key t c = λ n.
     ap spot_key (new n) ∙ sym (ap spot_key (ap (seen_item_code n) (sym is) ∙ item_is n x))
 
 pub syncing::entry_item-returns-in-Some-clause-ok : goal.syncing::entry_item-returns-in-Some-clause-ok
-syncing::entry_item-returns-in-Some-clause-ok t c =
+syncing::entry_item-returns-in-Some-clause-ok g t c =
     let e = c.args.next.entry.value in
     subst (λ o. IfOk c.kept_item.result (λ r. Renews c.args.app.now c.args.cells.now (OneItem (λ n. seen_listing n c.args.listing.now) c.args.left (item (plain (view e.key)) e.occurrence ∷ trail_view c.args.trail.now) (seen_entry e) (unboxed o)) c.args.vm.now (λ n. seen_item_code n r.value) c.kept_item.new.vm))
     (sym c.in-Some.is) c.kept_item.ensures.ok
 
 pub syncing::entry_item-returns-in-Some-clause-fails : goal.syncing::entry_item-returns-in-Some-clause-fails
-syncing::entry_item-returns-in-Some-clause-fails t c =
+syncing::entry_item-returns-in-Some-clause-fails g t c =
     let e = c.args.next.entry.value in
     subst (λ o. IfErr c.kept_item.result (RenewFails {A = Item} c.args.app.now c.args.cells.now (OneItem (λ n. seen_listing n c.args.listing.now) c.args.left (item (plain (view e.key)) e.occurrence ∷ trail_view c.args.trail.now) (seen_entry e) (unboxed o)) c.args.vm.now))
     (sym c.in-Some.is) c.kept_item.ensures.fails
 
 pub syncing::entry_item-returns-in-None-clause-ok : goal.syncing::entry_item-returns-in-None-clause-ok
-syncing::entry_item-returns-in-None-clause-ok t c =
+syncing::entry_item-returns-in-None-clause-ok g t c =
     let e = c.args.next.entry.value in
     let z : Tables → Listing = λ n. seen_listing n c.args.listing.now in
     subst (λ o. IfOk c.new_item.result (λ r. Renews c.args.app.now c.args.cells.now (OneItem z c.args.left (item (plain (view e.key)) e.occurrence ∷ trail_view c.args.trail.now) (seen_entry e) (unboxed o)) c.args.vm.now (λ n. seen_item_code n r.value) c.new_item.new.vm))
     (sym c.in-None.is) (subst (λ w. IfOk c.new_item.result (λ r. Renews c.args.app.now c.args.cells.now (FreshItem z c.args.left (item (plain (view e.key)) e.occurrence ∷ w) (seen_entry e)) c.args.vm.now (λ n. seen_item_code n r.value) c.new_item.new.vm)) c.requires.base c.new_item.ensures.ok)
 
 pub syncing::entry_item-returns-in-None-clause-fails : goal.syncing::entry_item-returns-in-None-clause-fails
-syncing::entry_item-returns-in-None-clause-fails t c =
+syncing::entry_item-returns-in-None-clause-fails g t c =
     let e = c.args.next.entry.value in
     let z : Tables → Listing = λ n. seen_listing n c.args.listing.now in
     subst (λ o. IfErr c.new_item.result (RenewFails {A = Item} c.args.app.now c.args.cells.now (OneItem z c.args.left (item (plain (view e.key)) e.occurrence ∷ trail_view c.args.trail.now) (seen_entry e) (unboxed o)) c.args.vm.now))
     (sym c.in-None.is) (subst (λ w. IfErr c.new_item.result (RenewFails {A = Item} c.args.app.now c.args.cells.now (FreshItem z c.args.left (item (plain (view e.key)) e.occurrence ∷ w) (seen_entry e)) c.args.vm.now)) c.requires.base c.new_item.ensures.fails)
 
 pub syncing::entry_item-returns-in-Some-clause-moved : goal.syncing::entry_item-returns-in-Some-clause-moved
-syncing::entry_item-returns-in-Some-clause-moved t c =
+syncing::entry_item-returns-in-Some-clause-moved g t c =
     subst (λ o. IfOk c.kept_item.result (λ r. ItemMoved c.args.moved.now c.kept_item.new.moved c.args.next.moves (unboxed o) r.value)) (sym c.in-Some.is) c.kept_item.ensures.moved
 
 pub syncing::entry_item-returns-in-Some-clause-key : goal.syncing::entry_item-returns-in-Some-clause-key
-syncing::entry_item-returns-in-Some-clause-key t c =
+syncing::entry_item-returns-in-Some-clause-key g t c =
     subst (λ o. IfOk c.kept_item.result (λ r. (n : Tables) → HasKey n (unboxed o) (entry_key (seen_entry c.args.next.entry.value)) r.value)) (sym c.in-Some.is) c.kept_item.ensures.key
 
 pub syncing::entry_item-returns-in-None-clause-moved : goal.syncing::entry_item-returns-in-None-clause-moved
-syncing::entry_item-returns-in-None-clause-moved t c =
+syncing::entry_item-returns-in-None-clause-moved g t c =
     subst (λ o. IfOk c.new_item.result (λ r. ItemMoved c.args.moved.now c.args.moved.now c.args.next.moves (unboxed o) r.value)) (sym c.in-None.is)
     (IfOk-weaker c.new_item.result (λ r. (n : Tables) → spot_key (seen_item_code n r.value) ≡ entry_key (seen_entry c.args.next.entry.value)) (λ r. ItemMoved c.args.moved.now c.args.moved.now c.args.next.moves None r.value) (λ r h. refl) c.new_item.ensures.key)
 
 pub syncing::entry_item-returns-in-None-clause-key : goal.syncing::entry_item-returns-in-None-clause-key
-syncing::entry_item-returns-in-None-clause-key t c =
+syncing::entry_item-returns-in-None-clause-key g t c =
     subst (λ o. IfOk c.new_item.result (λ r. (n : Tables) → HasKey n (unboxed o) (entry_key (seen_entry c.args.next.entry.value)) r.value)) (sym c.in-None.is) c.new_item.ensures.key
 
 -- the items
 
 pub syncing::sync_items-loop-done-init : goal.syncing::sync_items-loop-done-init
-syncing::sync_items-loop-done-init t c = record {
+syncing::sync_items-loop-done-init g t c = record {
   trail = refl;
   calm = c.requires.calm;
   listing = refl;
@@ -1045,7 +1045,7 @@ syncing::sync_items-loop-done-init t c = record {
 }
 
 pub syncing::sync_items-loop-done-preserved : goal.syncing::sync_items-loop-done-preserved
-syncing::sync_items-loop-done-preserved t c =
+syncing::sync_items-loop-done-preserved g t c =
     let z = c.args.begun.now.listing in
     let base = trail_view c.args.trail.now in
     let x = c.in-Some.next in
@@ -1074,7 +1074,7 @@ syncing::sync_items-loop-done-preserved t c =
     }
 
 pub syncing::sync_items-returns-in-Err-clause-fails : goal.syncing::sync_items-returns-in-Err-clause-fails
-syncing::sync_items-returns-in-Err-clause-fails t c =
+syncing::sync_items-returns-in-Err-clause-fails g t c =
     let z = c.args.begun.now.listing in
     let base = trail_view c.args.trail.now in
     let x = c.in-Some.next in
@@ -1093,7 +1093,7 @@ syncing::sync_items-returns-in-Err-clause-fails t c =
     (subst (λ (l : ListingCode). RenewFails {A = Item} c.args.app.now c.args.cells.now (OneItem (λ n. seen_listing n l) c.args.left (item (plain (view e.key)) e.occurrence ∷ trail_view c.loop-done.trail) (seen_entry e) o) c.loop-done.vm c.in-Err.fault) c.loop-done.invariant.listing c.in-Err.ensures.fails))
 
 pub syncing::sync_items-returns-clause-ok : goal.syncing::sync_items-returns-clause-ok
-syncing::sync_items-returns-clause-ok t c =
+syncing::sync_items-returns-clause-ok g t c =
     let z = c.args.begun.now.listing in
     let base = trail_view c.args.trail.now in
     let w = c.loop-done.begun.work in
@@ -1104,13 +1104,13 @@ syncing::sync_items-returns-clause-ok t c =
     c.in_ok-end_left.ensures.step
 
 pub syncing::sync_items-returns-clause-moved : goal.syncing::sync_items-returns-clause-moved
-syncing::sync_items-returns-clause-moved t c =
+syncing::sync_items-returns-clause-moved g t c =
     let w = c.loop-done.begun.work in
     let ended : (w.waiting.items ≡ []) × (c.next.new.self.olds ≡ w.olds) = subst (Follows w c.next.new.self) c.in_default.is c.in_ok-next.ensures in
     (syncing_end c.args.moved.now c.loop-done.moved c.args.begun.now.work w c.loop-done.done.items c.loop-done.invariant.ready ended.0 c.loop-done.invariant.moved).0
 
 pub syncing::sync_items-returns-clause-keys : goal.syncing::sync_items-returns-clause-keys
-syncing::sync_items-returns-clause-keys t c =
+syncing::sync_items-returns-clause-keys g t c =
     let w = c.loop-done.begun.work in
     let ended : (w.waiting.items ≡ []) × (c.next.new.self.olds ≡ w.olds) = subst (Follows w c.next.new.self) c.in_default.is c.in_ok-next.ensures in
     (syncing_end c.args.moved.now c.loop-done.moved c.args.begun.now.work w c.loop-done.done.items c.loop-done.invariant.ready ended.0 c.loop-done.invariant.moved).1
@@ -1118,7 +1118,7 @@ syncing::sync_items-returns-clause-keys t c =
 -- all of them
 
 pub syncing::sync_list-returns-in_ok-end_sync-in-Ok-clause-ok : goal.syncing::sync_list-returns-in_ok-end_sync-in-Ok-clause-ok
-syncing::sync_list-returns-in_ok-end_sync-in-Ok-clause-ok t c =
+syncing::sync_list-returns-in_ok-end_sync-in-Ok-clause-ok g t c =
     let l = c.args.list.value in
     let d : Begun = c.deref_mut.result.now in
     let b : Begun = c.in_ok-begun.begun.value in
@@ -1136,7 +1136,7 @@ syncing::sync_list-returns-in_ok-end_sync-in-Ok-clause-ok t c =
     (subst (λ (z : ListingCode). Renews c.args.app.now c.args.cells.now (SyncItems (λ n. seen_listing n z) c.args.left (trail_view c.begin_sync.new.trail) (seen_left d.work.waiting.items) (λ n. map (seen_item_code n) (there d.work.olds.items))) c.args.vm.now (λ n. all_items (map (seen_item_code n) news)) c.sync_items.new.vm) listing c.in-Ok.ensures.ok)
 
 pub syncing::sync_list-returns-in-Err-clause-fails : goal.syncing::sync_list-returns-in-Err-clause-fails
-syncing::sync_list-returns-in-Err-clause-fails t c =
+syncing::sync_list-returns-in-Err-clause-fails g t c =
     let l = c.args.list.value in
     let d : Begun = c.deref_mut.result.now in
     let b : Begun = c.in_ok-begun.begun.value in
@@ -1152,7 +1152,7 @@ syncing::sync_list-returns-in-Err-clause-fails t c =
     (subst (λ (z : ListingCode). RenewFails {A = ItemCodes} c.args.app.now c.args.cells.now (SyncItems (λ n. seen_listing n z) c.args.left (trail_view c.begin_sync.new.trail) (seen_left d.work.waiting.items) (λ n. map (seen_item_code n) (there d.work.olds.items))) c.args.vm.now c.in-Err.fault) listing c.in-Err.ensures.fails))
 
 pub syncing::sync_list-returns-in_ok-end_sync-in-Ok-clause-moved : goal.syncing::sync_list-returns-in_ok-end_sync-in-Ok-clause-moved
-syncing::sync_list-returns-in_ok-end_sync-in-Ok-clause-moved t c =
+syncing::sync_list-returns-in_ok-end_sync-in-Ok-clause-moved g t c =
     let l = c.args.list.value in
     let d : Begun = c.deref_mut.result.now in
     let b : Begun = c.in_ok-begun.begun.value in
@@ -1173,7 +1173,7 @@ syncing::sync_list-returns-in_ok-end_sync-in-Ok-clause-moved t c =
 -- a list whose keys stay
 
 pub staying::stay_items-loop-kept-init : goal.staying::stay_items-loop-kept-init
-staying::stay_items-loop-kept-init t c = record {
+staying::stay_items-loop-kept-init g t c = record {
   unvisited = search rules;
   trail = search rules;
   calm = c.requires.calm;
@@ -1183,7 +1183,7 @@ staying::stay_items-loop-kept-init t c = record {
 }
 
 pub staying::stay_items-loop-kept-preserved : goal.staying::stay_items-loop-kept-preserved
-staying::stay_items-loop-kept-preserved t c =
+staying::stay_items-loop-kept-preserved g t c =
     let w = c.loop-kept in
     let lt : w.kept-index < length w.kept-items = (let l = c.loop-kept-test.true in let e = w.invariant.unvisited.0 in omega (arith, l, e)) in
     let long : length w.kept-items ≡ length c.args.items.now.items = w.invariant.unvisited.0 ∙ ap length c.deref_mut-kept-items.ensures.value in
@@ -1208,7 +1208,7 @@ staying::stay_items-loop-kept-preserved t c =
     }
 
 pub staying::stay_items-returns-in-Err-clause-fails : goal.staying::stay_items-returns-in-Err-clause-fails
-staying::stay_items-returns-in-Err-clause-fails t c =
+staying::stay_items-returns-in-Err-clause-fails g t c =
     let w = c.loop-kept in
     let lt : w.kept-index < length w.kept-items = (let l = c.loop-kept-test.true in let e = w.invariant.unvisited.0 in omega (arith, l, e)) in
     let long : length w.kept-items ≡ length c.args.items.now.items = w.invariant.unvisited.0 ∙ ap length c.deref_mut-kept-items.ensures.value in
@@ -1221,7 +1221,7 @@ staying::stay_items-returns-in-Err-clause-fails t c =
     (subst (λ z. RenewFails {A = Item} c.args.app.now c.args.cells.now (AlongItem c.args.left (trail_view w.trail) (λ n. seen_item_code n z)) c.give_at.new.vm c.in-Err.fault) (sym c.kept-item.is) c.in-Err.ensures.fails))
 
 pub staying::stay_items-returns-clause-ok : goal.staying::stay_items-returns-clause-ok
-staying::stay_items-returns-clause-ok t c =
+staying::stay_items-returns-clause-ok g t c =
     let w = c.loop-kept in
     let long : length w.kept-items ≡ length c.args.items.now.items = w.invariant.unvisited.0 ∙ ap length c.deref_mut-kept-items.ensures.value in
     stays_end c.args.app.now c.args.cells.now c.args.left (trail_view c.args.trail.now) c.args.values.now c.args.items.now.items w.kept-items _ c.args.vm.now w.vm c.end_none.new.vm w.kept-index (let le = c.loop-kept-test.false in let e = w.invariant.unvisited.0 in omega (arith, le, e)) long
@@ -1229,13 +1229,13 @@ staying::stay_items-returns-clause-ok t c =
     w.invariant.stays c.in_ok-end_none.ensures.step
 
 pub staying::stay_items-returns-clause-moved : goal.staying::stay_items-returns-clause-moved
-staying::stay_items-returns-clause-moved t c =
+staying::stay_items-returns-clause-moved g t c =
     let w = c.loop-kept in
     along_end c.args.moved.now w.moved c.args.items.now.items _ w.kept-items w.kept-index (w.invariant.unvisited.0 ∙ ap length c.deref_mut-kept-items.ensures.value) (let le = c.loop-kept-test.false in let e = w.invariant.unvisited.0 in omega (arith, le, e))
     (written w.kept-items (drop (length w.kept-items) c.args.items.now.items) c.args.items.now.len (c.args.items.now.ok.0 ∙ (ap length (sym c.deref_mut-kept-items.ensures.value) ∙ sym w.invariant.unvisited.0))) w.invariant.moved
 
 pub staying::stay_list-returns-in_ok-end_stay-in-Ok-clause-ok : goal.staying::stay_list-returns-in_ok-end_stay-in-Ok-clause-ok
-staying::stay_list-returns-in_ok-end_stay-in-Ok-clause-ok t c =
+staying::stay_list-returns-in_ok-end_stay-in-Ok-clause-ok g t c =
     let l = c.args.list.value in
     let d : c.deref_mut.result.now ≡ l = c.deref_mut.ensures.value ∙ ap (λ (b : Box Listed Global). b.value) c.in_ok-begun.ensures.list in
     let made : (n : Tables) → seen_code n c.in_ok-end_stay-in-Ok.field-0.value ≡ listed_code (seen_listing n l.listing) (seen_spot l.spot) (all_items (map (seen_item_code n) c.stay_items.new.items.items)) =
@@ -1248,7 +1248,7 @@ staying::stay_list-returns-in_ok-end_stay-in-Ok-clause-ok t c =
     c.in_ok-begun.ensures.view same (ap (λ (x : Listed). x.items.items) d) (λ n. all_items (map (seen_item_code n) c.stay_items.new.items.items)) (λ n. seen_code n c.in_ok-end_stay-in-Ok.field-0.value) c.args.vm.now c.stay_items.new.vm made (c.in-Ok.ensures.ok l.listing.key keys l.listing)
 
 pub staying::stay_list-returns-in-Err-clause-fails : goal.staying::stay_list-returns-in-Err-clause-fails
-staying::stay_list-returns-in-Err-clause-fails t c =
+staying::stay_list-returns-in-Err-clause-fails g t c =
     let l = c.args.list.value in
     let d : c.deref_mut.result.now ≡ l = c.deref_mut.ensures.value ∙ ap (λ (b : Box Listed Global). b.value) c.in_ok-begun.ensures.list in
     let es = entries_now l.listing.key c.args.values in
@@ -1260,7 +1260,7 @@ staying::stay_list-returns-in-Err-clause-fails t c =
     c.in_ok-begun.ensures.view same (ap (λ (x : Listed). x.items.items) d) c.args.vm.now c.in-Err.fault (c.in-Err.ensures.fails l.listing.key keys l.listing))
 
 pub staying::stay_list-returns-in_ok-end_stay-in-Ok-clause-moved : goal.staying::stay_list-returns-in_ok-end_stay-in-Ok-clause-moved
-staying::stay_list-returns-in_ok-end_stay-in-Ok-clause-moved t c =
+staying::stay_list-returns-in_ok-end_stay-in-Ok-clause-moved g t c =
     let l = c.args.list.value in
     let d : c.deref_mut.result.now ≡ l = c.deref_mut.ensures.value ∙ ap (λ (b : Box Listed Global). b.value) c.in_ok-begun.ensures.list in
     let made : (n : Tables) → seen_code n c.in_ok-end_stay-in-Ok.field-0.value ≡ listed_code (seen_listing n l.listing) (seen_spot l.spot) (all_items (map (seen_item_code n) c.stay_items.new.items.items)) =

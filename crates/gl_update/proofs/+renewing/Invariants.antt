@@ -19,83 +19,83 @@ abbrev room : ℕ → ℕ → ℕ → ℕ
 room left steps rank = 16 * (left * (2 ^ 64 + 1) + (2 ^ 64 - steps)) + rank
 
 abbrev pub decreases-codes::renew_code : goal.decreases-codes::renew_code
-decreases-codes::renew_code l = room l.left (length l.trail.now.path.steps) 10
+decreases-codes::renew_code g l = room l.left (length l.trail.now.path.steps) 10
 
 abbrev pub decreases-codes::renew_component : goal.decreases-codes::renew_component
-decreases-codes::renew_component l = 16 * (l.left * (2 ^ 64 + 1)) + 7
+decreases-codes::renew_component g l = 16 * (l.left * (2 ^ 64 + 1)) + 7
 
 abbrev pub decreases-codes::renew_element : goal.decreases-codes::renew_element
-decreases-codes::renew_element l = room l.left (length l.trail.now.path.steps) 1
+decreases-codes::renew_element g l = room l.left (length l.trail.now.path.steps) 1
 
 abbrev pub decreases-codes::renew_let : goal.decreases-codes::renew_let
-decreases-codes::renew_let l = room l.left (length l.trail.now.path.steps) 2
+decreases-codes::renew_let g l = room l.left (length l.trail.now.path.steps) 2
 
 abbrev pub decreases-codes::renew_else : goal.decreases-codes::renew_else
-decreases-codes::renew_else l = room l.left (length l.trail.now.path.steps) 3
+decreases-codes::renew_else g l = room l.left (length l.trail.now.path.steps) 3
 
 abbrev pub decreases-codes::renew_yield : goal.decreases-codes::renew_yield
-decreases-codes::renew_yield l = room l.left (length l.trail.now.path.steps) 2
+decreases-codes::renew_yield g l = room l.left (length l.trail.now.path.steps) 2
 
 abbrev pub decreases-codes::renew_below : goal.decreases-codes::renew_below
-decreases-codes::renew_below l = room l.left (length l.trail.now.path.steps) 1
+decreases-codes::renew_below g l = room l.left (length l.trail.now.path.steps) 1
 
 abbrev pub decreases-codes::renew_codes : goal.decreases-codes::renew_codes
-decreases-codes::renew_codes l = room l.left (length l.trail.now.path.steps) 0
+decreases-codes::renew_codes g l = room l.left (length l.trail.now.path.steps) 0
 
 abbrev pub decreases-codes::renew_body : goal.decreases-codes::renew_body
-decreases-codes::renew_body l = room l.left (length l.trail.now.path.steps) 1
+decreases-codes::renew_body g l = room l.left (length l.trail.now.path.steps) 1
 
 abbrev pub decreases-codes::renew_side : goal.decreases-codes::renew_side
-decreases-codes::renew_side l = room l.left (length l.trail.now.path.steps) 2
+decreases-codes::renew_side g l = room l.left (length l.trail.now.path.steps) 2
 
 abbrev pub decreases-branches::renew_branch : goal.decreases-branches::renew_branch
-decreases-branches::renew_branch l = room l.left (length l.trail.now.path.steps) 3
+decreases-branches::renew_branch g l = room l.left (length l.trail.now.path.steps) 3
 
 abbrev pub decreases-lists::renew_list : goal.decreases-lists::renew_list
-decreases-lists::renew_list l = room l.left (length l.trail.now.path.steps) 9
+decreases-lists::renew_list g l = room l.left (length l.trail.now.path.steps) 9
 
 abbrev pub decreases-lists::renew_listed : goal.decreases-lists::renew_listed
-decreases-lists::renew_listed l = room l.left (length l.trail.now.path.steps) 8
+decreases-lists::renew_listed g l = room l.left (length l.trail.now.path.steps) 8
 
 abbrev pub decreases-lists::relist : goal.decreases-lists::relist
-decreases-lists::relist l = room l.left (length l.trail.now.path.steps) 7
+decreases-lists::relist g l = room l.left (length l.trail.now.path.steps) 7
 
 abbrev pub decreases-along::walk_list : goal.decreases-along::walk_list
-decreases-along::walk_list l = room l.left (length l.trail.now.path.steps) 6
+decreases-along::walk_list g l = room l.left (length l.trail.now.path.steps) 6
 
 abbrev pub decreases-along::walk_entered : goal.decreases-along::walk_entered
-decreases-along::walk_entered l = room l.left (length l.trail.now.path.steps) 5
+decreases-along::walk_entered g l = room l.left (length l.trail.now.path.steps) 5
 
 abbrev pub decreases-along::walk_items : goal.decreases-along::walk_items
-decreases-along::walk_items l = room l.left (length l.trail.now.path.steps) 4
+decreases-along::walk_items g l = room l.left (length l.trail.now.path.steps) 4
 
 abbrev pub decreases-along::walk_item : goal.decreases-along::walk_item
-decreases-along::walk_item l = room l.left (length l.trail.now.path.steps) 3
+decreases-along::walk_item g l = room l.left (length l.trail.now.path.steps) 3
 
 abbrev pub decreases-lists::renew_unlisted : goal.decreases-lists::renew_unlisted
-decreases-lists::renew_unlisted l = room l.left (length l.trail.now.path.steps) 6
+decreases-lists::renew_unlisted g l = room l.left (length l.trail.now.path.steps) 6
 
 abbrev pub decreases-staying::stay_list : goal.decreases-staying::stay_list
-decreases-staying::stay_list l = room l.left (length l.trail.now.path.steps) 5
+decreases-staying::stay_list g l = room l.left (length l.trail.now.path.steps) 5
 
 abbrev pub decreases-staying::stay_items : goal.decreases-staying::stay_items
-decreases-staying::stay_items l = room l.left (length l.trail.now.path.steps) 4
+decreases-staying::stay_items g l = room l.left (length l.trail.now.path.steps) 4
 
 abbrev pub decreases-syncing::sync_list : goal.decreases-syncing::sync_list
-decreases-syncing::sync_list l = room l.left (length l.trail.now.path.steps) 5
+decreases-syncing::sync_list g l = room l.left (length l.trail.now.path.steps) 5
 
 abbrev pub decreases-syncing::sync_items : goal.decreases-syncing::sync_items
-decreases-syncing::sync_items l = room l.left (length l.trail.now.path.steps) 4
+decreases-syncing::sync_items g l = room l.left (length l.trail.now.path.steps) 4
 
 abbrev pub decreases-syncing::entry_item : goal.decreases-syncing::entry_item
-decreases-syncing::entry_item l = room l.left (length l.trail.now.path.steps) 3
+decreases-syncing::entry_item g l = room l.left (length l.trail.now.path.steps) 3
 
 abbrev pub decreases-syncing::kept_item : goal.decreases-syncing::kept_item
-decreases-syncing::kept_item l = room l.left (length l.trail.now.path.steps) 2
+decreases-syncing::kept_item g l = room l.left (length l.trail.now.path.steps) 2
 
 -- where what is left goes on, all goes
 abbrev pub invariant-codes::renew_codes-loop-place : goal.invariant-codes::renew_codes-loop-place
-invariant-codes::renew_codes-loop-place l = record {
+invariant-codes::renew_codes-loop-place g l = record {
   unvisited : goal.unvisited-codes::renew_codes-loop-place l;
   trail : l.trail ≡ l.fn.trail;
   calm : Calm l.vm;
@@ -104,7 +104,7 @@ invariant-codes::renew_codes-loop-place l = record {
 }
 
 abbrev pub invariant-along::walk_items-loop-item : goal.invariant-along::walk_items-loop-item
-invariant-along::walk_items-loop-item l = record {
+invariant-along::walk_items-loop-item g l = record {
   unvisited : goal.unvisited-along::walk_items-loop-item l;
   trail : l.trail ≡ l.fn.trail;
   calm : Calm l.vm;
@@ -113,7 +113,7 @@ invariant-along::walk_items-loop-item l = record {
 }
 
 abbrev pub invariant-staying::stay_items-loop-kept : goal.invariant-staying::stay_items-loop-kept
-invariant-staying::stay_items-loop-kept l = record {
+invariant-staying::stay_items-loop-kept g l = record {
   unvisited : goal.unvisited-staying::stay_items-loop-kept l;
   trail : l.trail ≡ l.fn.trail;
   calm : Calm l.vm;
@@ -123,7 +123,7 @@ invariant-staying::stay_items-loop-kept l = record {
 }
 
 abbrev pub invariant-syncing::sync_items-loop-done : goal.invariant-syncing::sync_items-loop-done
-invariant-syncing::sync_items-loop-done l = record {
+invariant-syncing::sync_items-loop-done g l = record {
   trail : l.trail ≡ l.fn.trail;
   calm : Calm l.vm;
   listing : l.begun.listing ≡ l.fn.begun.listing;
@@ -136,4 +136,4 @@ invariant-syncing::sync_items-loop-done l = record {
 }
 
 abbrev pub decreases-syncing::sync_items-loop-done : goal.decreases-syncing::sync_items-loop-done
-decreases-syncing::sync_items-loop-done l = vec_len l.begun.work.waiting
+decreases-syncing::sync_items-loop-done g l = vec_len l.begun.work.waiting

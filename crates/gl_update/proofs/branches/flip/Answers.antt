@@ -10,7 +10,7 @@ use Rattle.gl_update.proofs.Branching.{fresh_renews, fresh_fails}
 use Rattle.gl_update.proofs.branches.flip.Goals as goal
 
 pub returns-in_ok-comment-in-Ok-clause-ok : goal.returns-in_ok-comment-in-Ok-clause-ok
-returns-in_ok-comment-in-Ok-clause-ok c = λ s.
+returns-in_ok-comment-in-Ok-clause-ok g c = λ s.
     let p = trail_view c.args.trail.now in
     let b = c.args.shows in
     let path = path_view c.in_ok-path.path in
@@ -22,7 +22,7 @@ returns-in_ok-comment-in-Ok-clause-ok c = λ s.
     c.in-Ok.ensures.ok (λ n u ag. c.in_ok-comment-in-Ok.ensures.step n u ag)
 
 pub returns-in-Err-clause-fails : goal.returns-in-Err-clause-fails
-returns-in-Err-clause-fails c = λ s.
+returns-in-Err-clause-fails g c = λ s.
     let p = trail_view c.args.trail.now in
     let b = c.args.shows in
     let path = path_view c.in_ok-path.path in

@@ -15,7 +15,7 @@ use Rattle.gl_update.proofs.FreshItems.{fresh_renews, fresh_fails}
 use Rattle.gl_update.proofs.items.fresh_item.Goals as goal
 
 pub returns-clause-ok : goal.returns-clause-ok
-returns-clause-ok c =
+returns-clause-ok g c =
     let z = c.args.listing.now in
     IfOk-weaker c.item_body.result
     (λ r. Renews c.args.app.now c.args.cells.now (BodyItem (λ n. start (seen_sight n c.in_ok-sight.sight) z.body (path_view c.args.path) c.args.left) (seen_item_spot (record { key = c.args.entry.key; occurrence = c.args.entry.occurrence; value = c.in_ok-value.value; index = c.in_ok-index.index; params = c.in_ok-params.params }))) c.item-2.new.self (λ n. seen_item_code n r) c.item_body.new.vm)
@@ -25,7 +25,7 @@ returns-clause-ok c =
     c.item_body.ensures.ok
 
 pub returns-clause-fails : goal.returns-clause-fails
-returns-clause-fails c =
+returns-clause-fails g c =
     let z = c.args.listing.now in
     IfErr-weaker c.item_body.result
     (RenewFails {A = Item} c.args.app.now c.args.cells.now (BodyItem (λ n. start (seen_sight n c.in_ok-sight.sight) z.body (path_view c.args.path) c.args.left) (seen_item_spot (record { key = c.args.entry.key; occurrence = c.args.entry.occurrence; value = c.in_ok-value.value; index = c.in_ok-index.index; params = c.in_ok-params.params }))) c.item-2.new.self)
@@ -35,7 +35,7 @@ returns-clause-fails c =
     c.item_body.ensures.fails
 
 pub returns-clause-key : goal.returns-clause-key
-returns-clause-key c =
+returns-clause-key g c =
     let spot : PlainItemSpot = seen_item_spot (record { key = c.args.entry.key; occurrence = c.args.entry.occurrence; value = c.in_ok-value.value; index = c.in_ok-index.index; params = c.in_ok-params.params }) in
     IfOk-weaker c.item_body.result
     (λ r. (n : Tables) → (seen_item_code n r).0 ≡ spot) (λ r. (n : Tables) → spot_key (seen_item_code n r) ≡ entry_key (seen_entry c.args.entry))

@@ -6,10 +6,10 @@ use Rattle.gl_update.proofs.FreshItems.{All, Left}
 use Rattle.gl_update.proofs.items.fresh_items.Given as goal
 
 abbrev pub invariant-loop-entry : goal.invariant-loop-entry
-invariant-loop-entry l = record {
+invariant-loop-entry g l = record {
   calm : Calm l.vm;
   onward : Onward l.app l.cells (All l.app l.cells l.left l.listing (path_view l.base) l.fn.entries.items) l.fn.vm (Left l.app l.cells l.left l.listing (path_view l.base) l.done.items l.waiting.items) l.vm;
 }
 
 abbrev pub decreases-loop-entry : goal.decreases-loop-entry
-decreases-loop-entry l = vec_len l.waiting
+decreases-loop-entry g l = vec_len l.waiting

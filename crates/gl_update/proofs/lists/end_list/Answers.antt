@@ -11,14 +11,14 @@ use Rattle.gl_update.specs.declared.taken.Listed.{Listed}
 use Rattle.gl_update.proofs.lists.end_list.Goals as goal
 
 pub returns-in-Ok-clause-ok : goal.returns-in-Ok-clause-ok
-returns-in-Ok-clause-ok c =
+returns-in-Ok-clause-ok g c =
     let new = c.in_ok-boxed_code-in-Ok.field-0.value in
     subst (λ (l : Listed). Renews c.args.app.now c.args.cells.now (ListsNone (λ n. seen_listing n l.listing) (seen_spot l.spot) c.args.left (trail_view c.args.trail.now) (λ n q. times_items q (lives_in (all_items (map (seen_item_code n) l.items.items))))) c.args.vm.now (λ n. seen_code n new) c.unlist.new.vm) c.into_inner-list.ensures
     (subst (λ (y : Code). Renews c.args.app.now c.args.cells.now (ListsNone (λ n. seen_listing n c.into_inner-list.result.listing) (seen_spot c.into_inner-list.result.spot) c.args.left (trail_view c.args.trail.now) (λ n q. times_items q (lives_in (all_items (map (seen_item_code n) c.into_inner-list.result.items.items))))) c.args.vm.now (λ n. seen_code n y) c.unlist.new.vm) (sym c.in_ok-boxed_code-in-Ok.ensures) c.in-Ok.ensures.ok)
 
 pub returns-in-Ok-clause-none : goal.returns-in-Ok-clause-none
-returns-in-Ok-clause-none c = λ n. subst (λ (y : Code). IsUnlisted (live_of (seen_code n y))) (sym c.in_ok-boxed_code-in-Ok.ensures) (c.in-Ok.ensures.none n)
+returns-in-Ok-clause-none g c = λ n. subst (λ (y : Code). IsUnlisted (live_of (seen_code n y))) (sym c.in_ok-boxed_code-in-Ok.ensures) (c.in-Ok.ensures.none n)
 
 pub returns-clause-fails : goal.returns-clause-fails
-returns-clause-fails c =
+returns-clause-fails g c =
     subst (λ (l : Listed). RenewFails {A = PlainCode} c.args.app.now c.args.cells.now (ListsNone (λ n. seen_listing n l.listing) (seen_spot l.spot) c.args.left (trail_view c.args.trail.now) (λ n q. times_items q (lives_in (all_items (map (seen_item_code n) l.items.items))))) c.args.vm.now c.in-Err.fault) c.into_inner-list.ensures c.in-Err.ensures.fails

@@ -15,7 +15,7 @@ use Rattle.gl_update.proofs.Renewing.{renews_as}
 use Rattle.gl_update.proofs.lists.list_items.Goals as goal
 
 pub returns-in-Ok-clause-ok : goal.returns-in-Ok-clause-ok
-returns-in-Ok-clause-ok c =
+returns-in-Ok-clause-ok g c =
     let z : Tables → Listing = λ n. seen_listing n c.args.listing in
     let s = seen_spot c.args.spot in
     let p = trail_view c.args.trail.now in
@@ -27,7 +27,7 @@ returns-in-Ok-clause-ok c =
     (subst (λ q. Renews c.args.app.now c.args.cells.now (FreshItems z c.args.left q es) c.end_branch.new.vm is c.fresh_items.new.vm) c.in_ok-base.ensures c.in-Ok.ensures.ok))
 
 pub returns-in-Err-clause-fails : goal.returns-in-Err-clause-fails
-returns-in-Err-clause-fails c =
+returns-in-Err-clause-fails g c =
     let z : Tables → Listing = λ n. seen_listing n c.args.listing in
     let s = seen_spot c.args.spot in
     let p = trail_view c.args.trail.now in
@@ -37,4 +37,4 @@ returns-in-Err-clause-fails c =
     (subst (λ q. RenewFails {A = ItemCodes} c.args.app.now c.args.cells.now (FreshItems z c.args.left q es) c.end_branch.new.vm c.in-Err.fault) c.in_ok-base.ensures c.in-Err.ensures.fails)
 
 pub returns-in-Ok-clause-some : goal.returns-in-Ok-clause-some
-returns-in-Ok-clause-some c = λ n. is_listed (seen_code n c.listed.result) (seen_listing n c.args.listing) (seen_spot c.args.spot) (map (seen_item_code n) c.in-Ok.items.items) (c.listed.ensures n)
+returns-in-Ok-clause-some g c = λ n. is_listed (seen_code n c.listed.result) (seen_listing n c.args.listing) (seen_spot c.args.spot) (map (seen_item_code n) c.in-Ok.items.items) (c.listed.ensures n)

@@ -18,7 +18,7 @@ use Rattle.gl_update.proofs.Renewing.{renews_as}
 use Rattle.gl_update.proofs.lists.unlist.Goals as goal
 
 pub returns-in_ok-comment-in-Ok-clause-ok : goal.returns-in_ok-comment-in-Ok-clause-ok
-returns-in_ok-comment-in-Ok-clause-ok c =
+returns-in_ok-comment-in-Ok-clause-ok g c =
     let z : Tables → Listing = λ n. seen_listing n c.args.listing in
     let s = seen_spot c.args.spot in
     let p = trail_view c.args.trail.now in
@@ -31,7 +31,7 @@ returns-in_ok-comment-in-Ok-clause-ok c =
     (λ n. ap₂ (λ w q. start w c.args.listing.other q c.args.left) (c.in_ok-sight.ensures n ∙ ap (seen_sight n) c.as_ref.ensures) c.in_ok-path.ensures) c.in-Ok.ensures.ok c.in_ok-comment-in-Ok.ensures.step)
 
 pub returns-in-Err-clause-fails : goal.returns-in-Err-clause-fails
-returns-in-Err-clause-fails c =
+returns-in-Err-clause-fails g c =
     let z : Tables → Listing = λ n. seen_listing n c.args.listing in
     let s = seen_spot c.args.spot in
     let p = trail_view c.args.trail.now in
@@ -42,4 +42,4 @@ returns-in-Err-clause-fails c =
     (λ n. ap₂ (λ w q. start w c.args.listing.other q c.args.left) (c.in_ok-sight.ensures n ∙ ap (seen_sight n) c.as_ref.ensures) c.in_ok-path.ensures) c.in-Err.ensures.fails
 
 pub returns-in_ok-comment-in-Ok-clause-none : goal.returns-in_ok-comment-in-Ok-clause-none
-returns-in_ok-comment-in-Ok-clause-none c = λ n. is_unlisted (seen_code n c.unlisted.result) (seen_listing n c.args.listing) (seen_spot c.args.spot) (stamp_of c.in_ok-comment-in-Ok.comment) (seen_codes n c.in-Ok.codes) (c.unlisted.ensures n)
+returns-in_ok-comment-in-Ok-clause-none g c = λ n. is_unlisted (seen_code n c.unlisted.result) (seen_listing n c.args.listing) (seen_spot c.args.spot) (stamp_of c.in_ok-comment-in-Ok.comment) (seen_codes n c.in-Ok.codes) (c.unlisted.ensures n)

@@ -16,7 +16,7 @@ use Rattle.gl_update.proofs.MovedCodes.{page_moved}
 use Rattle.gl_update.proofs.pages.renew_page.Goals as goal
 
 pub returns-in-Ok-clause-ok : goal.returns-in-Ok-clause-ok
-returns-in-Ok-clause-ok c =
+returns-in-Ok-clause-ok g c =
     let a = c.args.app.now in
     let m = c.manifest.result.now.limit - 1 in
     let one : c.manifest.result.now.limit ≡ suc m = (let ne = c.if-limit-eq0.false in omega (arith, ne)) in
@@ -27,7 +27,7 @@ returns-in-Ok-clause-ok c =
     (subst (λ (b : Codes). Renews a c.args.cells.now (λ n run. along_body_as by_number run m (trail_view c.of-trail.result) (seen_codes n b)) old (λ n. seen_codes n c.renew_body.new.codes) new) c.in-Root.body-is c.in-Ok.ensures.ok)
 
 pub returns-in-Ok-clause-moved : goal.returns-in-Ok-clause-moved
-returns-in-Ok-clause-moved c =
+returns-in-Ok-clause-moved g c =
     let o = c.in-Root.owner in
     let root : Tables → PlainCodes → PlainCode = λ n cs. component_seen (seen_owner n o.value) [] (refs_made o.value.cells) [] None cs in
     let m = c.none-moved.result in
@@ -37,7 +37,7 @@ returns-in-Ok-clause-moved c =
     (subst (λ (b : Codes). CodesMoved m m2 (λ n. seen_codes n b) (λ n. seen_codes n c.renew_body.new.codes)) c.in-Root.body-is c.in-Ok.ensures.moved)
 
 pub returns-in-Root-clause-fails : goal.returns-in-Root-clause-fails
-returns-in-Root-clause-fails c =
+returns-in-Root-clause-fails g c =
     let a = c.args.app.now in
     let m = c.manifest.result.now.limit - 1 in
     let one : c.manifest.result.now.limit ≡ suc m = (let ne = c.if-limit-eq0.false in omega (arith, ne)) in

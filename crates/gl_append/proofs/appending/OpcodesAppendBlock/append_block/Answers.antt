@@ -2,7 +2,7 @@ use Rattle.gl_meaning.specs.View.{path_view}
 use Rattle.gl_machine.specs.RenewCode.{start}
 use Rattle.gl_code.specs.View.{seen_sight}
 use Rattle.gl_append.proofs.BlockRuns.{appends, append_stops}
-use Rattle.gl_append.proofs.appending.append_block.Goals as goal
+use Rattle.gl_append.proofs.appending.OpcodesAppendBlock.append_block.Goals as goal
 
 pub returns-in-Ok-clause-ok : goal.returns-in-Ok-clause-ok
 returns-in-Ok-clause-ok c =
