@@ -1,9 +1,10 @@
 -- The positions of a program, read one statement at a time.
-use Rattle.std.proofs.Common.{◌≡◌, ℕ, ◌+◌, ◌<◌, ◌≤◌, List, [], ◌∷◌, ◌++◌, map, drop, length, get_or, rules, sym, ap, ap₂, subst, ◌∙◌, OnOk, Result}
+use Rattle.std.proofs.Common.{◌≡◌, ℕ, ◌+◌, ◌<◌, ◌≤◌, List, [], ◌∷◌, ◌++◌, map, drop, length, get_or, rules, sym, ap, ap₂, ◌∙◌, Bool}
+use Rattle.std.specs.Prelude.{Result, IfOk}
+use Rattle.std.proofs.lemmas.Result.{IfOk-weaker}
 use Rattle.std.proofs.lemmas.List.{drop_all}
 use Rattle.std.specs.declared.vec.Vec.{Vec}
 use Rattle.std.specs.declared.alloc.Global.{Global}
-use Rattle.gl_arena.specs.Id.{Id}
 use Rattle.gl_base.proofs.Lists.{drop_item}
 use Rattle.gl_plain.specs.Counts.{positions_of, positions_in, positions_items, attr_positions, mod_positions}
 use Rattle.gl_machine.specs.Code as c
@@ -17,7 +18,9 @@ use Rattle.gl_code.specs.declared.code.Codes.{Codes}
 use Rattle.gl_code.specs.declared.code.ItemCode.{ItemCode}
 use Rattle.gl_code.specs.declared.code.Code.TheVariants.{Element, Branch, Listed, Unlisted, Let, Component, Root, Yield, Still, Put}
 use Rattle.gl_code.proofs.CodeNests.{body_is}
-use Rattle.gl_asks.specs.Filled.{Fills}
+use Rattle.gl_vm.specs.declared.vm.Vm.{Vm}
+use Rattle.gl_asks.specs.Asked.{Asked}
+use Rattle.gl_asks.proofs.Asked.{asked_as}
 
 abbrev pub code_spots : Tables → Code → List ℕ
 code_spots n x = positions_of (c.live_of (seen_code n x))
@@ -106,6 +109,6 @@ pub mod_last : (xs : List ModSpot) (i : ℕ) → length xs ≤ i → mod_spots (
 mod_last xs i le = ap mod_spots (drop_all i xs le)
 
 -- what a statement is by another word
-pub on_ok_code : {T E : Type 0} (r : Result T E) (n : Tables) (old new : List Id) (code other : Code) (ys : List ℕ) → code ≡ other → code_spots n other ≡ ys
-    → OnOk r (Fills old new ys) → OnOk r (Fills old new (code_spots n code))
-on_ok_code r n old new code other ys is e a = subst (λ zs. OnOk r (Fills old new zs)) (sym (ap (code_spots n) is ∙ e)) a
+pub asked_code : {E : Type 0} (r : Result Bool E) (a : Vm) (k k' : ℕ) (code other : Code) (ys : Tables → List ℕ) → code ≡ other → ((n : Tables) → code_spots n other ≡ ys n)
+    → IfOk r (Asked a k k' ys) → IfOk r (Asked a k k' (λ n. code_spots n code))
+asked_code r a k k' code other ys is e = IfOk-weaker r (Asked a k k' ys) (Asked a k k' (λ n. code_spots n code)) (λ b x. asked_as a k k' ys (λ n. code_spots n code) b (λ n. ap (code_spots n) is ∙ e n) x)

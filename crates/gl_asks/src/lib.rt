@@ -1,7 +1,7 @@
 //! Whether a region of the updating program is entered: it has many positions, or one of its few is stale.
 #![tactic(auto)]
 
-mod gathering;
+mod asking;
 mod regions;
 mod stale;
 

@@ -1,37 +1,23 @@
-// The question whether a region is entered. A region with many positions is entered without asking them.
+// The question whether a region is entered. It takes no memory.
 ghost use Rattle.std.specs.Prelude.{◌≡◌, map, IfOk};
 ghost use Rattle.gl_plain.specs.Counts.{positions_in, positions_items};
 ghost use Rattle.gl_machine.specs.Code.{lives_of, items_of};
-ghost use Rattle.gl_guards.specs.Along.{enters_few};
-ghost use Rattle.gl_vm.specs.View.{Calm, Agrees, stamps, state_of};
+ghost use Rattle.gl_guards.specs.Along.{few, enters_few};
+ghost use Rattle.gl_vm.specs.View.{Calm, Agrees, state_of};
 ghost use Rattle.gl_vm.specs.Steps.{Does};
 ghost use Rattle.gl_code.specs.CodeView.{seen_codes, seen_item_code, all_items};
 
-use crate::gathering::{Found, gather_codes, gather_items, too_many};
-use crate::stale::is_stale;
+use crate::asking::{ask_codes, ask_items};
 use gl_code::{Codes, ItemCode};
-use gl_refs::RefId;
 use gl_vm::Vm;
-use smallvec::SmallVec;
 use std::alloc::AllocError;
 
-// Whether a region is entered that has these positions.
-#[inline(never)]
-fn enters(vm: &mut Vm, ids: &[RefId]) -> Result<bool, AllocError>
-    requires calm { Calm vm.old }
-    ensures asked { IfOk result (λ b. (n : _) (touched : _) → Agrees touched vm.old → enters_few (state_of n vm.old touched) (stamps ids.now) ≡ b) }
-    ensures still { Does (λ n st. st) vm.old vm.new }
-    ensures calm { Calm vm.new }
+// How many positions of a region are asked at most.
+#[tactic(auto, unfolding(gl_guards::specs::Along::few))]
+fn most() -> usize
+    ensures { result ≡ few }
 {
-    if too_many(ids.len()) {
-        return Ok(true);
-    }
-    for id in ids {
-        if is_stale(vm, *id)? {
-            return Ok(true);
-        }
-    }
-    Ok(false)
+    32
 }
 
 /// Whether what was rendered of a body is entered by an update: it has many positions, or one of its few is stale.
@@ -42,9 +28,8 @@ pub fn enters_body(vm: &mut Vm, body: &Codes) -> Result<bool, AllocError>
     ensures still { Does (λ n st. st) vm.old vm.new }
     ensures calm { Calm vm.new }
 {
-    let mut found: Found = SmallVec::new(*body.list.allocator());
-    gather_codes(&mut found, body)?;
-    enters(vm, found.as_slice())
+    let mut left = most();
+    ask_codes(vm, &mut left, body)
 }
 
 /// Whether the items of a list are entered by an update: they have many positions, or one of their few is stale.
@@ -55,7 +40,6 @@ pub fn enters_items(vm: &mut Vm, items: &Vec<ItemCode>) -> Result<bool, AllocErr
     ensures still { Does (λ n st. st) vm.old vm.new }
     ensures calm { Calm vm.new }
 {
-    let mut found: Found = SmallVec::new(*items.allocator());
-    gather_items(&mut found, items)?;
-    enters(vm, found.as_slice())
+    let mut left = most();
+    ask_items(vm, &mut left, items)
 }

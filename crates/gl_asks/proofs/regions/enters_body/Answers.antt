@@ -1,7 +1,6 @@
 use Rattle.gl_asks.proofs.Parts.{body_spots}
-use Rattle.gl_asks.proofs.Asked.{enters_region}
+use Rattle.gl_asks.proofs.Asked.{asked_region}
 use Rattle.gl_asks.proofs.regions.enters_body.Goals as goal
 
 pub returns-clause-asked : goal.returns-clause-asked
-returns-clause-asked c =
-    enters_region c.enters.result c.args.vm.now c.new-found.result.items c.gather_codes.new.found.items c.as_slice.result.now (λ n. body_spots n c.args.body.now) c.new-found.ensures.items c.as_slice.ensures (λ n. c.in_ok-gather_codes.ensures n) c.enters.ensures.asked
+returns-clause-asked c = asked_region c.ask_codes.result c.args.vm.now c.most-left.result c.ask_codes.new.left (λ n. body_spots n c.args.body.now) c.most-left.ensures c.ask_codes.ensures.asked
