@@ -19,3 +19,8 @@ IsIn f (Some i) = 0 < times i f
 -- after it what comes from the second one on.
 abbrev pub Between : Forest → Option Id → Option Id → Nest ℕ → Type 0
 Between f at next n = nest_of (onward f at) ≡ joined n (nest_of (onward f next))
+
+-- What is told of a nest from a place on: up to where it stands, or that it doesn't stand there, whatever comes after it.
+abbrev pub Tells : Forest → Option Id → Nest ℕ → Option (Option Id) → Type 0
+Tells f at n None = (rest : Nest ℕ) → nest_of (onward f at) ≡ joined n rest → ⊥
+Tells f at n (Some next) = Between f at next n

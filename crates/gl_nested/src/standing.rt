@@ -1,29 +1,33 @@
 // The walk over the updating program, beside the nodes of the tree. Each call takes the place where the nodes of its
 // part have to begin, and gives the place after them; where they do not stand there as they were rendered it gives none.
-ghost use Rattle.std.specs.Prelude.{◌≡◌, IfSome, IsTrue, map};
+ghost use Rattle.std.specs.Prelude.{◌≡◌, IfSome, IsTrue, ◌↔◌, map};
 ghost use Rattle.gl_nodes.specs.Flat.{stamp_of};
 ghost use Rattle.gl_machine.specs.Code.{live_of, lives_of, items_of};
 ghost use Rattle.gl_machine.specs.Shape.{nest, nest_in, nest_items, nest_comment, joined, leaf, end, tree as nested};
 ghost use Rattle.gl_code.specs.CodeView.{seen_code, seen_codes, seen_item_code, all_items};
 ghost use Rattle.gl_code.specs.Hung.{nest_of};
-ghost use Rattle.gl_nested.specs.Places.{IsIn, Between};
+ghost use Rattle.gl_nested.specs.Places.{IsIn, Tells};
 
 use gl_code::{Code, Codes, ItemCode};
 use gl_nodes::{NodeId, NodeTree};
 
 /// Whether the nodes of a tree are those of what was rendered, in their order, nested as they were rendered, and no
-/// others.
+/// others. Exactly where they are, it says so.
 pub fn stands(tree: &NodeTree, code: &Code) -> bool
-    ensures { (n : _) → IsTrue result → nest_of tree.now.forest ≡ nest (live_of (seen_code n code.now)) }
+    ensures { (n : _) → IsTrue result ↔ nest_of tree.now.forest ≡ nest (live_of (seen_code n code.now)) }
 {
-    matches!(after_code(tree, tree.first(None), code), Some(None))
+    match after_code(tree, tree.first(None), code) {
+        Some(None) => true,
+        Some(Some(_)) => false,
+        None => false,
+    }
 }
 
 #[cycle(standing)]
 fn after_codes(tree: &NodeTree, at: Option<NodeId>, codes: &Codes) -> Option<Option<NodeId>>
     requires { IsIn tree.now.forest at }
     ensures there { IfSome result (IsIn tree.now.forest) }
-    ensures nodes { (n : _) → IfSome result (λ next. Between tree.now.forest at next (nest_in (lives_of (seen_codes n codes.now)))) }
+    ensures nodes { (n : _) → Tells tree.now.forest at (nest_in (lives_of (seen_codes n codes.now))) result }
 {
     let mut place = at;
     for code in codes.list.as_slice() {
@@ -36,7 +40,7 @@ fn after_codes(tree: &NodeTree, at: Option<NodeId>, codes: &Codes) -> Option<Opt
 fn after_code(tree: &NodeTree, at: Option<NodeId>, code: &Code) -> Option<Option<NodeId>>
     requires { IsIn tree.now.forest at }
     ensures there { IfSome result (IsIn tree.now.forest) }
-    ensures nodes { (n : _) → IfSome result (λ next. Between tree.now.forest at next (nest (live_of (seen_code n code.now)))) }
+    ensures nodes { (n : _) → Tells tree.now.forest at (nest (live_of (seen_code n code.now))) result }
 {
     match code {
         Code::Still { node } => after_leaf(tree, at, *node),
@@ -62,10 +66,10 @@ fn after_element(
 ) -> Option<Option<NodeId>>
     requires { IsIn tree.now.forest at }
     ensures there { IfSome result (IsIn tree.now.forest) }
-    ensures nodes { (n : _) → IfSome result (λ next. Between tree.now.forest at next (nested node.1 (nest_in (lives_of (seen_codes n body.now))) end)) }
+    ensures nodes { (n : _) → Tells tree.now.forest at (nested node.1 (nest_in (lives_of (seen_codes n body.now))) end) result }
 {
     let here = at?;
-    if here != node {
+    if here.number() != node.number() {
         return None;
     }
     match after_codes(tree, tree.first(Some(here)), body)? {
@@ -78,7 +82,7 @@ fn after_element(
 fn after_items(tree: &NodeTree, at: Option<NodeId>, items: &Vec<ItemCode>) -> Option<Option<NodeId>>
     requires { IsIn tree.now.forest at }
     ensures there { IfSome result (IsIn tree.now.forest) }
-    ensures nodes { (n : _) → IfSome result (λ next. Between tree.now.forest at next (nest_items (items_of (all_items (map (seen_item_code n) items.now.items))))) }
+    ensures nodes { (n : _) → Tells tree.now.forest at (nest_items (items_of (all_items (map (seen_item_code n) items.now.items)))) result }
 {
     let mut place = at;
     for item in items.as_slice() {
@@ -91,7 +95,7 @@ fn after_items(tree: &NodeTree, at: Option<NodeId>, items: &Vec<ItemCode>) -> Op
 fn after_item(tree: &NodeTree, at: Option<NodeId>, item: &ItemCode) -> Option<Option<NodeId>>
     requires { IsIn tree.now.forest at }
     ensures there { IfSome result (IsIn tree.now.forest) }
-    ensures nodes { (n : _) → let x = seen_item_code n item.now in IfSome result (λ next. Between tree.now.forest at next (joined (nest_in (lives_of x.1.1)) (nest_comment x.1.0))) }
+    ensures nodes { (n : _) → let x = seen_item_code n item.now in Tells tree.now.forest at (joined (nest_in (lives_of x.1.1)) (nest_comment x.1.0)) result }
 {
     after_body(tree, at, &item.body, &item.comment)
 }
@@ -106,7 +110,7 @@ fn after_body(
 ) -> Option<Option<NodeId>>
     requires { IsIn tree.now.forest at }
     ensures there { IfSome result (IsIn tree.now.forest) }
-    ensures nodes { (n : _) → IfSome result (λ next. Between tree.now.forest at next (joined (nest_in (lives_of (seen_codes n body.now))) (nest_comment (stamp_of comment.now)))) }
+    ensures nodes { (n : _) → Tells tree.now.forest at (joined (nest_in (lives_of (seen_codes n body.now))) (nest_comment (stamp_of comment.now))) result }
 {
     let place = after_codes(tree, at, body)?;
     after_comment(tree, place, comment)
@@ -119,7 +123,7 @@ fn after_comment(
 ) -> Option<Option<NodeId>>
     requires { IsIn tree.now.forest at }
     ensures there { IfSome result (IsIn tree.now.forest) }
-    ensures nodes { IfSome result (λ next. Between tree.now.forest at next (nest_comment (stamp_of comment.now))) }
+    ensures nodes { Tells tree.now.forest at (nest_comment (stamp_of comment.now)) result }
 {
     match comment {
         Some(node) => after_leaf(tree, at, *node),
@@ -131,10 +135,10 @@ fn after_comment(
 fn after_leaf(tree: &NodeTree, at: Option<NodeId>, node: NodeId) -> Option<Option<NodeId>>
     requires { IsIn tree.now.forest at }
     ensures there { IfSome result (IsIn tree.now.forest) }
-    ensures nodes { IfSome result (λ next. Between tree.now.forest at next (leaf node.1)) }
+    ensures nodes { Tells tree.now.forest at (leaf node.1) result }
 {
     let here = at?;
-    if here != node {
+    if here.number() != node.number() {
         return None;
     }
     match tree.first(Some(here)) {

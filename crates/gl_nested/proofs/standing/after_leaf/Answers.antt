@@ -1,4 +1,4 @@
-use Rattle.std.proofs.Common.{sym, subst}
+use Rattle.std.proofs.Common.{sym, subst, ◌∙◌}
 use Rattle.gl_machine.specs.Shape.{end}
 use Rattle.gl_nested.specs.Places.{IsIn}
 use Rattle.gl_nested.proofs.Parts.{below_there, sibling_in}
@@ -16,5 +16,5 @@ returns-in-None-clause-there c =
 pub returns-in-None-clause-nodes : goal.returns-in-None-clause-nodes
 returns-in-None-clause-nodes c =
     let f = c.args.tree.now.forest in
-    between_node f c.first.ensures.sound.once c.args.at c.first.result c.next.result c.in_ok-here.here c.args.node c.ne.result end
-    c.requires c.in_ok-here.was c.ne.ensures c.if-ne.false c.first.ensures.child c.next.ensures.sibling (between_ended f c.first.result c.in-None.is)
+    between_node f c.first.ensures.sound.once c.args.at c.first.result c.next.result c.in_ok-here.here c.args.node.1 end
+    c.requires c.in_ok-here.was (sym c.number.ensures ∙ (c.if-number.false ∙ c.number-2.ensures)) c.first.ensures.child c.next.ensures.sibling (between_ended f c.first.result c.in-None.is)
