@@ -1,11 +1,9 @@
-//! Tests of sessions, their work, and stops at every point, as callers of the top call meet them.
+//! Tests of sessions and their work, as callers of the top call meet them.
 //!
 //! They stand above the crates that they test, so that a check of them proves the tests alone.
 #![tactic(auto)]
 
 #[cfg(test)]
 mod sessions;
-#[cfg(test)]
-mod stops;
 #[cfg(test)]
 mod works;
