@@ -20,13 +20,15 @@ use Rattle.gl_session.specs.Turn.{work_view, added}
 use Rattle.gl_session.specs.declared.session.Session as code
 use Rattle.gl_session.specs.declared.turn.Turn as by_code
 use Rattle.gl_run.specs.Holds.{state_after, EndsAt}
-use Rattle.gl_run.specs.Output.{too_deep, stopped_at, played, played_app}
-use Rattle.gl_run.specs.Told.{told_text, told_texts, seen_text}
-use Rattle.gl_run.specs.declared.told.Told.{Told}
-use Rattle.gl_run.specs.Plays.{PutFails, Plays, PlayFails, StartStops, TurnStops, Opens, GoesOn}
+use Rattle.gl_commands.specs.Output.{too_deep, stopped_at, played, played_app}
+use Rattle.gl_commands.specs.Told.{told_text, told_texts}
+use Rattle.gl_run.specs.Told.{seen_text}
+use Rattle.gl_commands.specs.declared.told.Told.{Told}
+use Rattle.gl_commands.specs.Plays.{PutFails, Plays, PlayFails}
+use Rattle.gl_run.specs.Plays.{StartStops, TurnStops, Opens, GoesOn}
 use Rattle.gl_run.specs.Reached.{of_turns, turns_before, turn_bytes, Reached}
-use Rattle.gl_run.specs.declared.fault.PlayFault.{PlayFault}
-use Rattle.gl_run.specs.declared.fault.PlayFault.TheVariants as v
+use Rattle.gl_commands.specs.declared.fault.PlayFault.{PlayFault}
+use Rattle.gl_commands.specs.declared.fault.PlayFault.TheVariants as v
 use Rattle.gl_run.proofs.Works.{told_is, counts_first, counts_more}
 
 -- The texts of an output that is played

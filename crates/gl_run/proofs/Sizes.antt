@@ -6,7 +6,7 @@ use Rattle.std.proofs.lemmas.Bool.{false_from_ne_true}
 use Rattle.std.proofs.lemmas.Fmt.{decimal_injective}
 use Rattle.std.proofs.lemmas.Slice.Eq.{bytes_eq-Decides}
 use Rattle.gl_base.specs.Texts.{Text}
-use Rattle.gl_run.specs.Command.{number_among, rows_in}
+use Rattle.gl_commands.specs.Command.{number_among, rows_in}
 
 -- a text that writes none of the numbers
 none_among : (text : Text) (count first : ℕ) → ((i : ℕ) → first ≤ i → i < first + count → bytes_eq text (decimal i) ≡ false) → number_among text count first ≡ None

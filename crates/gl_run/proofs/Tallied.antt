@@ -15,8 +15,9 @@ use Rattle.gl_session.specs.Turn.{work_view, added}
 use Rattle.gl_session.specs.declared.session.Session as code
 use Rattle.gl_session.specs.declared.turn.Turn as by_code
 use Rattle.gl_run.specs.Holds.{state_after, EndsAt}
-use Rattle.gl_run.specs.Output.{turn_texts}
-use Rattle.gl_run.specs.Sample.{last_of, last_text, byte_count, Tallies, Sums}
+use Rattle.gl_commands.specs.Output.{turn_texts}
+use Rattle.gl_commands.specs.Sample.{last_of, last_text, byte_count}
+use Rattle.gl_run.specs.Sample.{Tallies, Sums}
 use Rattle.gl_run.specs.declared.sample.Tally.{Tally}
 use Rattle.gl_run.specs.Reached.{of_turns, turns_before, Counted}
 use Rattle.gl_run.proofs.Played.{after_more, first_turn}

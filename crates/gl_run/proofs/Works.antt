@@ -7,9 +7,10 @@ use Rattle.gl_session.specs.Standing.{Counts}
 use Rattle.gl_session.specs.Turn.{TellsTurn, work_view, no_work, added, work_of}
 use Rattle.gl_session.specs.declared.session.Session.{Session}
 use Rattle.gl_session.specs.declared.turn.Turn as code
-use Rattle.gl_run.specs.Told.{told_text, seen_text}
-use Rattle.gl_run.specs.declared.told.Told.{Told}
-use Rattle.gl_run.specs.declared.told.Told.TheVariants as v
+use Rattle.gl_commands.specs.Told.{told_text}
+use Rattle.gl_run.specs.Told.{seen_text}
+use Rattle.gl_commands.specs.declared.told.Told.{Told}
+use Rattle.gl_commands.specs.declared.told.Told.TheVariants as v
 
 -- what is written of the code's turn is what is told of the meaning's
 pub told_is : (told : Told) (made : code.Turn) (t : Turn) → TellsTurn made t → seen_text told made ≡ told_text told t

@@ -12,8 +12,8 @@ use Rattle.gl_load.specs.Load.{Whole, whole_in}
 use Rattle.gl_load.specs.Refusal.{Refusal}
 use Rattle.gl_session.specs.Standing.{StandsAt, Counts}
 use Rattle.gl_session.specs.declared.session.Session.{Session}
-use Rattle.gl_run.specs.Command.{Command, run_command, sample_command}
-use Rattle.gl_run.specs.Sample.{sample_whole}
+use Rattle.gl_commands.specs.Command.{Command, run_command, sample_command}
+use Rattle.gl_commands.specs.Sample.{sample_whole}
 
 -- the state after these turns
 abbrev pub state_after : State → List Turn → State

@@ -1,11 +1,6 @@
 pub mod Command
 pub mod Holds
-pub mod Lines
-pub mod Load
-pub mod Output
 pub mod Plays
 pub mod Reached
-pub mod Run
 pub mod Sample
-pub mod Status
 pub mod Told

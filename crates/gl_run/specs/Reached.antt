@@ -11,10 +11,10 @@ use Rattle.gl_opc.specs.declared.app.App.{App}
 use Rattle.gl_session.specs.Standing.{StandsAt, Counts}
 use Rattle.gl_session.specs.declared.session.Session as code
 use Rattle.gl_run.specs.Holds.{state_after}
-use Rattle.gl_run.specs.Output.{turn_texts}
+use Rattle.gl_commands.specs.Output.{turn_texts}
 use Rattle.gl_run.specs.Sample.{Tallies}
-use Rattle.gl_run.specs.Told.{told_texts}
-use Rattle.gl_run.specs.declared.told.Told.{Told}
+use Rattle.gl_commands.specs.Told.{told_texts}
+use Rattle.gl_commands.specs.declared.told.Told.{Told}
 use Rattle.gl_run.specs.declared.sample.Tally.{Tally}
 
 -- a session of these turns

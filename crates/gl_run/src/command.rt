@@ -2,9 +2,10 @@
 ghost use Rattle.std.specs.Prelude.{◌≡◌, ◌↔◌, ◌≤◌, IsTrue, IfSome, MatchOption, codes, map, option_map};
 ghost use Rattle.std.specs.Str.{chars, bytes_eq};
 ghost use Rattle.gl_value.specs.Index.{HasPlainStart};
-ghost use Rattle.gl_run.specs.Command.{command_of, seen_command, sample_command, rows_in, IsSized};
+ghost use Rattle.gl_commands.specs.Command.{command_of, sample_command, rows_in};
+ghost use Rattle.gl_run.specs.Command.{seen_command, IsSized};
 
-use crate::told::Told;
+use gl_commands::Told;
 
 /// What the words ask for; files are given by their names.
 #[derive(Clone, Copy)]
@@ -138,7 +139,7 @@ fn sample_of<'a>(text: &str) -> Option<Command<'a>>
 }
 
 /// The command that the words give, if they give one. It takes no memory.
-#[tactic(auto, unfolding(crate::specs::Command::command_of))]
+#[tactic(auto, unfolding(gl_commands::specs::Command::command_of))]
 pub fn command_of<'a>(words: &[&'a str]) -> Option<Command<'a>>
     ensures told { option_map seen_command result ≡ command_of (map (λ w. chars w.now) words.now) }
     ensures sized { IsSized result }

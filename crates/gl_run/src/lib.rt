@@ -2,21 +2,12 @@
 #![tactic(auto)]
 
 mod command;
-mod ending;
-mod fault;
 mod last;
-mod line;
-mod load;
-mod migrate;
 mod playing;
 mod sample;
-mod show;
-mod status;
 mod told;
 mod top;
 
-pub use ending::RunFault;
-pub use fault::PlayFault;
+pub use gl_commands::{PlayFault, RunFault, Status};
 pub use last::Last;
-pub use status::Status;
 pub use top::run;

@@ -5,36 +5,23 @@ ghost use Rattle.gl_meaning.specs.Session.{step, first_state};
 ghost use Rattle.gl_meaning.specs.View.{manifest_view, script_view, event_view};
 ghost use Rattle.gl_opc.specs.IsApp.{IsAppWith};
 ghost use Rattle.gl_session.specs.Standing.{StandsAt, IsReady};
-ghost use Rattle.gl_run.specs.Output.{played_app};
+ghost use Rattle.gl_commands.specs.Output.{played_app};
 ghost use Rattle.gl_run.specs.Told.{seen_text};
-ghost use Rattle.gl_run.specs.Plays.{Puts, Plays, StartStops, TurnStops, IsStart, IsTurn, Opens, GoesOn};
+ghost use Rattle.gl_commands.specs.Plays.{Puts, Plays};
+ghost use Rattle.gl_run.specs.Plays.{StartStops, TurnStops, IsStart, IsTurn, Opens, GoesOn};
 ghost use Rattle.gl_run.specs.Holds.{EndsAt};
 ghost use Rattle.gl_run.specs.Reached.{Reached};
 ghost use Rattle.gl_ast.specs.Template.{Body};
 ghost use Rattle.gl_opc.specs.declared.app.App.{App};
 
-use crate::PlayFault;
-use crate::told::{Told, text_of};
+use crate::told::text_of;
 use gl_code::VmFault;
+use gl_commands::{PlayFault, Told, put_text};
 use gl_meaning::{Event, Script};
 use gl_opc::App;
-use gl_outside::{Sink, SinkFault};
+use gl_outside::Sink;
 use gl_session::{EventFault, Session, Turn};
-use gl_value::Text;
 use std::alloc::{AllocError, Global};
-
-/// Puts one text, in one piece.
-pub fn put_text<K: Sink>(out: &mut K, text: &Text) -> Result<(), PlayFault>
-    ensures puts { Puts result (K.took out.old) (K.took out.new) text.now }
-    ensures failed { IsErrOf result PlayFault.WriteFault → K.faults out.old < K.faults out.new }
-    ensures later { K.faults out.old ≤ K.faults out.new }
-{
-    match out.put(text.as_str().as_bytes()) {
-        Ok(()) => Ok(()),
-        Err(SinkFault::Failed) => Err(PlayFault::WriteFault),
-        Err(SinkFault::Memory) => Err(PlayFault::Memory),
-    }
-}
 
 // Puts what is told of a turn, in one piece.
 fn put_turn<K: Sink>(alloc: Global, told: Told, turn: Turn, out: &mut K) -> Result<(), PlayFault>

@@ -9,14 +9,15 @@ ghost use Rattle.gl_meaning.specs.View.{manifest_view, script_view, event_view};
 ghost use Rattle.gl_opc.specs.IsApp.{IsAppWith};
 ghost use Rattle.gl_session.specs.Standing.{IsReady};
 ghost use Rattle.gl_load.specs.View.{whole_view};
-ghost use Rattle.gl_run.specs.Command.{sample_command};
+ghost use Rattle.gl_commands.specs.Command.{sample_command};
 ghost use Rattle.gl_run.specs.Holds.{EndsAt, EndsWith};
 ghost use Rattle.gl_run.specs.Plays.{IsStart, IsTurn};
 ghost use Rattle.gl_run.specs.Reached.{Counted};
 ghost use Rattle.gl_ast.specs.Template.{Body};
 ghost use Rattle.gl_opc.specs.declared.app.App.{App};
-ghost use Rattle.gl_run.specs.Output.{outcome_of, output_or, written};
-ghost use Rattle.gl_run.specs.Sample.{sample_files, sample_whole, byte_count, sums_line, Tallies, Sums};
+ghost use Rattle.gl_commands.specs.Output.{outcome_of, output_or, written};
+ghost use Rattle.gl_commands.specs.Sample.{sample_files, sample_whole, byte_count, sums_line};
+ghost use Rattle.gl_run.specs.Sample.{Tallies, Sums};
 
 use gl_gen::sample;
 use gl_load::{Loaded, load};
@@ -38,7 +39,7 @@ fn file_of(alloc: Global, name: &str, text: &Text) -> Result<File, AllocError>
 }
 
 // The files of the sample of so many rows.
-#[tactic(auto, unfolding(crate::specs::Sample::sample_files), using(std::proofs::lemmas::List::append_assoc))]
+#[tactic(auto, unfolding(gl_commands::specs::Sample::sample_files), using(std::proofs::lemmas::List::append_assoc))]
 fn files_of(alloc: Global, rows: u32) -> Result<Files, AllocError>
     requires some { 1 ≤ rows }
     requires most { rows ≤ 10000 }
@@ -55,7 +56,7 @@ fn files_of(alloc: Global, rows: u32) -> Result<Files, AllocError>
 
 // The sample of so many rows with its script, loaded from its files. No proof says that none of them is refused: a refusal would be told
 // as want of memory.
-#[tactic(auto, unfolding(crate::specs::Sample::sample_whole))]
+#[tactic(auto, unfolding(gl_commands::specs::Sample::sample_whole))]
 fn load_sample(alloc: Global, rows: u32) -> Result<Loaded, AllocError>
     requires some { 1 ≤ rows }
     requires most { rows ≤ 10000 }

@@ -4,18 +4,10 @@ ghost use Rattle.gl_meaning.specs.Session.{work_line};
 ghost use Rattle.gl_session.specs.Turn.{work_view};
 ghost use Rattle.gl_run.specs.Told.{seen_text};
 
+use gl_commands::Told;
 use gl_session::{Turn, Work};
 use gl_value::Text;
 use std::alloc::{AllocError, Global};
-
-/// What is told of each turn of a session.
-#[derive(Clone, Copy)]
-pub enum Told {
-    /// Its text.
-    Alone,
-    /// Its text, and in a line how much it had to do.
-    WithWork,
-}
 
 // The line of the work of a turn.
 fn work_line(alloc: Global, work: &Work) -> Result<Text, AllocError>

@@ -1,25 +1,24 @@
 // The top call: what the program does.
-ghost use Rattle.std.specs.Prelude.{◌≡◌, ◌<◌, ◌≤◌, ◌↔◌, ℕ, ◌∷◌, [], List, Some, None, Err, OnOk, OnErr, IsErrOf, map};
+ghost use Rattle.std.specs.Prelude.{◌≡◌, ◌<◌, ◌≤◌, ◌↔◌, ℕ, [], List, Some, None, Err, OnOk, OnErr, IsErrOf, map};
 ghost use Rattle.std.specs.Str.{chars};
 ghost use Rattle.gl_outside.specs.Shelf.{Entry};
-ghost use Rattle.gl_run.specs.Lines.{Says};
-ghost use Rattle.gl_run.specs.Command.{run_command, show_command, wire_command, check_command, sample_command, command_of, IsPlay};
-ghost use Rattle.gl_load.specs.Load.{app_fetched, whole_in, whole_fetched};
+ghost use Rattle.gl_commands.specs.Lines.{Says};
+ghost use Rattle.gl_commands.specs.Command.{run_command, sample_command, command_of, IsPlay};
+ghost use Rattle.gl_load.specs.Load.{whole_in, whole_fetched};
 ghost use Rattle.gl_run.specs.Holds.{HoldsOf, Holds};
-ghost use Rattle.gl_run.specs.Sample.{sample_whole};
-ghost use Rattle.gl_run.specs.Output.{outcome_of, output_or, output_of, Answers};
-ghost use Rattle.gl_run.specs.Run.{Ending, status_of, line_of, HasCause, Tells, Completes, Untouched, fetched_by};
+ghost use Rattle.gl_commands.specs.Sample.{sample_whole};
+ghost use Rattle.gl_commands.specs.Output.{outcome_of, output_or, output_of, Answers};
+ghost use Rattle.gl_commands.specs.Run.{Ending, status_of, line_of, HasCause, Tells, Completes, Untouched, fetched_by};
 
+use crate::Last;
 use crate::command::{Command, command_of};
-use crate::ending::{RunFault, say_line, status_of};
-use crate::load::template_of;
-use crate::migrate::migrate_wire;
-use crate::playing::{play, put_text};
+use crate::playing::play;
 use crate::sample::play_sample;
-use crate::show::{write_classes, write_shown, write_wire};
-use crate::told::Told;
-use crate::{Last, Status};
-use gl_load::{load, load_app};
+use gl_commands::{
+    RunFault, Status, Told, check_app, migrate_wire, put_text, say_line, show_template, status_of,
+    wire_template,
+};
+use gl_load::load;
 use gl_outside::{Shelf, Sink};
 use std::alloc::Global;
 
@@ -48,69 +47,6 @@ fn play_app<S: Shelf, K: Sink>(
     drop(loaded.templates);
     let session = play(alloc, told, loaded.app, &loaded.script, out)?;
     last.hold(session);
-    Ok(())
-}
-
-// Shows the canonical spelling of a template.
-fn show_template<S: Shelf, K: Sink>(
-    alloc: Global,
-    template: &str,
-    shelf: &mut S,
-    out: &mut K,
-) -> Result<(), RunFault>
-    ensures told { (files : List Entry) → S.holds shelf.old ≡ Some files
-        → Answers (status_of result) (K.took out.old) (K.took out.new) (output_or (outcome_of (show_command (chars template.now)) files)) }
-    ensures tells { (files : List Entry) → S.holds shelf.old ≡ Some files
-        → Tells result (output_or (outcome_of (show_command (chars template.now)) files)) (chars template.now ∷ []) }
-    ensures causes { HasCause result (S.misses shelf.old) (S.misses shelf.new) (S.faults shelf.old) (S.faults shelf.new) (K.faults out.old) (K.faults out.new) }
-    ensures untouched { Untouched result (K.took out.old) (K.took out.new) }
-    ensures used { IsErrOf result RunFault.Usage → ⊥ }
-    ensures limit { status_of result ≡ Status.NestingLimit → ⊥ }
-{
-    let spelled = template_of(alloc, shelf, template)?;
-    write_shown(alloc, spelled.body(), out)?;
-    Ok(())
-}
-
-// Writes the wire of a template.
-fn wire_template<S: Shelf, K: Sink>(
-    alloc: Global,
-    template: &str,
-    shelf: &mut S,
-    out: &mut K,
-) -> Result<(), RunFault>
-    ensures told { (files : List Entry) → S.holds shelf.old ≡ Some files
-        → Answers (status_of result) (K.took out.old) (K.took out.new) (output_or (outcome_of (wire_command (chars template.now)) files)) }
-    ensures tells { (files : List Entry) → S.holds shelf.old ≡ Some files
-        → Tells result (output_or (outcome_of (wire_command (chars template.now)) files)) (chars template.now ∷ []) }
-    ensures causes { HasCause result (S.misses shelf.old) (S.misses shelf.new) (S.faults shelf.old) (S.faults shelf.new) (K.faults out.old) (K.faults out.new) }
-    ensures untouched { Untouched result (K.took out.old) (K.took out.new) }
-    ensures used { IsErrOf result RunFault.Usage → ⊥ }
-    ensures limit { status_of result ≡ Status.NestingLimit → ⊥ }
-{
-    let spelled = template_of(alloc, shelf, template)?;
-    write_wire(alloc, spelled, out)?;
-    Ok(())
-}
-
-// Loads an application and writes how many classes it has.
-fn check_app<S: Shelf, K: Sink>(
-    alloc: Global,
-    manifest: &str,
-    shelf: &mut S,
-    out: &mut K,
-) -> Result<(), RunFault>
-    ensures told { (files : List Entry) → S.holds shelf.old ≡ Some files
-        → Answers (status_of result) (K.took out.old) (K.took out.new) (output_or (outcome_of (check_command (chars manifest.now)) files)) }
-    ensures tells { (files : List Entry) → S.holds shelf.old ≡ Some files
-        → Tells result (output_or (outcome_of (check_command (chars manifest.now)) files)) (app_fetched files (chars manifest.now)) }
-    ensures causes { HasCause result (S.misses shelf.old) (S.misses shelf.new) (S.faults shelf.old) (S.faults shelf.new) (K.faults out.old) (K.faults out.new) }
-    ensures untouched { Untouched result (K.took out.old) (K.took out.new) }
-    ensures used { IsErrOf result RunFault.Usage → ⊥ }
-    ensures limit { status_of result ≡ Status.NestingLimit → ⊥ }
-{
-    let application = load_app(alloc, shelf, manifest)?;
-    write_classes(alloc, &application, out)?;
     Ok(())
 }
 

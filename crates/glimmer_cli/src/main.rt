@@ -2,8 +2,8 @@
 #![tactic(auto)]
 
 ghost use Rattle.std.specs.Prelude.{◌≡◌};
-ghost use Rattle.gl_run.specs.Lines.{Says};
-ghost use Rattle.gl_run.specs.Run.{memory_line};
+ghost use Rattle.gl_commands.specs.Lines.{Says};
+ghost use Rattle.gl_commands.specs.Run.{memory_line};
 
 use gl_outside::{DirShelf, Sink, SinkFault, StdSink};
 use gl_run::{Last, Status, run};

@@ -3,8 +3,8 @@ use Rattle.std.proofs.lemmas.Str.{encodes-IsAscii}
 use Rattle.gl_base.specs.Texts.{bytes_of}
 use Rattle.gl_base.specs.Taking.{TakesFront}
 use Rattle.gl_base.proofs.Chars.{ascii}
-use Rattle.gl_run.specs.Run.{memory_line}
-use Rattle.gl_run.proofs.Saying.{says_line, says_piece, says_front}
+use Rattle.gl_commands.specs.Run.{memory_line}
+use Rattle.gl_commands.proofs.Saying.{says_line, says_piece, says_front}
 use Rattle.glimmer_cli.proofs.say_memory.Goals as goal
 
 pub returns-in-Ok : goal.returns-in-Ok

@@ -1,6 +1,6 @@
 use Rattle.std.proofs.Common.{Some, codes, refl, ap, ◌∙◌}
 use Rattle.gl_base.proofs.Chars.{chars_of_ascii}
-use Rattle.gl_run.specs.Sample.{sample_files, sample_whole}
+use Rattle.gl_commands.specs.Sample.{sample_files, sample_whole}
 use Rattle.gl_run.proofs.sample.load_sample.Goals as goal
 
 pub returns-in-Ok-clause-told : goal.returns-in-Ok-clause-told

@@ -2,8 +2,8 @@ use Rattle.std.proofs.Common.{◌≡◌, List, Some, None, map, refl, rules}
 use Rattle.std.specs.Str.{chars}
 use Rattle.gl_base.specs.Texts.{Text}
 use Rattle.gl_base.proofs.Taken.{takes_nothing}
-use Rattle.gl_run.specs.Command.{Command, run_command, show_command, wire_command, check_command, migrate_command, sample_command, command_of}
-use Rattle.gl_run.proofs.Outputs.{command_says, usage_output, command_fetches, nothing_held, left_alone}
+use Rattle.gl_commands.specs.Command.{Command, run_command, show_command, wire_command, check_command, migrate_command, sample_command, command_of}
+use Rattle.gl_commands.proofs.Outputs.{command_says, usage_output, command_fetches, nothing_held, left_alone}
 use Rattle.gl_run.proofs.top.attempt.Goals as goal
 
 pub returns-in-Some-Run-clause-told : goal.returns-in-Some-Run-clause-told

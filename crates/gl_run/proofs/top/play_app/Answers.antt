@@ -2,8 +2,8 @@ use Rattle.std.proofs.Common.{refl}
 use Rattle.std.proofs.lemmas.Result.{err_from_is_err_and}
 use Rattle.gl_load.specs.View.{whole_view}
 use Rattle.gl_meaning.specs.Session.{session}
-use Rattle.gl_run.specs.Output.{played_app, app_in_whole}
-use Rattle.gl_run.proofs.Outputs.{played_writes, done_silent, part_written, part_tells, loaded_then, load_tells, load_stops}
+use Rattle.gl_commands.specs.Output.{played_app, app_in_whole}
+use Rattle.gl_commands.proofs.Outputs.{played_writes, done_silent, part_written, part_tells, loaded_then, load_tells, load_stops}
 use Rattle.gl_run.proofs.top.play_app.Goals as goal
 
 pub returns-in_err-loaded-clause-told : goal.returns-in_err-loaded-clause-told

@@ -1,5 +1,5 @@
 use Rattle.std.proofs.Common.{◌∙◌, sym}
-use Rattle.gl_run.proofs.Outputs.{where_done, unless_done}
+use Rattle.gl_commands.proofs.Outputs.{where_done, unless_done}
 use Rattle.gl_run.proofs.top.run.Goals as goal
 
 pub returns-clause-holds : goal.returns-clause-holds

@@ -1,7 +1,7 @@
 use Rattle.std.proofs.Common.{◌∷◌, [], Ok, Err, refl, ap}
 use Rattle.std.proofs.lemmas.Result.{err_from_is_err_and}
-use Rattle.gl_run.specs.Output.{written}
-use Rattle.gl_run.proofs.Outputs.{puts_one, part_written, part_tells, part_causes, part_untouched, part_of_command}
+use Rattle.gl_commands.specs.Output.{written}
+use Rattle.gl_commands.proofs.Outputs.{puts_one, part_written, part_tells, part_causes, part_untouched, part_of_command}
 use Rattle.gl_run.proofs.top.sum_sample.Goals as goal
 
 pub returns-in_err-put_text-clause-told : goal.returns-in_err-put_text-clause-told

@@ -1,0 +1,4 @@
+pub mod Decimals
+pub mod Files
+pub mod Outputs
+pub mod Saying

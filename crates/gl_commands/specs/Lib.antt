@@ -1,0 +1,9 @@
+pub mod Command
+pub mod Lines
+pub mod Load
+pub mod Output
+pub mod Plays
+pub mod Run
+pub mod Sample
+pub mod Status
+pub mod Told

@@ -1,5 +1,0 @@
-use Rattle.gl_run.proofs.Saying.{says_line}
-use Rattle.gl_run.proofs.ending.say_line.Goals as goal
-
-pub returns : goal.returns
-returns g c = says_line _ _ _ _ _ _ _ _ c.say_ending-whole.ensures

@@ -1,4 +1,0 @@
-use Rattle.gl_run.proofs.line.+say_number.Given as goal
-
-abbrev pub decreases-say_number : goal.decreases-say_number
-decreases-say_number g l = l.number

@@ -1,5 +1,0 @@
-use Rattle.gl_base.proofs.Chars.{chars_of_ascii}
-use Rattle.gl_run.proofs.line.say_ascii.Goals as goal
-
-pub returns : goal.returns
-returns g c = rw (chars_of_ascii c.args.piece.now c.requires) at c.say.ensures
