@@ -28,8 +28,7 @@ use Rattle.gl_machine.specs.Gone.{Gone, has_id, gone, modifier_gone, gone_line}
 use Rattle.gl_vm.specs.View.{Tables, seen_instance, seen_modifier, state_of}
 use Rattle.gl_vm.specs.declared.vm.Vm.{Vm}
 use Rattle.gl_code.specs.CodeView.{seen_code}
-use Rattle.gl_code.specs.Tables.{env_of}
-use Rattle.gl_code.specs.Tables.{tables_of}
+use Rattle.gl_code.specs.Tables.{env_of, tables_of}
 use Rattle.gl_code.specs.declared.page.Page.{Page}
 use Rattle.gl_gone.specs.View.{seen_ending, all_seen, line_of, IsKept, AllKept, Lists, is_live}
 use Rattle.gl_gone.specs.Lines.{entry_named, entry_at, class_line, ending_line}

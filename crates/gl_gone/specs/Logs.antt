@@ -14,8 +14,7 @@ use Rattle.gl_machine.specs.Gone.{Gone, gone_modifier, gone_instance, has_id, go
 use Rattle.gl_machine.specs.Rows.{Role, a_modifier, an_instance, Row, page_rows, row_ids}
 use Rattle.gl_vm.specs.View.{state_of}
 use Rattle.gl_code.specs.CodeView.{seen_code}
-use Rattle.gl_code.specs.Tables.{env_of}
-use Rattle.gl_code.specs.Tables.{tables_of}
+use Rattle.gl_code.specs.Tables.{env_of, tables_of}
 use Rattle.gl_code.specs.declared.page.Page.{Page}
 use Rattle.gl_gone.specs.View.{Lists}
 use Rattle.gl_gone.specs.Lines.{ending_line}

@@ -27,8 +27,7 @@ use Rattle.gl_vm.specs.Steps.{empty}
 use Rattle.gl_vm.specs.declared.vm.Vm.{Vm}
 use Rattle.gl_code.specs.CodeView.{seen_code}
 use Rattle.gl_code.specs.Cells.{store_of}
-use Rattle.gl_code.specs.Tables.{tables_of}
-use Rattle.gl_code.specs.Tables.{env_of}
+use Rattle.gl_code.specs.Tables.{tables_of, env_of}
 use Rattle.gl_append.specs.Page.{Appended, Overflows}
 use Rattle.gl_code.specs.declared.code.Code.{Code}
 use Rattle.gl_pages.specs.Laws.{Drawn, PageIsDrawn, PageIsTooDeep}

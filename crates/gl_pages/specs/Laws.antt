@@ -22,8 +22,7 @@ use Rattle.gl_vm.specs.Steps.{Follows}
 use Rattle.gl_vm.specs.declared.vm.Vm.{Vm}
 use Rattle.gl_code.specs.CodeView.{seen_code}
 use Rattle.gl_code.specs.Cells.{CellList, store_of}
-use Rattle.gl_code.specs.Tables.{tables_of}
-use Rattle.gl_code.specs.Tables.{env_of}
+use Rattle.gl_code.specs.Tables.{tables_of, env_of}
 use Rattle.gl_append.specs.Page.{Appends, AppendFails}
 use Rattle.gl_code.specs.declared.code.Code.{Code}
 use Rattle.gl_code.specs.declared.fault.VmFault.TheVariants as fault

@@ -17,8 +17,7 @@ use Rattle.gl_turns.proofs.Turning.{rendered}
 use Rattle.gl_machine.specs.Code.{live_of}
 use Rattle.gl_vm.specs.View.{state_of}
 use Rattle.gl_code.specs.CodeView.{seen_code}
-use Rattle.gl_code.specs.Tables.{env_of}
-use Rattle.gl_code.specs.Tables.{tables_of}
+use Rattle.gl_code.specs.Tables.{env_of, tables_of}
 use Rattle.gl_code.specs.declared.page.Page.{Page}
 use Rattle.gl_naming.specs.Renamed.{state_with}
 use Rattle.gl_standing.specs.Standing.{StandsIn}

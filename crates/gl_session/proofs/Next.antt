@@ -26,8 +26,7 @@ use Rattle.gl_follows.specs.Sets.{put_all, held_of, AreOwn}
 use Rattle.gl_guards.specs.Along.{along_root_code_as}
 use Rattle.gl_guards.proofs.Pages.{puts_go_along}
 use Rattle.gl_code.specs.CodeView.{seen_code}
-use Rattle.gl_code.specs.Tables.{env_of}
-use Rattle.gl_code.specs.Tables.{tables_of}
+use Rattle.gl_code.specs.Tables.{env_of, tables_of}
 use Rattle.gl_code.specs.declared.page.Page.{Page}
 use Rattle.gl_actions.specs.Found.{instance_in}
 use Rattle.gl_actions.specs.Sets as acts

@@ -25,8 +25,7 @@ use Rattle.gl_vm.specs.Steps.{Follows}
 use Rattle.gl_follows.specs.Turns.{FollowsBy}
 use Rattle.gl_code.specs.CodeView.{seen_code}
 use Rattle.gl_code.specs.Hung.{nest_of}
-use Rattle.gl_code.specs.Tables.{env_of}
-use Rattle.gl_code.specs.Tables.{tables_of}
+use Rattle.gl_code.specs.Tables.{env_of, tables_of}
 use Rattle.gl_code.specs.declared.page.Page.{Page}
 use Rattle.gl_texts.specs.Lines.{nest_lines, shown_lines, installed_lines}
 use Rattle.gl_texts.specs.Laws.{text_of_turn}

@@ -30,8 +30,7 @@ use Rattle.gl_vm.specs.declared.vm.Vm.{Vm}
 use Rattle.gl_code.specs.CodeView.{seen_code}
 use Rattle.gl_code.specs.Hung.{nest_of}
 use Rattle.gl_append.specs.Page.{Appends, AppendFails}
-use Rattle.gl_code.specs.Tables.{env_of}
-use Rattle.gl_code.specs.Tables.{tables_of}
+use Rattle.gl_code.specs.Tables.{env_of, tables_of}
 use Rattle.gl_code.specs.declared.fault.VmFault.{VmFault}
 use Rattle.gl_code.specs.declared.fault.VmFault.TheVariants as fault
 use Rattle.gl_code.specs.declared.page.Page.{Page}

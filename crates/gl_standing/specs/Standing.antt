@@ -12,8 +12,7 @@ use Rattle.gl_follows.specs.Turns.{FollowsBy}
 use Rattle.gl_vm.specs.View.{state_of, Agrees}
 use Rattle.gl_code.specs.CodeView.{seen_code}
 use Rattle.gl_code.specs.Hung.{nest_of}
-use Rattle.gl_code.specs.Tables.{env_of}
-use Rattle.gl_code.specs.Tables.{tables_of}
+use Rattle.gl_code.specs.Tables.{env_of, tables_of}
 use Rattle.gl_code.specs.declared.page.Page.{Page}
 
 -- A page stands in a state of a session, for these templates of its application: what it keeps and its updating program follow the state, and

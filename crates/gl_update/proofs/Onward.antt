@@ -11,8 +11,7 @@ use Rattle.gl_machine.specs.Step.{run_for_as}
 use Rattle.gl_vm.specs.View.{Tables, Agrees, state_of}
 use Rattle.gl_vm.specs.declared.vm.Vm.{Vm}
 use Rattle.gl_code.specs.Cells.{CellList, store_of}
-use Rattle.gl_code.specs.Tables.{tables_of}
-use Rattle.gl_code.specs.Tables.{env_of}
+use Rattle.gl_code.specs.Tables.{tables_of, env_of}
 use Rattle.gl_code.specs.declared.fault.VmFault.{VmFault}
 use Rattle.gl_code.specs.declared.fault.VmFault.TheVariants as fault
 use Rattle.gl_code.specs.Renewing.{Renewal, Renews, RenewFails}

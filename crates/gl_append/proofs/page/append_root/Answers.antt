@@ -8,8 +8,7 @@ use Rattle.gl_code.specs.View.{refs_made, seen_owner, seen_sight}
 use Rattle.gl_code.specs.CodeView.{component_seen}
 use Rattle.gl_append.specs.MachineView.{seen_here, mach_by, mach_of}
 use Rattle.gl_code.specs.Cells.{store_of}
-use Rattle.gl_code.specs.Tables.{tables_of}
-use Rattle.gl_code.specs.Tables.{env_of}
+use Rattle.gl_code.specs.Tables.{tables_of, env_of}
 use Rattle.gl_append.proofs.PageRuns.{run_ends, root_fails}
 use Rattle.gl_append.proofs.page.append_root.Goals as goal
 

@@ -1,8 +1,7 @@
 use Rattle.std.proofs.Common.{◌+◌, ◌++◌, drop, sym, ◌∙◌, ap, append-nil}
 use Rattle.std.proofs.lemmas.List.{drop_all}
 use Rattle.gl_plain.specs.Tags.{attributes_waiting}
-use Rattle.gl_parts.specs.Parts.{seen_parts}
-use Rattle.gl_parts.specs.Parts.{seen_attributes}
+use Rattle.gl_parts.specs.Parts.{seen_parts, seen_attributes}
 use Rattle.gl_code.proofs.ListLaws.{item_next}
 use Rattle.gl_parts.proofs.attributes.attributes_of.Goals as goal
 

@@ -1,8 +1,7 @@
 use Rattle.std.proofs.Common.{◌≡◌, ◌++◌, drop}
 use Rattle.gl_plain.specs.Tags.{attributes_waiting}
 use Rattle.gl_vm.specs.View.{Tables}
-use Rattle.gl_parts.specs.Parts.{seen_parts}
-use Rattle.gl_parts.specs.Parts.{seen_attributes}
+use Rattle.gl_parts.specs.Parts.{seen_parts, seen_attributes}
 use Rattle.gl_parts.proofs.attributes.attributes_of.Given as goal
 
 abbrev pub invariant-loop-part : goal.invariant-loop-part

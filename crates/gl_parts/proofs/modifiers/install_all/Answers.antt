@@ -3,8 +3,7 @@ use Rattle.std.proofs.lemmas.List.{drop_all}
 use Rattle.gl_plain.specs.Tags.{install_parts}
 use Rattle.gl_vm.specs.View.{state_of}
 use Rattle.gl_code.specs.CodeView.{seen_mod_spot}
-use Rattle.gl_parts.specs.Parts.{seen_part, seen_parts}
-use Rattle.gl_parts.specs.Parts.{grown_after}
+use Rattle.gl_parts.specs.Parts.{seen_part, seen_parts, grown_after}
 use Rattle.gl_code.proofs.ListLaws.{item_next}
 use Rattle.gl_parts.proofs.Leading.{leads_still, walk_goes, walk_ends}
 use Rattle.gl_parts.proofs.ModLaws.{grown_end}

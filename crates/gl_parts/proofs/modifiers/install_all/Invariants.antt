@@ -2,8 +2,7 @@ use Rattle.std.proofs.Common.{◌≡◌, map, length, drop}
 use Rattle.gl_plain.specs.Tags.{install_parts}
 use Rattle.gl_vm.specs.View.{Calm}
 use Rattle.gl_code.specs.CodeView.{seen_mod_spot}
-use Rattle.gl_parts.specs.Parts.{seen_parts}
-use Rattle.gl_parts.specs.Parts.{Leads, grown_after}
+use Rattle.gl_parts.specs.Parts.{seen_parts, Leads, grown_after}
 use Rattle.gl_parts.proofs.modifiers.install_all.Given as goal
 
 abbrev pub invariant-loop-part : goal.invariant-loop-part

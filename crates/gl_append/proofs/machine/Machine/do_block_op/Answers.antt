@@ -9,11 +9,10 @@ use Rattle.gl_machine.specs.Step as s
 use Rattle.gl_vm.specs.View.{Tables}
 use Rattle.gl_vm.specs.declared.vm.Vm.{Vm}
 use Rattle.gl_append.specs.Steps.{PopsFrame}
-use Rattle.gl_code.specs.Tables.{tables_of}
+use Rattle.gl_code.specs.Tables.{tables_of, env_of}
 use Rattle.gl_append.specs.declared.step.Next.TheVariants as next
 use Rattle.gl_append.specs.MachineView.{mach_by}
 use Rattle.gl_code.specs.Cells.{store_of}
-use Rattle.gl_code.specs.Tables.{env_of}
 use Rattle.gl_append.specs.Stepping.{Stepped, StepsIn, DoesOp}
 use Rattle.gl_append.proofs.FrameEnds.{moves_ended, over_ended}
 use Rattle.gl_append.proofs.FramesFree.{end_block_free}

@@ -7,8 +7,7 @@ use Rattle.gl_append.specs.MachineView.{mach_of}
 use Rattle.gl_append.specs.Steps.{GoesOn}
 use Rattle.gl_code.specs.Cells.{store_of}
 use Rattle.gl_code.specs.Instances.{Suits}
-use Rattle.gl_code.specs.Tables.{tables_of}
-use Rattle.gl_code.specs.Tables.{env_of}
+use Rattle.gl_code.specs.Tables.{tables_of, env_of}
 use Rattle.gl_append.proofs.RunSteps.{one_less}
 use Rattle.gl_append.proofs.machine.Machine.do_nest.Goals as goal
 

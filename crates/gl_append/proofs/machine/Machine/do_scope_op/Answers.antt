@@ -16,9 +16,8 @@ use Rattle.gl_base.specs.Names.{last_named}
 use Rattle.gl_names.specs.Helpers.{helper_rows}
 use Rattle.gl_names.specs.Table.{name_of}
 use Rattle.gl_vm.specs.View.{helper_name}
-use Rattle.gl_code.specs.Tables.{env_of}
+use Rattle.gl_code.specs.Tables.{env_of, tables_of}
 use Rattle.gl_code.specs.Cells.{store_of}
-use Rattle.gl_code.specs.Tables.{tables_of}
 use Rattle.gl_append.proofs.OpSteps.{does, does_moving, text_does, name_does, field_count, action_does, given_by, after_top, top_moves}
 use Rattle.gl_append.proofs.Taking.{moved}
 use Rattle.gl_append.proofs.machine.Machine.do_scope_op.Goals as goal
