@@ -96,7 +96,7 @@ decreases-syncing::kept_item g l = room l.left (length l.trail.now.path.steps) 2
 -- where what is left goes on, all goes
 abbrev pub invariant-codes::renew_codes-loop-place : goal.invariant-codes::renew_codes-loop-place
 invariant-codes::renew_codes-loop-place g l = record {
-  unvisited : goal.unvisited-codes::renew_codes-loop-place l;
+  unvisited : goal.unvisited-codes::renew_codes-loop-place g l;
   trail : l.trail ≡ l.fn.trail;
   calm : Calm l.vm;
   walks : Walks l.app l.cells l.left (trail_view l.fn.trail) l.fn.codes l.fn.vm l.code-items l.place l.vm;
@@ -105,7 +105,7 @@ invariant-codes::renew_codes-loop-place g l = record {
 
 abbrev pub invariant-along::walk_items-loop-item : goal.invariant-along::walk_items-loop-item
 invariant-along::walk_items-loop-item g l = record {
-  unvisited : goal.unvisited-along::walk_items-loop-item l;
+  unvisited : goal.unvisited-along::walk_items-loop-item g l;
   trail : l.trail ≡ l.fn.trail;
   calm : Calm l.vm;
   walks : WalksItems l.app l.cells l.left (trail_view l.fn.trail) l.fn.items.items l.fn.vm l.item-items l.item-index l.vm;
@@ -114,7 +114,7 @@ invariant-along::walk_items-loop-item g l = record {
 
 abbrev pub invariant-staying::stay_items-loop-kept : goal.invariant-staying::stay_items-loop-kept
 invariant-staying::stay_items-loop-kept g l = record {
-  unvisited : goal.unvisited-staying::stay_items-loop-kept l;
+  unvisited : goal.unvisited-staying::stay_items-loop-kept g l;
   trail : l.trail ≡ l.fn.trail;
   calm : Calm l.vm;
   index : l.index ≡ l.kept-index;
