@@ -124,39 +124,57 @@ fn manifest(alloc: Global, classes: Vec<Class>) -> Result<Manifest, Fail> {
     })
 }
 
+fn check_found(rt: &impl Abort, found: Option<(&Text, &Text)>, wanted: (&str, &str)) {
+    match found {
+        Some((class, getter)) => {
+            assert_eq!(rt; class.as_str(), wanted.0);
+            assert_eq!(rt; getter.as_str(), wanted.1);
+        }
+        None => assert_eq!(rt; "", wanted.0),
+    }
+}
+
+fn check_manifest(rt: &impl Abort, manifest: &Manifest, wanted: (&str, &str)) {
+    if !keeps_limits(manifest) {
+        assert!(rt; false);
+        return;
+    }
+    check_found(rt, cycle(manifest), wanted);
+}
+
 fn check(
     rt: &impl Abort,
     alloc: Global,
     classes: Vec<Class>,
-    found: (&str, &str),
+    wanted: (&str, &str),
 ) -> Result<(), Fail> {
     let manifest = manifest(alloc, classes)?;
-    if !keeps_limits(&manifest) {
-        assert!(rt; false);
-        return Ok(());
-    }
-    match cycle(&manifest) {
-        Some((class, getter)) => {
-            assert_eq!(rt; class.as_str(), found.0);
-            assert_eq!(rt; getter.as_str(), found.1);
-        }
-        None => assert_eq!(rt; "", found.0),
-    }
+    check_manifest(rt, &manifest, wanted);
     Ok(())
 }
 
+fn with_getters(alloc: Global, name: &str, rows: &[Row]) -> Result<Class, Fail> {
+    let getters = getters(alloc, rows)?;
+    class(alloc, Text::from_str(alloc, name)?, getters)
+}
+
 // A class `App` and a class `Kid` with these getters.
+fn classes(alloc: Global, app: &[Row], kid: &[Row]) -> Result<Vec<Class>, Fail> {
+    let mut classes = Vec::new(alloc);
+    classes.push(with_getters(alloc, "App", app)?)?;
+    classes.push(with_getters(alloc, "Kid", kid)?)?;
+    Ok(classes)
+}
+
 fn check_row(
     rt: &impl Abort,
     alloc: Global,
     app: &[Row],
     kid: &[Row],
-    found: (&str, &str),
+    wanted: (&str, &str),
 ) -> Result<(), Fail> {
-    let mut classes = Vec::new(alloc);
-    classes.push(class(alloc, Text::from_str(alloc, "App")?, getters(alloc, app)?)?)?;
-    classes.push(class(alloc, Text::from_str(alloc, "Kid")?, getters(alloc, kid)?)?)?;
-    check(rt, alloc, classes, found)
+    let classes = classes(alloc, app, kid)?;
+    check(rt, alloc, classes, wanted)
 }
 
 // The getters of the first class, and the first that reaches itself; that of the second class does so too.

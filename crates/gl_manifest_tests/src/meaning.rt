@@ -20,10 +20,11 @@ fn texts(alloc: Global, first: &str) -> Result<Texts, Fail> {
 }
 
 fn set_step(alloc: Global, field: &str) -> Result<Step, Fail> {
+    let field = text(alloc, field)?;
     Ok(Step {
         when: Some(Expr::Lit(Lit::Bool(true))),
         kind: StepKind::Set {
-            field: text(alloc, field)?,
+            field,
             to: Expr::Lit(Lit::Int(1)),
         },
     })
@@ -63,16 +64,25 @@ fn fields(alloc: Global) -> Result<Fields, Fail> {
     Ok(fields)
 }
 
-fn classes(alloc: Global) -> Result<Classes, Fail> {
-    let mut classes = Classes::new(alloc);
-    classes.push(Class {
+fn class_of(alloc: Global, fields: Fields, actions: Actions) -> Result<Class, Fail> {
+    Ok(Class {
         name: text(alloc, "App")?,
         file: text(alloc, "app.hbs")?,
-        fields: fields(alloc)?,
+        fields,
         getters: Getters::new(alloc),
-        actions: actions(alloc)?,
+        actions,
         teardown: true,
-    })?;
+    })
+}
+
+fn class(alloc: Global) -> Result<Class, Fail> {
+    let fields = fields(alloc)?;
+    class_of(alloc, fields, actions(alloc)?)
+}
+
+fn classes(alloc: Global) -> Result<Classes, Fail> {
+    let mut classes = Classes::new(alloc);
+    classes.push(class(alloc)?)?;
     Ok(classes)
 }
 
@@ -111,8 +121,7 @@ fn script(alloc: Global) -> Result<Script, Fail> {
     Ok(Script { events })
 }
 
-fn path(alloc: Global) -> Result<Path, Fail> {
-    let mut steps = PathSteps::new(alloc);
+fn push_path(alloc: Global, steps: &mut PathSteps) -> Result<(), Fail> {
     steps.push(PathStep::At(0))?;
     steps.push(PathStep::Then)?;
     steps.push(PathStep::Else)?;
@@ -126,6 +135,12 @@ fn path(alloc: Global) -> Result<Path, Fail> {
     steps.push(PathStep::Empty)?;
     steps.push(PathStep::Attr(text(alloc, "id")?))?;
     steps.push(PathStep::Mod(0))?;
+    Ok(())
+}
+
+fn path(alloc: Global) -> Result<Path, Fail> {
+    let mut steps = PathSteps::new(alloc);
+    push_path(alloc, &mut steps)?;
     Ok(Path { steps })
 }
 
@@ -152,11 +167,27 @@ fn event_kind(event: &Event) -> usize {
     }
 }
 
+// A list's count, and that of its items, where it isn't empty.
+fn check_counts(
+    rt: &impl Abort,
+    list: &str,
+    is_empty: bool,
+    counts: (usize, usize),
+    wanted: usize,
+) {
+    assert!(rt; !is_empty, "{list}");
+    assert_eq!(rt; counts.0, wanted, "{list}");
+    assert_eq!(rt; counts.1, wanted, "{list}");
+}
+
+fn check_kind(rt: &impl Abort, found: usize, wanted: usize) {
+    assert_eq!(rt; found, wanted);
+}
+
 fn check_steps(rt: &impl Abort, alloc: Global) -> Result<(), Fail> {
     let steps = Steps::from_vec(steps(alloc)?.into_vec());
-    assert!(rt; !steps.is_empty());
-    assert_eq!(rt; steps.len(), 2);
-    assert_eq!(rt; steps.as_slice().len(), 2);
+    let counts = (steps.len(), steps.as_slice().len());
+    check_counts(rt, "steps", steps.is_empty(), counts, 2);
     assert!(rt; steps.get(0).is_some_and(|step| step.when.is_some()));
     assert!(rt;
         steps
@@ -168,40 +199,38 @@ fn check_steps(rt: &impl Abort, alloc: Global) -> Result<(), Fail> {
 
 fn check_actions(rt: &impl Abort, alloc: Global) -> Result<(), Fail> {
     let actions = Actions::from_vec(actions(alloc)?.into_vec());
-    assert!(rt; !actions.is_empty());
-    assert_eq!(rt; actions.len(), 1);
-    assert_eq!(rt; actions.as_slice().len(), 1);
+    let counts = (actions.len(), actions.as_slice().len());
+    check_counts(rt, "actions", actions.is_empty(), counts, 1);
     assert!(rt; actions.get(0).is_some_and(|action| action.name.is("inc")));
     Ok(())
 }
 
 fn check_classes(rt: &impl Abort, alloc: Global) -> Result<(), Fail> {
     let classes = Classes::from_vec(manifest(alloc)?.classes.into_vec());
-    assert!(rt; !classes.is_empty());
-    assert_eq!(rt; classes.len(), 1);
-    assert_eq!(rt; classes.as_slice().len(), 1);
+    let counts = (classes.len(), classes.as_slice().len());
+    check_counts(rt, "classes", classes.is_empty(), counts, 1);
     assert!(rt; classes.get(0).is_some_and(|class| class.teardown));
     Ok(())
 }
 
 fn check_events(rt: &impl Abort, alloc: Global) -> Result<(), Fail> {
     let events = Events::from_vec(script(alloc)?.events.into_vec());
-    assert!(rt; !events.is_empty());
-    assert_eq!(rt; events.len(), 3);
+    let counts = (events.len(), events.as_slice().len());
+    check_counts(rt, "events", events.is_empty(), counts, 3);
     assert!(rt; events.get(3).is_none());
     for (at, event) in events.as_slice().iter().enumerate() {
-        assert_eq!(rt; event_kind(event), at);
+        check_kind(rt, event_kind(event), at);
     }
     Ok(())
 }
 
 fn check_path(rt: &impl Abort, alloc: Global) -> Result<(), Fail> {
     let steps = PathSteps::from_vec(path(alloc)?.steps.into_vec());
-    assert!(rt; !steps.is_empty());
-    assert_eq!(rt; steps.len(), 10);
+    let counts = (steps.len(), steps.as_slice().len());
+    check_counts(rt, "path", steps.is_empty(), counts, 10);
     assert!(rt; matches!(steps.get(9), Some(PathStep::Mod(0))));
     for (at, step) in steps.as_slice().iter().enumerate() {
-        assert_eq!(rt; path_step_kind(step), at);
+        check_kind(rt, path_step_kind(step), at);
     }
     Ok(())
 }

@@ -26,6 +26,12 @@ fn root(alloc: Global) -> Result<Class, Fail> {
     })
 }
 
+fn push_value(alloc: Global, value: &Value, out: &mut Text) -> Result<(), Fail> {
+    let text = value.text_of(alloc)?;
+    out.push_text(&text)?;
+    Ok(())
+}
+
 // An event that is no batch, as text.
 fn push_simple(alloc: Global, event: &Event, out: &mut Text) -> Result<(), Fail> {
     match event {
@@ -33,7 +39,7 @@ fn push_simple(alloc: Global, event: &Event, out: &mut Text) -> Result<(), Fail>
             out.push_ascii("set ")?;
             out.push_text(field)?;
             out.push_ascii(" ")?;
-            out.push_text(&to.text_of(alloc)?)?;
+            push_value(alloc, to, out)?;
         }
         Event::Fire {
             node,
@@ -45,7 +51,7 @@ fn push_simple(alloc: Global, event: &Event, out: &mut Text) -> Result<(), Fail>
             out.push_ascii(" ")?;
             out.push_text(name)?;
             out.push_ascii(" ")?;
-            out.push_text(&payload.text_of(alloc)?)?;
+            push_value(alloc, payload, out)?;
         }
         Event::Batch(_) => out.push_ascii("batch")?,
     }
@@ -89,38 +95,63 @@ fn push_fault(fault: &ScriptFault, out: &mut Text) -> Result<(), Fail> {
     Ok(())
 }
 
-fn check_row(rt: &impl Abort, alloc: Global, bytes: &[u8], wanted: &str) -> Result<(), Fail> {
-    let mut told = Text::new(alloc);
-    match read(alloc, bytes, &root(alloc)?) {
-        Ok(script) => push_script(alloc, &script, &mut told)?,
-        Err(fault) => push_fault(&fault, &mut told)?,
+fn read_script(alloc: Global, bytes: &[u8]) -> Result<Result<Script, ScriptFault>, Fail> {
+    let root = root(alloc)?;
+    Ok(read(alloc, bytes, &root))
+}
+
+fn push_read(
+    alloc: Global,
+    found: &Result<Script, ScriptFault>,
+    out: &mut Text,
+) -> Result<(), Fail> {
+    match found {
+        Ok(script) => push_script(alloc, script, out),
+        Err(fault) => push_fault(fault, out),
     }
+}
+
+// What is told of a script, or of why it is none.
+fn told(alloc: Global, bytes: &[u8]) -> Result<Text, Fail> {
+    let found = read_script(alloc, bytes)?;
+    let mut out = Text::new(alloc);
+    push_read(alloc, &found, &mut out)?;
+    Ok(out)
+}
+
+fn check_row(rt: &impl Abort, alloc: Global, bytes: &[u8], wanted: &str) -> Result<(), Fail> {
+    let told = told(alloc, bytes)?;
     assert_eq!(rt; told.as_str(), wanted);
     Ok(())
 }
 
-#[test]
-fn scripts(rt: HostRuntime) -> Result<(), Fail> {
-    let rows = [
-        ("[]", ""),
-        (
-            " [ {\"to\": 1, \"set\": \"n\"}, {\"batch\": []} ] ",
-            "set n 1;()",
-        ),
-        (
-            "[{\"fire\":9007199254740991,\"event\":\"\"},{\"data\":\"\\u00e9\",\"fire\":1,\"event\":\"x\"}]",
-            "fire 9007199254740991  ;fire 1 x \u{e9};",
-        ),
-        (
-            "[{\"batch\":[{\"set\":\"n\",\"to\":-9007199254740991},{\"fire\":2,\"event\":\"click\"}]}]",
-            "(set n -9007199254740991;fire 2 click ;)",
-        ),
-        ("[{\"set\":\"g\",\"set\":\"n\",\"to\":true}]", "set n true;"),
-    ];
-    for row in &rows {
-        check_row(&rt, rt.alloc(), row.0.as_bytes(), row.1)?;
+fn check_rows(rt: &impl Abort, alloc: Global, rows: &[(&str, &str)]) -> Result<(), Fail> {
+    for row in rows {
+        check_row(rt, alloc, row.0.as_bytes(), row.1)?;
     }
     Ok(())
+}
+
+static SCRIPTS: [(&str, &str); 5] = [
+    ("[]", ""),
+    (
+        " [ {\"to\": 1, \"set\": \"n\"}, {\"batch\": []} ] ",
+        "set n 1;()",
+    ),
+    (
+        "[{\"fire\":9007199254740991,\"event\":\"\"},{\"data\":\"\\u00e9\",\"fire\":1,\"event\":\"x\"}]",
+        "fire 9007199254740991  ;fire 1 x \u{e9};",
+    ),
+    (
+        "[{\"batch\":[{\"set\":\"n\",\"to\":-9007199254740991},{\"fire\":2,\"event\":\"click\"}]}]",
+        "(set n -9007199254740991;fire 2 click ;)",
+    ),
+    ("[{\"set\":\"g\",\"set\":\"n\",\"to\":true}]", "set n true;"),
+];
+
+#[test]
+fn scripts(rt: HostRuntime) -> Result<(), Fail> {
+    check_rows(&rt, rt.alloc(), &SCRIPTS)
 }
 
 #[test]
@@ -138,69 +169,63 @@ fn not_json(rt: HostRuntime) -> Result<(), Fail> {
     Ok(())
 }
 
+static FAULTY_EVENTS: [(&str, &str); 8] = [
+    ("{\"set\":\"n\",\"to\":1}", "at "),
+    ("[1]", "at /0"),
+    ("[{}]", "at /0"),
+    ("[{\"set\":\"n\"}]", "at /0"),
+    ("[{\"set\":\"n\",\"to\":1,\"by\":2}]", "at /0"),
+    ("[{\"batch\":[],\"fire\":0,\"event\":\"x\"}]", "at /0"),
+    ("[{\"fire\":1,\"event\":\"x\",\"date\":1}]", "at /0"),
+    (
+        "[{\"batch\":[{\"set\":\"n\",\"to\":1},{\"batch\":[]}]}]",
+        "at /0/batch/1",
+    ),
+];
+
 #[test]
 fn faulty_events(rt: HostRuntime) -> Result<(), Fail> {
-    let rows = [
-        ("{\"set\":\"n\",\"to\":1}", "at "),
-        ("[1]", "at /0"),
-        ("[{}]", "at /0"),
-        ("[{\"set\":\"n\"}]", "at /0"),
-        ("[{\"set\":\"n\",\"to\":1,\"by\":2}]", "at /0"),
-        ("[{\"batch\":[],\"fire\":0,\"event\":\"x\"}]", "at /0"),
-        ("[{\"fire\":1,\"event\":\"x\",\"date\":1}]", "at /0"),
-        (
-            "[{\"batch\":[{\"set\":\"n\",\"to\":1},{\"batch\":[]}]}]",
-            "at /0/batch/1",
-        ),
-    ];
-    for row in &rows {
-        check_row(&rt, rt.alloc(), row.0.as_bytes(), row.1)?;
-    }
-    Ok(())
+    check_rows(&rt, rt.alloc(), &FAULTY_EVENTS)
 }
+
+static FAULTY_MEMBERS: [(&str, &str); 8] = [
+    ("[{\"fire\":0,\"event\":\"x\"}]", "at /0/fire"),
+    (
+        "[{\"fire\":9007199254740992,\"event\":\"x\"}]",
+        "at /0/fire",
+    ),
+    ("[{\"fire\":1.0,\"event\":\"x\"}]", "at /0/fire"),
+    ("[{\"fire\":0,\"event\":1,\"data\":null}]", "at /0/event"),
+    ("[{\"fire\":0,\"event\":1,\"data\":[0.5]}]", "at /0/data"),
+    ("[{\"set\":1,\"to\":1.5}]", "at /0/set"),
+    ("[{\"set\":\"x\",\"to\":[1,-9007199254740992]}]", "at /0/to"),
+    ("[{\"batch\":[]},{\"batch\":{}}]", "at /1/batch"),
+];
 
 #[test]
 fn faulty_members(rt: HostRuntime) -> Result<(), Fail> {
-    let rows = [
-        ("[{\"fire\":0,\"event\":\"x\"}]", "at /0/fire"),
-        (
-            "[{\"fire\":9007199254740992,\"event\":\"x\"}]",
-            "at /0/fire",
-        ),
-        ("[{\"fire\":1.0,\"event\":\"x\"}]", "at /0/fire"),
-        ("[{\"fire\":0,\"event\":1,\"data\":null}]", "at /0/event"),
-        ("[{\"fire\":0,\"event\":1,\"data\":[0.5]}]", "at /0/data"),
-        ("[{\"set\":1,\"to\":1.5}]", "at /0/set"),
-        ("[{\"set\":\"x\",\"to\":[1,-9007199254740992]}]", "at /0/to"),
-        ("[{\"batch\":[]},{\"batch\":{}}]", "at /1/batch"),
-    ];
-    for row in &rows {
-        check_row(&rt, rt.alloc(), row.0.as_bytes(), row.1)?;
-    }
-    Ok(())
+    check_rows(&rt, rt.alloc(), &FAULTY_MEMBERS)
 }
+
+static UNKNOWN_FIELDS: [(&str, &str); 4] = [
+    ("[{\"set\":\"m\",\"to\":1}]", "0 unknown m"),
+    (
+        "[{\"set\":\"n\",\"to\":1},{\"set\":\"g\",\"to\":1},{\"set\":\"h\",\"to\":1}]",
+        "1 unknown g",
+    ),
+    (
+        "[{\"fire\":1,\"event\":\"m\"},{\"batch\":[{\"set\":\"n\",\"to\":1},{\"set\":\"\",\"to\":1}]},{\"set\":\"g\",\"to\":1}]",
+        "1 unknown ",
+    ),
+    (
+        "[{\"set\":\"m\",\"to\":1},{\"fire\":0,\"event\":\"x\"}]",
+        "at /1/fire",
+    ),
+];
 
 #[test]
 fn unknown_fields(rt: HostRuntime) -> Result<(), Fail> {
-    let rows = [
-        ("[{\"set\":\"m\",\"to\":1}]", "0 unknown m"),
-        (
-            "[{\"set\":\"n\",\"to\":1},{\"set\":\"g\",\"to\":1},{\"set\":\"h\",\"to\":1}]",
-            "1 unknown g",
-        ),
-        (
-            "[{\"fire\":1,\"event\":\"m\"},{\"batch\":[{\"set\":\"n\",\"to\":1},{\"set\":\"\",\"to\":1}]},{\"set\":\"g\",\"to\":1}]",
-            "1 unknown ",
-        ),
-        (
-            "[{\"set\":\"m\",\"to\":1},{\"fire\":0,\"event\":\"x\"}]",
-            "at /1/fire",
-        ),
-    ];
-    for row in &rows {
-        check_row(&rt, rt.alloc(), row.0.as_bytes(), row.1)?;
-    }
-    Ok(())
+    check_rows(&rt, rt.alloc(), &UNKNOWN_FIELDS)
 }
 
 // A value that is nested so deep, in a set.

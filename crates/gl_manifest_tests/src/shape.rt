@@ -177,11 +177,15 @@ static NAMES: [(&str, bool, bool, bool); 6] = [
     ("A:", false, false, false),
 ];
 
+fn check_is(rt: &impl Abort, name: &str, found: bool, wanted: bool) {
+    assert_eq!(rt; found, wanted, "{name}");
+}
+
 fn check_name(rt: &impl Abort, row: &(&str, bool, bool, bool)) {
     let bytes = row.0.as_bytes();
-    assert_eq!(rt; is_name(bytes), row.1, "{}", row.0);
-    assert_eq!(rt; is_free_name(bytes), row.2, "{}", row.0);
-    assert_eq!(rt; is_class_name(bytes), row.3, "{}", row.0);
+    check_is(rt, row.0, is_name(bytes), row.1);
+    check_is(rt, row.0, is_free_name(bytes), row.2);
+    check_is(rt, row.0, is_class_name(bytes), row.3);
 }
 
 #[test]

@@ -1,7 +1,8 @@
 // Calls of helpers. Values are written in JSON, where the text `?` stands for undefined, and a record with
 // the key `@go` for the action `go` of the instance 7 with the fixed arguments that stand there.
+use crate::value::{list_of, value_of};
 use gl_helpers::call;
-use gl_value::{Act, ListBuilder, NamedValues, RecordBuilder, Text, Value};
+use gl_value::{Act, List, ListBuilder, NamedValues, Pair, Record, RecordBuilder, Text, Value};
 use std::alloc::{AllocError, Global};
 use std::process::Abort;
 use std::test::Fail;
@@ -9,7 +10,7 @@ use std::test::Fail;
 // A helper's number, the positional arguments, and what it gives.
 type Row = (u16, &'static str, &'static str);
 
-static ROWS: [Row; 123] = [
+static PARTS: [Row; 27] = [
     // if c a b, unless c a b
     (0, r#"[true,1,2]"#, "1"),
     (0, r#"[0,1,2]"#, "2"),
@@ -47,6 +48,9 @@ static ROWS: [Row; 123] = [
     (6, r#"[{"@go":[1]},2,3]"#, r#"{"@go":[1,2,3]}"#),
     (6, r#"[{"@go":[]}]"#, r#"{"@go":[]}"#),
     (6, "[5,1]", r#""?""#),
+];
+
+static NUMBERS: [Row; 50] = [
     // add a b, sub a b, mul a b
     (7, "[9007199254740991,true]", "9007199254740991"),
     (7, "[2,3]", "5"),
@@ -102,6 +106,9 @@ static ROWS: [Row; 123] = [
     (20, r#"["a","a"]"#, "true"),
     (20, "[1,2]", "false"),
     (20, "[]", "true"),
+];
+
+static LISTS: [Row; 46] = [
     // length v
     (21, "[[1,2]]", "2"),
     (21, r#"["\u00e9\ud83d\ude00"]"#, "2"),
@@ -175,74 +182,115 @@ static ROWS: [Row; 123] = [
 
 // The value of a JSON text, with what stands for undefined and for an action at the top or one below.
 fn read(alloc: Global, text: &str) -> Result<Value, Fail> {
-    let json = serde_json::Value::from_str(alloc, text)?;
-    let value = Value::from_json(alloc, &json)?;
+    let value = value_of(alloc, text)?;
     Ok(marked(alloc, &value)?)
 }
 
 fn marked(alloc: Global, value: &Value) -> Result<Value, AllocError> {
     match value {
-        Value::List(list) => {
-            let mut items = ListBuilder::new(alloc);
-            for item in list.as_slice() {
-                items.push(member(alloc, item)?)?;
-            }
-            Ok(Value::List(items.build()?))
-        }
-        Value::Record(record) if record.get("@go").is_none() => {
-            let mut pairs = RecordBuilder::new(alloc);
-            for pair in record.as_slice() {
-                pairs.push(pair.key.copy()?, member(alloc, &pair.value)?)?;
-            }
-            Ok(Value::Record(pairs.build()?))
-        }
+        Value::List(list) => marked_list(alloc, list),
+        Value::Record(record) if record.get("@go").is_none() => marked_record(alloc, record),
         _ => member(alloc, value),
     }
+}
+
+fn marked_list(alloc: Global, list: &List) -> Result<Value, AllocError> {
+    let mut items = ListBuilder::new(alloc);
+    for item in list.as_slice() {
+        items.push(member(alloc, item)?)?;
+    }
+    Ok(Value::List(items.build()?))
+}
+
+fn marked_record(alloc: Global, record: &Record) -> Result<Value, AllocError> {
+    let mut pairs = RecordBuilder::new(alloc);
+    for pair in record.as_slice() {
+        push_marked(alloc, pair, &mut pairs)?;
+    }
+    Ok(Value::Record(pairs.build()?))
+}
+
+fn push_marked(alloc: Global, pair: &Pair, pairs: &mut RecordBuilder) -> Result<(), AllocError> {
+    let value = member(alloc, &pair.value)?;
+    pairs.push(pair.key.copy()?, value)
 }
 
 fn member(alloc: Global, value: &Value) -> Result<Value, AllocError> {
     match value {
         Value::Text(text) if text.is("?") => Ok(Value::Undefined),
         Value::Record(record) => match record.get("@go") {
-            Some(Value::List(fixed)) => {
-                let name = Text::from_str(alloc, "go")?;
-                let action = Act::new(alloc, 7, name, fixed.copy()?)?;
-                Ok(Value::Act(action))
-            }
+            Some(Value::List(fixed)) => action(alloc, fixed),
             _ => value.copy(),
         },
         _ => value.copy(),
     }
 }
 
+fn action(alloc: Global, fixed: &List) -> Result<Value, AllocError> {
+    let name = Text::from_str(alloc, "go")?;
+    Ok(Value::Act(Act::new(alloc, 7, name, fixed.copy()?)?))
+}
+
 // The values of a JSON list.
 fn arguments(alloc: Global, text: &str) -> Result<Vec<Value>, Fail> {
-    let json = serde_json::Value::from_str(alloc, text)?;
+    match value_of(alloc, text)? {
+        Value::List(items) => marked_items(alloc, &items),
+        _ => Ok(Vec::new(alloc)),
+    }
+}
+
+fn marked_items(alloc: Global, items: &List) -> Result<Vec<Value>, Fail> {
     let mut given = Vec::new(alloc);
-    if let Value::List(items) = Value::from_json(alloc, &json)? {
-        for item in items.as_slice() {
-            given.push(marked(alloc, item)?)?;
-        }
+    for item in items.as_slice() {
+        given.push(marked(alloc, item)?)?;
     }
     Ok(given)
 }
 
+// What the helper with a number gives.
+fn called(
+    rt: &impl Abort,
+    alloc: Global,
+    helper: u16,
+    given: &[Value],
+    named: &NamedValues,
+) -> Result<Value, Fail> {
+    assert!(rt; helper < 33);
+    Ok(call(alloc, helper, given, named)?)
+}
+
+// Whether a value is that of a JSON text.
+fn is_read(alloc: Global, got: Value, wanted: &str) -> Result<bool, Fail> {
+    let wanted = read(alloc, wanted)?;
+    Ok(got.same(&wanted))
+}
+
+fn called_row(rt: &impl Abort, alloc: Global, row: &Row) -> Result<Value, Fail> {
+    let given = arguments(alloc, row.1)?;
+    called(rt, alloc, row.0, given.as_slice(), &NamedValues::new(alloc))
+}
+
 fn check_row(rt: &impl Abort, alloc: Global, row: &Row) -> Result<(), Fail> {
     let (helper, args, wanted) = *row;
-    assert!(rt; helper < 33);
-    let given = arguments(alloc, args)?;
-    let got = call(alloc, helper, given.as_slice(), &NamedValues::new(alloc))?;
-    assert!(rt; got.same(&read(alloc, wanted)?), "{helper} of {args}");
+    let got = called_row(rt, alloc, row)?;
+    let is_right = is_read(alloc, got, wanted)?;
+    assert!(rt; is_right, "{helper} of {args}");
+    Ok(())
+}
+
+fn check_rows(rt: &impl Abort, alloc: Global, rows: &[Row]) -> Result<(), Fail> {
+    for row in rows {
+        check_row(rt, alloc, row)?;
+    }
     Ok(())
 }
 
 #[test]
 fn rows(rt: HostRuntime) -> Result<(), Fail> {
     let alloc = rt.alloc();
-    for row in ROWS.iter() {
-        check_row(&rt, alloc, row)?;
-    }
-    Ok(())
+    check_rows(&rt, alloc, &PARTS)?;
+    check_rows(&rt, alloc, &NUMBERS)?;
+    check_rows(&rt, alloc, &LISTS)
 }
 
 // The names of a `hash` with the values 0, 1, 2, .., and what it gives.
@@ -256,21 +304,41 @@ static HASHES: [Hash; 5] = [
     (&["a", "a", "a", "a"], r#"{"a":3}"#),
 ];
 
-fn check_hash(rt: &impl Abort, alloc: Global, row: &Hash) -> Result<(), Fail> {
-    let (names, wanted) = *row;
+fn push_named(
+    alloc: Global,
+    named: &mut NamedValues,
+    name: &str,
+    value: Value,
+) -> Result<(), AllocError> {
+    named.push(Text::from_str(alloc, name)?, value)
+}
+
+// The names with the values 0, 1, 2, ..
+fn numbered(alloc: Global, names: &[&str]) -> Result<NamedValues, AllocError> {
     let mut named = NamedValues::new(alloc);
     for (value, name) in (0i64..).zip(names.iter()) {
-        named.push(Text::from_str(alloc, name)?, Value::Int(value))?;
+        push_named(alloc, &mut named, name, Value::Int(value))?;
     }
-    let got = call(alloc, 4, &[], &named)?;
-    assert!(rt; got.same(&read(alloc, wanted)?), "{wanted}");
+    Ok(named)
+}
+
+fn hash(alloc: Global, names: &[&str]) -> Result<Value, AllocError> {
+    let named = numbered(alloc, names)?;
+    call(alloc, 4, &[], &named)
+}
+
+fn check_hash(rt: &impl Abort, alloc: Global, row: &Hash) -> Result<(), Fail> {
+    let (names, wanted) = *row;
+    let got = hash(alloc, names)?;
+    let is_right = is_read(alloc, got, wanted)?;
+    assert!(rt; is_right, "{wanted}");
     Ok(())
 }
 
 #[test]
 fn hashes(rt: HostRuntime) -> Result<(), Fail> {
     let alloc = rt.alloc();
-    for row in HASHES.iter() {
+    for row in &HASHES {
         check_hash(&rt, alloc, row)?;
     }
     Ok(())
@@ -307,33 +375,49 @@ static DEEP: [Deep; 15] = [
 fn nested(alloc: Global, depth: u32) -> Result<Value, AllocError> {
     let mut value = Value::Int(0);
     for _ in 0..depth {
-        let mut list = ListBuilder::new(alloc);
-        list.push(value)?;
-        value = Value::List(list.build()?);
+        value = Value::List(list_of(alloc, value)?);
     }
     Ok(value)
 }
 
-fn check_deep(rt: &impl Abort, alloc: Global, row: &Deep) -> Result<(), Fail> {
-    let (helper, args, depth, wanted) = *row;
-    assert!(rt; helper < 33);
-    let mut given = arguments(alloc, args)?;
-    given.push(nested(alloc, depth)?)?;
+fn deep_arguments(alloc: Global, row: &Deep) -> Result<Vec<Value>, Fail> {
+    let mut given = arguments(alloc, row.1)?;
+    given.push(nested(alloc, row.2)?)?;
+    Ok(given)
+}
+
+fn deep_named(alloc: Global, row: &Deep) -> Result<NamedValues, Fail> {
     let mut named = NamedValues::new(alloc);
-    named.push(Text::from_str(alloc, "k")?, nested(alloc, depth)?)?;
-    let got = call(alloc, helper, given.as_slice(), &named)?;
+    push_named(alloc, &mut named, "k", nested(alloc, row.2)?)?;
+    Ok(named)
+}
+
+fn called_deep(rt: &impl Abort, alloc: Global, row: &Deep) -> Result<Value, Fail> {
+    let given = deep_arguments(alloc, row)?;
+    let named = deep_named(alloc, row)?;
+    called(rt, alloc, row.0, given.as_slice(), &named)
+}
+
+// Whether a value is that of a JSON text, or is defined where the text is empty.
+fn is_wanted(alloc: Global, got: Value, wanted: &str) -> Result<bool, Fail> {
     if wanted.is_empty() {
-        assert!(rt; !got.same(&Value::Undefined), "{helper} at {depth}");
-    } else {
-        assert!(rt; got.same(&read(alloc, wanted)?), "{helper} at {depth}");
+        return Ok(!got.same(&Value::Undefined));
     }
+    is_read(alloc, got, wanted)
+}
+
+fn check_deep(rt: &impl Abort, alloc: Global, row: &Deep) -> Result<(), Fail> {
+    let (helper, _, depth, wanted) = *row;
+    let got = called_deep(rt, alloc, row)?;
+    let is_right = is_wanted(alloc, got, wanted)?;
+    assert!(rt; is_right, "{helper} at {depth}");
     Ok(())
 }
 
 #[test]
 fn depths(rt: HostRuntime) -> Result<(), Fail> {
     let alloc = rt.alloc();
-    for row in DEEP.iter() {
+    for row in &DEEP {
         check_deep(&rt, alloc, row)?;
     }
     Ok(())

@@ -108,13 +108,23 @@ fn check_none<const N: usize>(rt: &impl Abort, table: &NameTable<N>, names: &[&s
     }
 }
 
+fn check_numbers<const N: usize>(rt: &impl Abort, table: &NameTable<N>, rows: &[(&str, u16)]) {
+    for (name, number) in rows {
+        check_number(rt, table, name, Some(*number));
+    }
+}
+
+fn check_names<const N: usize>(rt: &impl Abort, table: &NameTable<N>, rows: &[(&str, u16)]) {
+    for (name, number) in rows {
+        check_name(rt, table, *number, Some(*name));
+    }
+}
+
 #[test]
 fn opcodes(rt: HostRuntime) {
     let table = mnemonics();
-    for (name, code) in &CODES {
-        check_number(&rt, &table, name, Some(*code));
-        check_name(&rt, &table, *code, Some(*name));
-    }
+    check_numbers(&rt, &table, &CODES);
+    check_names(&rt, &table, &CODES);
     check_none(&rt, &table, &NO_NAMES);
     check_name(&rt, &table, 0, None);
     check_name(&rt, &table, 46, None);
@@ -123,9 +133,7 @@ fn opcodes(rt: HostRuntime) {
 #[test]
 fn constant_of_opcodes(rt: HostRuntime) {
     let table = MNEMONICS;
-    for (name, code) in &CODES {
-        check_number(&rt, &table, name, Some(*code));
-    }
+    check_numbers(&rt, &table, &CODES);
 }
 
 // Character references of each part of the table, with their code points.
@@ -159,18 +167,14 @@ static NO_VOID: [&str; 5] = ["p", "b", "BR", "brs", ""];
 #[test]
 fn points(rt: HostRuntime) {
     let table = references();
-    for (name, point) in &POINTS {
-        check_number(&rt, &table, name, Some(*point));
-    }
+    check_numbers(&rt, &table, &POINTS);
     check_none(&rt, &table, &NO_POINTS);
 }
 
 #[test]
 fn constant_of_points(rt: HostRuntime) {
     let table = REFERENCES;
-    for (name, point) in &POINTS {
-        check_number(&rt, &table, name, Some(*point));
-    }
+    check_numbers(&rt, &table, &POINTS);
 }
 
 // Whether the names stand in the table with the numbers 0, 1, 2, ..
@@ -192,16 +196,17 @@ fn constant_of_elements(rt: HostRuntime) {
     check_places(&rt, &VOID, &VOID_NAMES);
 }
 
+// Names with the numbers that are found in `ROWS`, and with numbers for which they are found.
+static NUMBERS: [(&str, u16); 3] = [("ab", 7), ("", 9), ("c", 7)];
+
+static NAMES: [(&str, u16); 3] = [("ab", 7), ("ab", 8), ("", 9)];
+
 #[test]
 fn rows(rt: HostRuntime) {
     let table = NameTable::new("ababc", &ROWS);
-    check_number(&rt, &table, "ab", Some(7));
-    check_number(&rt, &table, "", Some(9));
-    check_number(&rt, &table, "c", Some(7));
+    check_numbers(&rt, &table, &NUMBERS);
     check_number(&rt, &table, "b", None);
-    check_name(&rt, &table, 7, Some("ab"));
-    check_name(&rt, &table, 8, Some("ab"));
-    check_name(&rt, &table, 9, Some(""));
+    check_names(&rt, &table, &NAMES);
     check_name(&rt, &table, 1, None);
 }
 

@@ -3,7 +3,7 @@ use gl_value::{
     Act, Found, JsonFault, List, ListBuilder, NamedValues, Record, RecordBuilder, Text, Value,
     key_of, laws, quote,
 };
-use std::alloc::Global;
+use std::alloc::{AllocError, Global};
 use std::process::Abort;
 use std::test::Fail;
 
@@ -172,9 +172,13 @@ fn text_of_copy(alloc: Global, scalar: &Option<Value>) -> Result<Option<Text>, F
     }
 }
 
+fn text_of_scalar(alloc: Global, json: &str) -> Result<Option<Text>, Fail> {
+    let found = scalar(alloc, json)?;
+    text_of_copy(alloc, &found)
+}
+
 fn check_scalar(rt: &impl Abort, alloc: Global, row: &(&str, Option<&str>)) -> Result<(), Fail> {
-    let found = scalar(alloc, row.0)?;
-    let text = text_of_copy(alloc, &found)?;
+    let text = text_of_scalar(alloc, row.0)?;
     assert!(rt; is_shown(&text, &row.1), "{}", row.0);
     Ok(())
 }
@@ -212,13 +216,18 @@ fn text(alloc: Global, characters: &str) -> Result<Text, Fail> {
     Ok(Text::from_str(alloc, characters)?)
 }
 
-#[test]
-fn names(rt: HostRuntime) -> Result<(), Fail> {
-    let alloc = rt.alloc();
+// A name, and another one twice.
+fn named(alloc: Global) -> Result<NamedValues, Fail> {
     let mut named = NamedValues::from_vec(Vec::new(alloc));
     named.push(text(alloc, "a")?, Value::Int(1))?;
     named.push(text(alloc, "b")?, Value::Null)?;
     named.push(text(alloc, "b")?, Value::Bool(true))?;
+    Ok(named)
+}
+
+#[test]
+fn names(rt: HostRuntime) -> Result<(), Fail> {
+    let mut named = named(rt.alloc())?;
     named.set("b", Value::Int(2));
     named.set("c", Value::Int(3));
     assert!(rt; matches!(named.get("b"), Some(Value::Int(2))) && named.get("c").is_none());
@@ -227,7 +236,7 @@ fn names(rt: HostRuntime) -> Result<(), Fail> {
     Ok(())
 }
 
-fn value_of(alloc: Global, text: &str) -> Result<Value, Fail> {
+pub(crate) fn value_of(alloc: Global, text: &str) -> Result<Value, Fail> {
     let json = serde_json::Value::from_str(alloc, text)?;
     Ok(Value::from_json(alloc, &json)?)
 }
@@ -312,12 +321,22 @@ fn pairs(rt: HostRuntime) -> Result<(), Fail> {
     Ok(())
 }
 
-fn check_property(rt: &impl Abort, alloc: Global, row: &Property) -> Result<(), Fail> {
-    let value = value_of(alloc, row.0)?;
+// Whether the property of a row has its text, and whether it is what is found.
+fn property(alloc: Global, value: &Value, row: &Property) -> Result<(bool, bool), Fail> {
     let found = value.property(row.1)?;
     let text = shown(alloc, &found)?;
-    assert!(rt; is_shown(&text, &row.2), "{} of {}", row.1, row.0);
-    assert!(rt; value.find(row.1).same(&found), "{} of {}", row.1, row.0);
+    Ok((is_shown(&text, &row.2), value.find(row.1).same(&found)))
+}
+
+fn property_of(alloc: Global, row: &Property) -> Result<(bool, bool), Fail> {
+    let value = value_of(alloc, row.0)?;
+    property(alloc, &value, row)
+}
+
+fn check_property(rt: &impl Abort, alloc: Global, row: &Property) -> Result<(), Fail> {
+    let (is_shown, is_found) = property_of(alloc, row)?;
+    assert!(rt; is_shown, "{} of {}", row.1, row.0);
+    assert!(rt; is_found, "{} of {}", row.1, row.0);
     Ok(())
 }
 
@@ -329,10 +348,18 @@ fn properties(rt: HostRuntime) -> Result<(), Fail> {
     Ok(())
 }
 
-fn check_key(rt: &impl Abort, alloc: Global, row: &Key) -> Result<(), Fail> {
+fn shown_key(alloc: Global, value: &Value, row: &Key) -> Result<Option<Text>, Fail> {
+    let found = key_of(value, row.1, row.2)?;
+    shown(alloc, &found)
+}
+
+fn key(alloc: Global, row: &Key) -> Result<Option<Text>, Fail> {
     let value = value_of(alloc, row.0)?;
-    let found = key_of(&value, row.1, row.2)?;
-    let text = shown(alloc, &found)?;
+    shown_key(alloc, &value, row)
+}
+
+fn check_key(rt: &impl Abort, alloc: Global, row: &Key) -> Result<(), Fail> {
+    let text = key(alloc, row)?;
     assert!(rt; is_shown(&text, &row.3), "{} of {}", row.2, row.0);
     Ok(())
 }
@@ -380,12 +407,17 @@ fn depths(rt: HostRuntime) -> Result<(), Fail> {
     Ok(())
 }
 
+// The list of one value.
+pub(crate) fn list_of(alloc: Global, value: Value) -> Result<List, AllocError> {
+    let mut items = ListBuilder::new(alloc);
+    items.push(value)?;
+    items.build()
+}
+
 // The action `go` of instance 7, with the fixed argument 1.
 fn action(alloc: Global) -> Result<Value, Fail> {
-    let name = text(alloc, "go")?;
-    let mut fixed = ListBuilder::new(alloc);
-    fixed.push(Value::Int(1))?;
-    let action = Act::new(alloc, 7, name, fixed.build()?)?;
+    let fixed = list_of(alloc, Value::Int(1))?;
+    let action = Act::new(alloc, 7, text(alloc, "go")?, fixed)?;
     Ok(Value::Act(action))
 }
 
@@ -398,22 +430,28 @@ fn check_texts(rt: &impl Abort, alloc: Global, action: &Value) -> Result<(), Fai
     Ok(())
 }
 
+fn check_undefined(rt: &impl Abort, value: Value) {
+    assert!(rt; matches!(value, Value::Undefined));
+}
+
 // An action is no data and no key.
 fn check_data(rt: &impl Abort, action: &Value) -> Result<(), Fail> {
-    let data = action.data_of()?;
-    let key = key_of(action, 0, "@identity")?;
-    assert!(rt; matches!(data, Value::Undefined));
-    assert!(rt; matches!(key, Value::Undefined));
+    check_undefined(rt, action.data_of()?);
+    check_undefined(rt, key_of(action, 0, "@identity")?);
+    Ok(())
+}
+
+fn check_copy(rt: &impl Abort, action: &Value) -> Result<(), Fail> {
+    let copy = action.copy()?;
+    assert!(rt; action.truthy() && action.same(&copy));
     Ok(())
 }
 
 #[test]
 fn actions(rt: HostRuntime) -> Result<(), Fail> {
-    let alloc = rt.alloc();
-    let go = action(alloc)?;
-    let copy = go.copy()?;
-    assert!(rt; go.truthy() && go.same(&copy));
-    check_texts(&rt, alloc, &go)?;
+    let go = action(rt.alloc())?;
+    check_copy(&rt, &go)?;
+    check_texts(&rt, rt.alloc(), &go)?;
     check_data(&rt, &go)
 }
 
@@ -429,15 +467,13 @@ fn record(alloc: Global) -> Result<Record, Fail> {
 fn check_found(rt: &impl Abort, value: &Value) -> Result<(), Fail> {
     assert!(rt; matches!(value.find("a"), Found::Lent(Value::Act(_))));
     let data = value.data_of()?;
-    let property = data.property("a")?;
-    assert!(rt; matches!(property, Value::Undefined));
+    check_undefined(rt, data.property("a")?);
     Ok(())
 }
 
 fn check_keys(rt: &impl Abort, value: &Value) -> Result<(), Fail> {
-    let key = key_of(value, 0, "a")?;
+    check_undefined(rt, key_of(value, 0, "a")?);
     let length = value.find_path("b.length").copy()?;
-    assert!(rt; matches!(key, Value::Undefined));
     assert!(rt; matches!(length, Value::Int(0)));
     Ok(())
 }
@@ -451,15 +487,24 @@ fn records(rt: HostRuntime) -> Result<(), Fail> {
     check_keys(&rt, &value)
 }
 
+// The list of the record, which was let go and made again.
+fn list_of_record(alloc: Global) -> Result<List, Fail> {
+    let pairs = record(alloc)?.into_vec()?;
+    let record = Record::from_vec(pairs)?;
+    let mut items = ListBuilder::from_vec(Vec::new(alloc));
+    items.push(Value::Record(record))?;
+    Ok(items.build()?)
+}
+
+fn len_of_copy(list: &List) -> Result<usize, Fail> {
+    Ok(list.copy()?.into_vec()?.len())
+}
+
 #[test]
 fn lists(rt: HostRuntime) -> Result<(), Fail> {
-    let alloc = rt.alloc();
-    let pairs = record(alloc)?.into_vec()?;
-    let mut items = ListBuilder::from_vec(Vec::new(alloc));
-    items.push(Value::Record(Record::from_vec(pairs)?))?;
-    let list = items.build()?;
+    let list = list_of_record(rt.alloc())?;
     assert!(rt; list.len() == 1 && !list.is_empty() && list.get(1).is_none());
-    assert!(rt; list.as_slice().len() == 1 && list.copy()?.into_vec()?.len() == 1);
+    assert!(rt; list.as_slice().len() == 1 && len_of_copy(&list)? == 1);
     Ok(())
 }
 
