@@ -81,13 +81,12 @@ fn number(vm: &Vm, id: RefId) -> Result<i64, Fail> {
     }
 }
 
-// Whether the position is stale, asked after the beginning of a turn.
+// Whether the position is told to be stale.
 fn is_stale(vm: &mut Vm, spot: RefId) -> bool
-    requires { is_all (forms_of vm.old.refs spot) ≡ true }
     ensures forms { forms_of vm.new.refs ≡ forms_of vm.old.refs }
     ensures calm { Calm vm.old → Calm vm.new }
 {
-    vm.refs.room() && vm.stale(spot)
+    vm.stale(spot) == Some(true)
 }
 
 fn begin(vm: &mut Vm)
@@ -109,15 +108,16 @@ fn follows(rt: HostRuntime) -> Result<(), Fail> {
     if m.vm.refs.room() {
         m.vm.set(m.cell, Value::Int(4));
     }
+    assert!(rt; is_stale(&mut m.vm, m.spot));
     assert_eq!(rt; number(&m.vm, m.sum)?, 8);
     Ok(())
 }
 
-// A position that is stale, and after its evaluation is not.
+// A position of which nothing is told before the first turn, and nothing once more is stale.
 #[test]
 fn renews(rt: HostRuntime) -> Result<(), Fail> {
     let mut m = make(rt.alloc())?;
-    assert!(rt; is_stale(&mut m.vm, m.spot));
+    assert!(rt; !is_stale(&mut m.vm, m.spot));
     m.vm.evaluate(m.spot)?;
     assert_eq!(rt; m.vm.refs.evaluated().len(), 2);
     begin(&mut m.vm);

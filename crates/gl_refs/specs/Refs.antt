@@ -1,11 +1,11 @@
 -- References as contracts see them, and what each call does.
-use Rattle.std.specs.Prelude.{◌≡◌, ℕ, ◌+◌, ◌<◌, ◌^◌, Bool, List, [], ◌∷◌, ◌++◌, Option, Some, None, Result, OnOk, OnErr, refl}
+use Rattle.std.specs.Prelude.{◌≡◌, ℕ, ◌+◌, ◌<◌, ◌^◌, Bool, true, List, [], ◌∷◌, ◌++◌, Option, Some, None, Result, OnOk, OnErr, refl}
 use Rattle.std.specs.Coded.{Coded, code_by, coded×, coded_ℕ, coded_list}
 use Rattle.gl_arena.specs.Id.{Id}
 use Rattle.gl_arena.specs.Arena.{Arena, arena_code, named, with_value, Gives}
 use Rattle.gl_tags.specs.Tags as t
 use Rattle.gl_refs.specs.Forms.{V, Form, source_form, Look, Pair, meaning, IsReadFor}
-use Rattle.gl_refs.specs.State.{Last, Row, Rows, forms, IsKept, Settles}
+use Rattle.gl_refs.specs.State.{Last, Row, Rows, forms, IsKept, Settles, is_position}
 use Rattle.gl_refs.specs.Code.{row_code}
 
 -- The references by id, their tags, how many were evaluated by `evaluate`, how often `valid` was asked, and which ids
@@ -38,6 +38,18 @@ pub record HasRoom (r : Refs) : Type 0 where
   pub made : r.rows.made + 1 < 2 ^ 64
   pub evals : r.evals + 1 < 2 ^ 128
   pub asks : r.asks + 1 < 2 ^ 128
+
+-- What can be asked whether it is stale: a position that was evaluated, in a turn that was begun, while one question more
+-- can be counted.
+pub record CanAsk (r : Refs) (id : Id) : Type 0 where
+  pub asks : r.asks + 1 < 2 ^ 128
+  pub begun : 0 < r.tags.clock
+  pub position : is_position (rows_of r id) ≡ true
+
+-- a question that was answered is counted
+abbrev pub asks_after : Option Bool → ℕ → ℕ
+asks_after None asks = asks
+asks_after (Some b) asks = asks + 1
 
 -- nothing is counted, and nothing is put on the list
 pub record SameCounts (old new : Refs) : Type 0 where

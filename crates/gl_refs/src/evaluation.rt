@@ -3,7 +3,7 @@ ghost use Rattle.std.specs.Prelude.{◌≡◌, ◌++◌, [], Some, IfOk, OnErr, 
 ghost use Rattle.gl_value.specs.View.{view};
 ghost use Rattle.gl_tags.specs.Tags as t;
 ghost use Rattle.gl_refs.specs.Forms.{Each, reads};
-ghost use Rattle.gl_refs.specs.State.{kept, held_tag, held_value, reads_of, IsKept, IsSound, Gathers, Swaps, Settles, IsValid, is_combined};
+ghost use Rattle.gl_refs.specs.State.{kept, held_tag, held_value, reads_of, IsKept, IsSound, Gathers, Swaps, Settles, IsValid, is_combined, is_position};
 ghost use Rattle.gl_refs.specs.View.{rows_of, seen_kind};
 ghost use Rattle.gl_refs.specs.Counting.{Counts};
 
@@ -91,6 +91,26 @@ pub(crate) fn is_valid(tags: &mut Tags, rows: &Rows, id: RefId, since: u128) -> 
             },
         },
         None => false,
+    }
+}
+
+// Whether a source of a position's last evaluation was touched at a greater revision; none where it is no position that
+// was evaluated.
+pub(crate) fn stale_since(tags: &mut Tags, rows: &Rows, id: RefId, since: u128) -> Option<bool>
+    requires { IsSound tags.old (rows_of rows.now) }
+    ensures answers { is_some result ≡ is_position (rows_of rows.now id) }
+    ensures value { IfSome result (λ b. IsTrue (not b) ↔ IsValid tags.old since (rows_of rows.now id)) }
+    ensures stays { tags.new ≡ tags.old }
+{
+    match rows.find(id) {
+        Some(row) => match &row.kind {
+            Kind::Position { last, .. } => match last {
+                Some(mark) => Some(!tags.validate(mark.tag, since)),
+                None => None,
+            },
+            _ => None,
+        },
+        None => None,
     }
 }
 

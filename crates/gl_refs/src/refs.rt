@@ -1,17 +1,17 @@
 // All references.
-ghost use Rattle.std.specs.Prelude.{◌≡◌, ◌≢◌, ℕ, ◌+◌, ◌<◌, ◌^◌, ◌++◌, [], ◌∷◌, IfOk, OnOk, OnErr, IsOk, IsTrue, IsSome, IfSome, ◌↔◌, ◌⊎◌, Some, None, true, false};
+ghost use Rattle.std.specs.Prelude.{◌≡◌, ◌≢◌, ℕ, ◌+◌, ◌<◌, ◌^◌, ◌++◌, [], ◌∷◌, IfOk, OnOk, OnErr, IsOk, IsTrue, IsSome, IfSome, ◌↔◌, ◌⊎◌, ◌-◌, not, Some, None, true, false};
 ghost use Rattle.std.specs.Borrow.{sem};
 ghost use Rattle.gl_value.specs.View.{view};
 ghost use Rattle.gl_arena.specs.Arena.{IsStamped, Ends};
 ghost use Rattle.gl_tags.specs.Tags as t;
 ghost use Rattle.gl_refs.specs.Forms.{Each, all_form, constant_form, parts, is_known, IsUnread};
 ghost use Rattle.gl_refs.specs.State.{IsKept, IsSound, IsValid, held_tag, has_tag, own_tag, is_cell, is_item, is_readable, is_position, AreParts, EndsTag};
-ghost use Rattle.gl_refs.specs.Refs.{rows_of, forms_of, meaning_of, HasRoom, Makes, MakesSource, Keeps, SetsValue, Holds, SameCounts, HasRead, HasEvaluated};
+ghost use Rattle.gl_refs.specs.Refs.{rows_of, forms_of, meaning_of, HasRoom, Makes, MakesSource, Keeps, SetsValue, Holds, SameCounts, HasRead, HasEvaluated, CanAsk, asks_after};
 ghost use Rattle.gl_refs.specs.View.{seen_form};
 ghost use Rattle.gl_refs.specs.Lends.{Rests};
 
 use crate::blank::Blank;
-use crate::evaluation::{is_kept, is_valid};
+use crate::evaluation::{is_kept, is_valid, stale_since};
 use crate::looking::look;
 use crate::making::{make, make_source};
 use crate::row::{Kind, Rows, held, held_tag, is_position, is_source, kind_of, parts_of, readable};
@@ -235,6 +235,22 @@ impl Refs {
     {
         self.asks += 1;
         is_valid(&mut self.tags, &self.rows, id, since)
+    }
+
+    /// Whether a source of the last evaluation of a position was made, set or given another value since the last
+    /// [`Refs::begin`]. It counts as one question, and takes no memory. It is not answered, and not counted, of what is
+    /// no live position that was evaluated, before the first `begin`, and where no more questions can be counted.
+    pub fn stale(&mut self, id: RefId) -> Option<bool>
+        ensures answers { IsSome result ↔ CanAsk self.old id }
+        ensures value { IfSome result (λ b. IsTrue (not b) ↔ IsValid self.old.tags (self.old.tags.clock - 1) (rows_of self.old id)) }
+        ensures asks { self.new ≡ record self.old { asks = self.new.asks } }
+        ensures counted { self.new.asks ≡ asks_after result self.old.asks }
+    {
+        let asks = self.asks.checked_add(1)?;
+        let since = self.tags.now().checked_sub(1)?;
+        let stale = stale_since(&mut self.tags, &self.rows, id, since)?;
+        self.asks = asks;
+        Some(stale)
     }
 
     /// The value that [`Refs::read`] would give. Nothing is kept.

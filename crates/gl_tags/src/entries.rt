@@ -15,19 +15,9 @@ fn touched(tags: &Entries, id: TagId) -> Touch
     ensures revision { result.revision ≡ revision (named (tags_in tags.now) id) }
     ensures order { result.order ≡ order (named (tags_in tags.now) id) }
 {
-    if tags.live(id) {
-        match tags.get(id) {
-            Tag::Dirtyable(touch) => *touch,
-            _ => Touch {
-                revision: 0,
-                order: 0,
-            },
-        }
-    } else {
-        Touch {
-            revision: 0,
-            order: 0,
-        }
+    match tags.find(id) {
+        Some(Tag::Dirtyable(touch)) => *touch,
+        _ => Touch::NEVER,
     }
 }
 

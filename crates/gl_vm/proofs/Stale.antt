@@ -1,6 +1,6 @@
 -- Whether a position is stale, by tags and by the state.
 use Rattle.std.proofs.Common.{◌≡◌, ◌≢◌, ℕ, zero, suc, ◌-◌, ◌<◌, ◌≤◌, max, Bool, true, false, Option, Some, None, option_map, IsSome, IsTrue, List, [], ◌∷◌, map, refl, sym, ap, subst, ◌∙◌, inl, inr, ◌⊎◌, arith}
-use Rattle.std.specs.Prelude.{◌&&◌, ◌||◌, ◌==◌, not}
+use Rattle.std.specs.Prelude.{◌&&◌, ◌||◌, ◌==◌, not, IfSome, ◌↔◌}
 use Rattle.std.specs.List.{list_any}
 use Rattle.std.proofs.lemmas.Bool.{cases_eq}
 use Rattle.gl_arena.specs.Id.{Id, same_id}
@@ -10,26 +10,23 @@ use Rattle.gl_tags.specs.Tags as t
 use Rattle.gl_tags.proofs.Greatest.{lead_below}
 use Rattle.gl_refs.specs.Forms as f
 use Rattle.gl_refs.specs.State as s
-use Rattle.gl_refs.specs.Refs.{Refs, rows_of, forms_of}
+use Rattle.gl_refs.specs.Refs.{Refs, rows_of, forms_of, CanAsk}
 use Rattle.gl_refs.proofs.Rows.{combined_is}
 use Rattle.gl_meaning.specs.Scope.{Source}
 use Rattle.gl_plain.specs.State.{row}
 use Rattle.gl_plain.specs.Renew.{last_of as told, is_stale}
 use Rattle.gl_vm.specs.Labels.{label}
 use Rattle.gl_vm.specs.Kept.{some_below}
-use Rattle.gl_vm.specs.Led.{IsReached, IsTelling}
+use Rattle.gl_vm.specs.Led.{IsReached, IsTelling, Led}
 use Rattle.gl_vm.specs.View.{Tables, is_led, form_led, last_led, last_of, seen_row, state_of, AgreesAt, Agrees}
 use Rattle.gl_vm.specs.declared.vm.Vm.{Vm}
 use Rattle.gl_vm.proofs.States.{test_yes}
-use Rattle.gl_vm.proofs.Settled.{some_row}
+use Rattle.gl_vm.proofs.Settled.{some_row, position_ids}
+use Rattle.gl_vm.proofs.Asks.{placed_is}
 use Rattle.gl_vm.proofs.Sources.{last_combined, source_dirtyable}
 use Rattle.gl_vm.proofs.Begins.{revision_low}
 use Rattle.gl_refs.proofs.Reaching.{each_in}
 use Rattle.gl_vm.proofs.Reached.{pick}
-
-turned : (b : Bool) → (IsTrue b → ⊥) → not b ≡ true
-turned true h = absurd (h refl)
-turned false h = refl
 
 as_not : (b c : Bool) → (b ≡ true → IsTrue c → ⊥) → (b ≡ false → IsTrue c) → b ≡ not c
 as_not true true f g = absurd (f refl refl)
@@ -182,8 +179,21 @@ module _ (vm : Vm) (id : Id) (ids : List Id) (stamped : IsStamped vm.refs.rows) 
     lower : 0 < now → now - 1 < r.tags.clock
     lower p = omega (arith, p, clock)
 
-    pub stale_found : 0 < now → is_stale (state_of n vm touched) id.1 ≡ true → not b ≡ true
-    stale_found p e = turned b (λ h. fresh (now - 1) (lower p) (valid h) e)
-
-    pub stale_exact : 0 < now → (s.IsValid r.tags (now - 1) (rows_of r id) → IsTrue b) → IsTelling r id → is_stale (state_of n vm touched) id.1 ≡ not b
+    stale_exact : 0 < now → (s.IsValid r.tags (now - 1) (rows_of r id) → IsTrue b) → IsTelling r id → is_stale (state_of n vm touched) id.1 ≡ not b
     stale_exact p back h = as_not (is_stale (state_of n vm touched) id.1) b (λ e t. fresh (now - 1) (lower p) (valid t) e) (λ e. back (subst (λ m. s.IsValid r.tags (m - 1) (rows_of r id)) (sym clock) (calm h e)))
+
+-- not not
+twice : (b : Bool) → not (not b) ≡ b
+twice true = refl
+twice false = refl
+
+-- what an answer tells of the state
+pub told_stale : (vm : Vm) (id : Id) (o : Option Bool) → IsStamped vm.refs.rows → s.IsSound vm.refs.tags (rows_of vm.refs) → (IsSome o → CanAsk vm.refs id)
+    → IfSome o (λ b. IsTrue (not b) ↔ s.IsValid vm.refs.tags (vm.refs.tags.clock - 1) (rows_of vm.refs id)) → Led vm.refs
+    → IfSome o (λ b. (n : Tables) (touched : Source → Bool) → Agrees touched vm → is_stale (state_of n vm touched) id.1 ≡ b)
+told_stale vm id None stamped sound can v led = tt
+told_stale vm id (Some b) stamped sound can v led = λ n touched a.
+    let c = can refl in
+    let p = placed_is (rows_of vm.refs id) c.position in
+    let q = position_ids (forms_of vm.refs id) p.0 in
+    stale_exact vm id q.0 stamped sound q.1 n touched a vm.refs.tags.clock refl (not b) v.0 c.begun v.1 (record { begun = c.begun; evaluated = p.1; led = led }) ∙ twice b

@@ -1,17 +1,17 @@
 // Values of references, positions that are evaluated, and the beginning of a turn.
-ghost use Rattle.std.specs.Prelude.{◌≡◌, ◌+◌, ◌<◌, Bool, List, [], IfOk, OnOk, IsSome, Some, true, false};
+ghost use Rattle.std.specs.Prelude.{◌≡◌, ◌+◌, Bool, List, [], IfOk, OnOk, IsSome, IfSome, ◌↔◌, Some, true, false};
 ghost use Rattle.gl_value.specs.View.{view};
 ghost use Rattle.gl_arena.specs.Arena.{IsOwn};
 ghost use Rattle.gl_meaning.specs.Scope.{Source};
 ghost use Rattle.gl_refs.specs.Forms.{Each, all_form};
 ghost use Rattle.gl_refs.specs.State.{is_readable, is_position, IsKept};
-ghost use Rattle.gl_refs.specs.Refs.{rows_of, forms_of, HasRoom};
+ghost use Rattle.gl_refs.specs.Refs.{rows_of, forms_of, HasRoom, CanAsk, asks_after};
 ghost use Rattle.gl_plain.specs.State.{pair_of};
 ghost use Rattle.gl_plain.specs.Binding.{place};
 ghost use Rattle.gl_plain.specs.Turns.{begin};
 ghost use Rattle.gl_plain.specs.Renew.{evaluate, is_stale};
 ghost use Rattle.gl_vm.specs.Labels.{labelled};
-ghost use Rattle.gl_vm.specs.Led.{Led, IsTelling};
+ghost use Rattle.gl_vm.specs.Led.{Led};
 ghost use Rattle.gl_vm.specs.View.{Tables, stamps, state_of, Calm, Agrees, is_all};
 ghost use Rattle.gl_vm.specs.Steps.{Does, Numbers, Prepares};
 
@@ -82,25 +82,18 @@ impl Vm {
         Ok(id)
     }
 
-    /// Whether a source that a position read at its last evaluation was touched in this turn: exactly so of a position
-    /// that was evaluated, once a turn was begun. Where tags can't tell, it says so too: before the first turn, of a
-    /// position that was never evaluated, and where what it read lives no more.
-    pub fn stale(&mut self, id: RefId) -> bool
-        requires room { HasRoom self.old.refs }
-        requires position { is_all (forms_of self.old.refs id) ≡ true }
-        ensures found { (n : Tables) (touched : Source → Bool) → Agrees touched self.old → is_stale (state_of n self.old touched) id.1 ≡ true → result ≡ true }
-        ensures exact { IsTelling self.old.refs id → (n : Tables) (touched : Source → Bool) → Agrees touched self.old → is_stale (state_of n self.old touched) id.1 ≡ result }
-        ensures told { Calm self.old → is_position (rows_of self.old.refs id) ≡ true → 0 < self.old.refs.tags.clock → (n : Tables) (touched : Source → Bool) → Agrees touched self.old → is_stale (state_of n self.old touched) id.1 ≡ result }
+    /// Whether a source that a position read at its last evaluation was touched in this turn. It counts as one question,
+    /// and takes no memory. It is answered exactly of a live position that was evaluated, once a turn was begun, while
+    /// one question more can be counted.
+    pub fn stale(&mut self, id: RefId) -> Option<bool>
+        ensures answers { IsSome result ↔ CanAsk self.old.refs id }
+        ensures exact { Calm self.old → IfSome result (λ b. (n : Tables) (touched : Source → Bool) → Agrees touched self.old → is_stale (state_of n self.old touched) id.1 ≡ b) }
         ensures calm { Calm self.old → Calm self.new }
         ensures rest { self.new ≡ record self.old { refs = record self.old.refs { asks = self.new.refs.asks } } }
+        ensures counted { self.new.refs.asks ≡ asks_after result self.old.refs.asks }
     {
         self.refs.sound();
-        let now = self.refs.now();
-        if now == 0 {
-            true
-        } else {
-            !self.refs.valid(id, now - 1)
-        }
+        self.refs.stale(id)
     }
 
     /// Begins a turn: nothing is touched, and the lists of what was done are empty.
