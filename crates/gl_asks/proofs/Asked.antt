@@ -6,7 +6,7 @@ use Rattle.std.proofs.lemmas.List.{length-append}
 use Rattle.std.proofs.lemmas.Bool.{cases_lt, lt-ltb, le-ltb, ltb-true}
 use Rattle.gl_plain.specs.State.{State}
 use Rattle.gl_plain.specs.Renew.{is_stale}
-use Rattle.gl_guards.specs.Along.{few, enters_few, enters_over}
+use Rattle.gl_guards.specs.Along.{enters_over}
 use Rattle.gl_guards.specs.Guarded.{any_stale}
 use Rattle.gl_vm.specs.View.{Tables, Agrees, state_of}
 use Rattle.gl_vm.specs.Steps.{Follows, Does}
@@ -151,7 +151,7 @@ left_end a k0 k left all none x = record {
   leaves = λ _ n. let e = x.counts n in let f = ap length (none n) in omega (arith, e, f);
 }
 
--- a region of which so many are asked as are few
-pub asked_region : {E : Type 0} (r : Result Bool E) (a : Vm) (k k' : ℕ) (rs : Tables → List ℕ) → k ≡ few → IfOk r (Asked a k k' rs) → IfOk r (λ b. (n : Tables) (u : _) → Agrees u a → enters_few (state_of n a u) (rs n) ≡ b)
-asked_region r a k k' rs e = IfOk-weaker r (Asked a k k' rs) (λ b. (n : Tables) (u : _) → Agrees u a → enters_few (state_of n a u) (rs n) ≡ b)
+-- a region of which so many are asked
+pub asked_region : {E : Type 0} (most : ℕ) (r : Result Bool E) (a : Vm) (k k' : ℕ) (rs : Tables → List ℕ) → k ≡ most → IfOk r (Asked a k k' rs) → IfOk r (λ b. (n : Tables) (u : _) → Agrees u a → enters_over most (state_of n a u) (rs n) ≡ b)
+asked_region most r a k k' rs e = IfOk-weaker r (Asked a k k' rs) (λ b. (n : Tables) (u : _) → Agrees u a → enters_over most (state_of n a u) (rs n) ≡ b)
     (λ b x n u ag. ap (λ m. enters_over m (state_of n a u) (rs n)) (sym e) ∙ x.enters n u ag)

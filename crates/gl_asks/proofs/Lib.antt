@@ -1,2 +1,4 @@
 pub mod Parts
 pub mod Asked
+pub mod Ids
+pub mod Counting

@@ -5,7 +5,8 @@ ghost use Rattle.gl_machine.specs.Code.{live_of, lives_of, items_of};
 ghost use Rattle.gl_code.specs.CodeView.{seen_attr_spot, seen_mod_spot, seen_code, seen_codes, seen_item_code, all_items};
 ghost use Rattle.gl_vm.specs.View.{Calm};
 ghost use Rattle.gl_vm.specs.Steps.{Does};
-ghost use Rattle.gl_asks.specs.Asked.{Asked};
+ghost use Rattle.gl_asks.specs.Asked.{Asked, Counted};
+ghost use Rattle.gl_asks.specs.Spots.{attr_ids, mod_ids, code_ids, body_ids, items_ids};
 
 use crate::stale::is_stale;
 use gl_code::{AttrSpot, Code, Codes, ItemCode, ModSpot, Spot};
@@ -20,6 +21,7 @@ fn ask(vm: &mut Vm, left: &mut usize, id: RefId) -> Result<bool, AllocError>
     ensures asked { IfOk result (Asked vm.old left.old left.new (λ n. id.1 ∷ [])) }
     ensures still { Does (λ n st. st) vm.old vm.new }
     ensures calm { Calm vm.new }
+    ensures counted { Counted vm.old vm.new (id ∷ []) result }
 {
     if *left == 0 {
         return Ok(true);
@@ -34,6 +36,7 @@ fn ask_attrs(vm: &mut Vm, left: &mut usize, attrs: &[AttrSpot]) -> Result<bool, 
     ensures asked { IfOk result (Asked vm.old left.old left.new (λ n. attr_positions (map seen_attr_spot attrs.now))) }
     ensures still { Does (λ n st. st) vm.old vm.new }
     ensures calm { Calm vm.new }
+    ensures counted { Counted vm.old vm.new (attr_ids attrs.now) result }
 {
     for attr in attrs {
         if ask(vm, left, attr.spot.id)? {
@@ -49,6 +52,7 @@ fn ask_mods(vm: &mut Vm, left: &mut usize, mods: &[ModSpot]) -> Result<bool, All
     ensures asked { IfOk result (Asked vm.old left.old left.new (λ n. mod_positions (map seen_mod_spot mods.now))) }
     ensures still { Does (λ n st. st) vm.old vm.new }
     ensures calm { Calm vm.new }
+    ensures counted { Counted vm.old vm.new (mod_ids mods.now) result }
 {
     for modifier in mods {
         if ask(vm, left, modifier.spot.id)? {
@@ -66,6 +70,7 @@ pub(crate) fn ask_codes(vm: &mut Vm, left: &mut usize, codes: &Codes) -> Result<
     ensures asked { IfOk result (Asked vm.old left.old left.new (λ n. positions_in (lives_of (seen_codes n codes.now)))) }
     ensures still { Does (λ n st. st) vm.old vm.new }
     ensures calm { Calm vm.new }
+    ensures counted { Counted vm.old vm.new (body_ids codes.now) result }
 {
     for code in codes.list.as_slice() {
         if ask_code(vm, left, code)? {
@@ -82,6 +87,7 @@ fn ask_code(vm: &mut Vm, left: &mut usize, code: &Code) -> Result<bool, AllocErr
     ensures asked { IfOk result (Asked vm.old left.old left.new (λ n. positions_of (live_of (seen_code n code.now)))) }
     ensures still { Does (λ n st. st) vm.old vm.new }
     ensures calm { Calm vm.new }
+    ensures counted { Counted vm.old vm.new (code_ids code.now) result }
 {
     match code {
         Code::Still { .. } => Ok(false),
@@ -116,6 +122,7 @@ fn ask_element(
     ensures asked { IfOk result (Asked vm.old left.old left.new (λ n. attr_positions (map seen_attr_spot attrs.now) ++ (positions_in (lives_of (seen_codes n body.now)) ++ mod_positions (map seen_mod_spot mods.now)))) }
     ensures still { Does (λ n st. st) vm.old vm.new }
     ensures calm { Calm vm.new }
+    ensures counted { Counted vm.old vm.new (attr_ids attrs.now ++ (body_ids body.now ++ mod_ids mods.now)) result }
 {
     if ask_attrs(vm, left, attrs)? {
         return Ok(true);
@@ -134,6 +141,7 @@ fn ask_spot(vm: &mut Vm, left: &mut usize, spot: &Spot, body: &Codes) -> Result<
     ensures asked { IfOk result (Asked vm.old left.old left.new (λ n. spot.now.id.1 ∷ positions_in (lives_of (seen_codes n body.now)))) }
     ensures still { Does (λ n st. st) vm.old vm.new }
     ensures calm { Calm vm.new }
+    ensures counted { Counted vm.old vm.new (spot.now.id ∷ body_ids body.now) result }
 {
     if ask(vm, left, spot.id)? {
         return Ok(true);
@@ -154,6 +162,7 @@ fn ask_list(
     ensures asked { IfOk result (Asked vm.old left.old left.new (λ n. spot.now.id.1 ∷ positions_items (items_of (all_items (map (seen_item_code n) items.now.items))))) }
     ensures still { Does (λ n st. st) vm.old vm.new }
     ensures calm { Calm vm.new }
+    ensures counted { Counted vm.old vm.new (spot.now.id ∷ items_ids items.now.items) result }
 {
     if ask(vm, left, spot.id)? {
         return Ok(true);
@@ -173,6 +182,7 @@ pub(crate) fn ask_items(
     ensures asked { IfOk result (Asked vm.old left.old left.new (λ n. positions_items (items_of (all_items (map (seen_item_code n) items.now.items))))) }
     ensures still { Does (λ n st. st) vm.old vm.new }
     ensures calm { Calm vm.new }
+    ensures counted { Counted vm.old vm.new (items_ids items.now.items) result }
 {
     for item in items.as_slice() {
         if ask_codes(vm, left, &item.body)? {

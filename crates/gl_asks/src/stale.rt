@@ -1,24 +1,17 @@
 // Whether a position is stale. What does not fit the machine is told as want of memory.
-ghost use Rattle.std.specs.Prelude.{◌≡◌, true, IfOk, IsTrue};
-ghost use Rattle.gl_refs.specs.State.{is_position};
-ghost use Rattle.gl_refs.specs.Refs.{rows_of, forms_of};
+ghost use Rattle.std.specs.Prelude.{◌≡◌, ◌∷◌, [], true, IfOk};
+ghost use Rattle.gl_refs.specs.Refs.{forms_of};
 ghost use Rattle.gl_plain.specs.Renew as r;
 ghost use Rattle.gl_vm.specs.View.{Calm, Agrees, is_all, state_of};
 ghost use Rattle.gl_vm.specs.Steps.{Does};
+ghost use Rattle.gl_asks.specs.Asked.{Counted};
 
-use gl_refs::{RefId, Refs};
+use gl_refs::RefId;
 use gl_vm::Vm;
 use std::alloc::AllocError;
 
-// Whether it is a live position that was evaluated.
-#[inline(never)]
-fn position(refs: &Refs, id: RefId) -> bool
-    ensures { IsTrue result → ((is_all (forms_of refs.now id) ≡ true) × (is_position (rows_of refs.now id) ≡ true)) }
-{
-    refs.position(id)
-}
-
-/// Whether a position is stale: a source that it read at its last evaluation was touched.
+/// Whether a position is stale: a source that it read at its last evaluation was touched. It takes no memory; it is not
+/// answered of what is no live position that was evaluated, before the first turn, and where the question can't be counted.
 #[inline(never)]
 pub fn is_stale(vm: &mut Vm, id: RefId) -> Result<bool, AllocError>
     requires calm { Calm vm.old }
@@ -26,15 +19,10 @@ pub fn is_stale(vm: &mut Vm, id: RefId) -> Result<bool, AllocError>
     ensures position { IfOk result (λ b. is_all (forms_of vm.new.refs id) ≡ true) }
     ensures still { Does (λ n st. st) vm.old vm.new }
     ensures calm { Calm vm.new }
+    ensures counted { Counted vm.old vm.new (id ∷ []) result }
 {
-    if !vm.refs.room() {
-        return Err(AllocError);
+    match vm.stale(id) {
+        Some(stale) => Ok(stale),
+        None => Err(AllocError),
     }
-    if vm.refs.now() == 0 {
-        return Err(AllocError);
-    }
-    if !position(&vm.refs, id) {
-        return Err(AllocError);
-    }
-    Ok(vm.stale(id))
 }

@@ -44,7 +44,7 @@ use Rattle.gl_follows.proofs.Plain.{sets_plain}
 use Rattle.gl_follows.proofs.Setting.{sets_by}
 use Rattle.gl_follows.proofs.Turning.{next_paths}
 use Rattle.gl_guards.specs.Guarded.{any_stale, entered_root_code_as}
-use Rattle.gl_guards.specs.Along.{few, enters_few}
+use Rattle.gl_guards.specs.Along.{few, enters_few, enters_over, whole, enters_whole}
 use Rattle.gl_guards.specs.Settled.{PassesFresh, MayPass, AtRoot}
 use Rattle.gl_guards.specs.Laws.{TurnMayPass, TurnIsRenew, PutsAreEntered, PutsAreRenew, PutsGoAlong}
 use Rattle.gl_guards.proofs.Told.{Seen, seen_named}
@@ -146,12 +146,12 @@ puts_are_renew env lowered differ s e reached k st placed follows xs own same n 
     puts_are_entered any_stale fresh_alone any_stale fresh_alone true env lowered differ s e reached k st placed follows xs own same n
 
 -- a question that enters more regions passes over fresh ones alone
-few_enters : PassesFresh enters_few
-few_enters st rs e = by (nat_lt few (length rs)) e where
+over_enters : (most : ℕ) → PassesFresh (enters_over most)
+over_enters most st rs e = by (nat_lt most (length rs)) e where
   by : (b : Bool) → (b || any_stale st rs) ≡ false → any_stale st rs ≡ false
   by true e = absurd (true≢false e)
   by false e = e
 
 pub puts_go_along : PutsGoAlong
 puts_go_along env lowered differ s e reached k st placed follows xs own same n =
-    puts_are_entered enters_few few_enters enters_few few_enters false env lowered differ s e reached k st placed follows xs own same n
+    puts_are_entered enters_whole (over_enters whole) enters_few (over_enters few) false env lowered differ s e reached k st placed follows xs own same n

@@ -1,5 +1,5 @@
--- The update that goes along the items of each list whose position isn't stale, in order, and passes over small regions in which nothing is stale.
-use Rattle.std.specs.Prelude.{ℕ, List, length, Bool, false, ◌||◌, nat_lt}
+-- The update that goes along the items of each list whose position isn't stale, in order, and passes over small regions, and a page, in which nothing is stale.
+use Rattle.std.specs.Prelude.{ℕ, ◌-◌, ◌^◌, List, length, Bool, false, ◌||◌, nat_lt}
 use Rattle.gl_meaning.specs.Path.{Path}
 use Rattle.gl_plain.specs.State.{State}
 use Rattle.gl_plain.specs.Naming.{Naming}
@@ -20,6 +20,13 @@ few = 32
 abbrev pub enters_few : State → List ℕ → Bool
 enters_few st rs = enters_over few st rs
 
+-- Of the page as a whole each position is asked, as many as a machine holds, so that one in which nothing is stale is passed over.
+unfoldable pub whole : ℕ
+whole = 2 ^ 64 - 1
+
+abbrev pub enters_whole : State → List ℕ → Bool
+enters_whole st rs = enters_over whole st rs
+
 abbrev pub along_code_as : Naming → Runs → ℕ → Path → Code → State → Outcome (Code × State)
 along_code_as naming run m p c st = entered_code_as naming run enters_few false m p c st
 
@@ -29,6 +36,10 @@ along_codes_as naming run m p i cs st = entered_codes_as naming run enters_few f
 -- a body that is a region: of a component, of a branch, or of an item
 abbrev pub along_body_as : Naming → Runs → ℕ → Path → Codes → State → Outcome (Codes × State)
 along_body_as naming run m p cs st = entering enters_few st (positions_in (lives_of cs)) cs (along_codes_as naming run m p 0 cs st)
+
+-- the body of the page
+abbrev pub along_page_as : Naming → Runs → ℕ → Path → Codes → State → Outcome (Codes × State)
+along_page_as naming run m p cs st = entering enters_whole st (positions_in (lives_of cs)) cs (along_codes_as naming run m p 0 cs st)
 
 abbrev pub along_items_as : Naming → Runs → ℕ → Path → ItemCodes → State → Outcome (ItemCodes × State)
 along_items_as naming run m p is st = entered_items_as naming run enters_few false m p is st
@@ -41,4 +52,4 @@ abbrev pub along_handles_as : Naming → Runs → ℕ → ItemCodes → List Cod
 along_handles_as naming run m is = entered_handles_as naming run enters_few false m is
 
 abbrev pub along_root_code_as : Naming → ℕ → Runs → Code → State → Outcome (Code × State)
-along_root_code_as naming m run k st = entered_root_code_as naming enters_few enters_few false m run k st
+along_root_code_as naming m run k st = entered_root_code_as naming enters_whole enters_few false m run k st

@@ -135,7 +135,7 @@ PutsAreEntered =
     → (n : ℕ) → let now = put_all xs (begin st) in
     entered_root_code_as by_number first enters once env.app.limit (run_for_as by_number env [] n) k now ≡ renew_root_code_as by_number env.app.limit (run_for_as by_number env [] n) k now
 
--- So is one that goes along the items of each list whose position isn't stale, and asks small regions alone.
+-- So is one that goes along the items of each list whose position isn't stale, and asks the page and small regions alone.
 abbrev pub PutsGoAlong : Type 0
 PutsGoAlong =
     (env : Env) → AllLowered env → FieldsDiffer env.app → (s : session.State) (e : Event) → Reached env.app s → (k : Code) (st : State) → PlacedRoot env k → (f : FollowsBy env.app s st (live_of k))

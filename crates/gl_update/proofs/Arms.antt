@@ -12,7 +12,7 @@ use Rattle.gl_machine.specs.Code.{Code as PlainCode, Codes as PlainCodes}
 use Rattle.gl_machine.specs.Outcome.{ok, on_ok}
 use Rattle.gl_meaning.specs.Scope.{Source}
 use Rattle.gl_machine.specs.RenewCode.{Runs}
-use Rattle.gl_guards.specs.Along.{along_code_as, along_codes_as, along_body_as, along_root_code_as}
+use Rattle.gl_guards.specs.Along.{along_code_as, along_codes_as, along_body_as, along_page_as, along_root_code_as}
 use Rattle.gl_vm.specs.View.{Tables, stamps, name_stamps, state_of}
 use Rattle.gl_vm.specs.Steps.{Does}
 use Rattle.gl_vm.specs.declared.vm.Vm.{Vm}
@@ -113,13 +113,13 @@ module _ (a : App) (cells : CellList) (limit m : ℕ) (e : limit ≡ suc m) (o :
   root n cs = component_seen (seen_owner n o) [] (refs_made o.cells) [] None cs
 
   abbrev Inside : Path → Codes → Renewal PlainCodes
-  Inside w x = λ n run. along_body_as by_number run m w (seen_codes n x)
+  Inside w x = λ n run. along_page_as by_number run m w (seen_codes n x)
 
   abbrev Page : Code → Renewal PlainCode
   Page x = λ n run. along_root_code_as by_number limit run (seen_code n x)
 
   root_at : (x : Code) (b : Codes) (old : Vm) → ((n : Tables) → seen_code n x ≡ root n (seen_codes n b)) → (n : Tables) (run : Runs) (u : Source → Bool)
-      → on_ok (along_body_as by_number run m [] (seen_codes n b) (state_of n old u)) (λ r. ok (root n r.0, r.1)) ≡ along_root_code_as by_number limit run (seen_code n x) (state_of n old u)
+      → on_ok (along_page_as by_number run m [] (seen_codes n b) (state_of n old u)) (λ r. ok (root n r.0, r.1)) ≡ along_root_code_as by_number limit run (seen_code n x) (state_of n old u)
   root_at x b old is n run u = sym (ap (λ j. along_root_code_as by_number j run (seen_code n x) (state_of n old u)) e ∙ ap (λ z. along_root_code_as by_number (suc m) run z (state_of n old u)) (is n))
 
   pub page_renews : (x y : Code) (b d : Codes) (w : Path) (old new : Vm) → w ≡ [] → ((n : Tables) → seen_code n x ≡ root n (seen_codes n b)) → ((n : Tables) → seen_code n y ≡ root n (seen_codes n d))

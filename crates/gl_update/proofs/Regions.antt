@@ -6,7 +6,7 @@ use Rattle.gl_opc.specs.declared.app.App.{App}
 use Rattle.gl_machine.specs.Outcome.{ok}
 use Rattle.gl_machine.specs.RenewCode.{Runs}
 use Rattle.gl_guards.specs.Guarded.{entering}
-use Rattle.gl_guards.specs.Along.{enters_few}
+use Rattle.gl_guards.specs.Along.{enters_over}
 use Rattle.gl_vm.specs.View.{Tables, state_of, Agrees}
 use Rattle.gl_vm.specs.Steps.{Does}
 use Rattle.gl_vm.specs.declared.vm.Vm.{Vm}
@@ -16,14 +16,14 @@ use Rattle.gl_code.specs.Renewing.{Renewal, Renews, RenewFails}
 use Rattle.gl_update.proofs.Onward.{renews_agreed, fails_agreed}
 use Rattle.gl_update.proofs.Renewing.{renews_by, does_renews, does_fails}
 
--- A region with these positions, which is so, and its update where it is entered.
-module _ (a : App) (cells : CellList) (A : Type 0) (rs : Tables → List ℕ) (x : Tables → A) (f : Renewal A) where
+-- A region with these positions, of which so many are asked, which is so, and its update where it is entered.
+module _ (most : ℕ) (a : App) (cells : CellList) (A : Type 0) (rs : Tables → List ℕ) (x : Tables → A) (f : Renewal A) where
   abbrev pub Region : Renewal A
-  Region = λ n run st. entering enters_few st (rs n) (x n) (f n run st)
+  Region = λ n run st. entering (enters_over most) st (rs n) (x n) (f n run st)
 
   -- the question is answered so
   abbrev pub Asked : Bool → Vm → Type 0
-  Asked b vm = (n : Tables) (u : Source → Bool) → Agrees u vm → enters_few (state_of n vm u) (rs n) ≡ b
+  Asked b vm = (n : Tables) (u : Source → Bool) → Agrees u vm → enters_over most (state_of n vm u) (rs n) ≡ b
 
   entered_is : (b : Bool) (vm : Vm) → Asked b vm → (n : Tables) (run : Runs) (u : Source → Bool) → Agrees u vm → (if b then f n run (state_of n vm u) else ok (x n, state_of n vm u)) ≡ Region n run (state_of n vm u)
   entered_is b vm h n run u agrees = sym (ap (λ e. if e then f n run (state_of n vm u) else ok (x n, state_of n vm u)) (h n u agrees))

@@ -6,3 +6,4 @@ pub mod View
 pub mod NextItem
 pub mod TakenLists
 pub mod Read
+pub mod Idle

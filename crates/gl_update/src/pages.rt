@@ -1,29 +1,35 @@
 // The update of a page.
-ghost use Rattle.std.specs.Prelude.{◌≡◌, ◌+◌, IfOk, OnOk, IfErr, IsTrue};
+ghost use Rattle.std.specs.Prelude.{◌≡◌, ◌+◌, IfOk, IsOk, OnOk, IfErr, IsTrue};
 ghost use Rattle.gl_plain.specs.Naming.{by_number};
-ghost use Rattle.gl_machine.specs.Code.{Code as PlainCode, live_of};
+ghost use Rattle.gl_machine.specs.Code.{Code as PlainCode, Codes as PlainCodes, live_of};
 ghost use Rattle.gl_machine.specs.Shape.{nest};
-ghost use Rattle.gl_guards.specs.Along.{along_root_code_as};
+ghost use Rattle.gl_guards.specs.Along.{along_root_code_as, along_page_as};
 ghost use Rattle.gl_guards.specs.Once.{KeysOnce};
 ghost use Rattle.gl_kept.specs.Between.{moved_between};
 ghost use Rattle.gl_vm.specs.View.{Calm};
-ghost use Rattle.gl_code.specs.CodeView.{seen_code};
+ghost use Rattle.gl_code.specs.CodeView.{seen_code, seen_codes};
 ghost use Rattle.gl_code.specs.Hung.{nest_of};
 ghost use Rattle.gl_code.specs.Renewing.{Renews, RenewFails};
+ghost use Rattle.gl_update.specs.Counted.{CodesMoved};
+ghost use Rattle.gl_update.specs.Idle.{IsFresh, IsIdle, AsksAlone, StaysAs};
+ghost use Rattle.gl_update.specs.View.{trail_view};
 
-use crate::codes::renew_body;
+use crate::codes::renew_codes;
 use crate::counting::Moved;
 use crate::trail::Trail;
-use gl_code::{AppendBlock, Cells, Code, Page, VmFault};
+use gl_asks::enters_page;
+use gl_code::{AppendBlock, Cells, Code, Codes, Page, VmFault};
 use gl_meaning::{Path, PathSteps};
 use gl_nested::stands;
 use gl_opc::App;
+use gl_vm::Vm;
 use std::alloc::Global;
 
 /// Changes a page so that it shows the cells of now: what a touched source reached is evaluated again, branches of which the
 /// condition flipped are ended and the other ones appended, items are kept by their keys. New instances have the initial
 /// values of their fields. The nodes of the page then stand in its tree as they were rendered, in their order, and no others.
-/// What has few positions, none of them stale, is passed over. It answers how many items were moved, each by one move of nodes; that they are
+/// What has few positions, none of them stale, is passed over, and so is the whole page where none is: then the answer is never want of
+/// memory, and nothing is another but the count of questions. It answers how many items were moved, each by one move of nodes; that they are
 /// those between the two updating programs is said of one in which no key of a list stands twice. After a fault the page is not to be used.
 pub fn update<A: AppendBlock>(
     alloc: Global,
@@ -37,6 +43,7 @@ pub fn update<A: AppendBlock>(
     ensures nodes { OnOk result ((n : _) → nest_of page.new.vm.tree.forest ≡ nest (live_of (seen_code n page.new.code))) }
     ensures moved { IfOk result (λ m. (n : _) → KeysOnce (live_of (seen_code n page.old.code)) → m.items ≡ moved_between (live_of (seen_code n page.old.code)) (live_of (seen_code n page.new.code))) }
     ensures moves { IfOk result (λ m. page.new.vm.tree.moves ≡ page.old.vm.tree.moves + m.items) }
+    ensures idle { IsIdle app.now.manifest.limit page.old → IsOk result × StaysAs page.old page.new }
     ensures calm { Calm page.new.vm }
 {
     let before = page.vm.tree.moves();
@@ -52,6 +59,7 @@ pub fn update<A: AppendBlock>(
 fn is_settled(page: &Page, before: u128, moved: &Moved) -> bool
     ensures nodes { IsTrue result → (n : _) → nest_of page.now.vm.tree.forest ≡ nest (live_of (seen_code n page.now.code)) }
     ensures moves { IsTrue result → page.now.vm.tree.moves ≡ before + moved.now.items }
+    ensures settled { page.now.vm.tree.moves ≡ before + moved.now.items → (n : _) → nest_of page.now.vm.tree.forest ≡ nest (live_of (seen_code n page.now.code)) → IsTrue result }
 {
     before.checked_add(moved.items) == Some(page.vm.tree.moves())
         && stands(&page.vm.tree, &page.code)
@@ -68,6 +76,7 @@ fn renew_page<A: AppendBlock>(
     ensures ok { OnOk result (Renews app.now cells.now (λ n run. along_root_code_as by_number app.now.manifest.limit run (seen_code n page.old.code)) page.old.vm (λ n. seen_code n page.new.code) page.new.vm) }
     ensures fails { IfErr result (RenewFails {A = PlainCode} app.now cells.now (λ n run. along_root_code_as by_number app.now.manifest.limit run (seen_code n page.old.code)) page.old.vm) }
     ensures moved { IfOk result (λ m. (n : _) → KeysOnce (live_of (seen_code n page.old.code)) → m.items ≡ moved_between (live_of (seen_code n page.old.code)) (live_of (seen_code n page.new.code))) }
+    ensures idle { IsIdle app.now.manifest.limit page.old → (IsOk result × IfOk result (λ m. m.items ≡ 0)) × StaysAs page.old page.new }
     ensures calm { Calm page.new.vm }
 {
     let limit = app.manifest().limit;
@@ -80,7 +89,7 @@ fn renew_page<A: AppendBlock>(
     let mut trail = Trail::of(alloc, &root);
     let mut moved = Moved::none();
     match &mut page.code {
-        Code::Root { body, .. } => match renew_body::<A>(
+        Code::Root { body, .. } => match renew_top::<A>(
             &mut page.vm,
             alloc,
             app,
@@ -88,12 +97,36 @@ fn renew_page<A: AppendBlock>(
             &mut trail,
             limit - 1,
             body,
-            &None,
             &mut moved,
         ) {
             Ok(()) => Ok(moved),
             Err(fault) => Err(fault),
         },
         _ => Err(VmFault::Memory),
+    }
+}
+
+// The body of the page: it is passed over where nothing in it is stale.
+fn renew_top<A: AppendBlock>(
+    vm: &mut Vm,
+    alloc: Global,
+    app: &App,
+    cells: &Cells,
+    trail: &mut Trail<'_>,
+    left: u32,
+    body: &mut Codes,
+    moved: &mut Moved,
+) -> Result<(), VmFault>
+    requires calm { Calm vm.old }
+    ensures ok { OnOk result (Renews app.now cells.now (λ n run. along_page_as by_number run left (trail_view trail.old) (seen_codes n body.old)) vm.old (λ n. seen_codes n body.new) vm.new) }
+    ensures fails { IfErr result (RenewFails {A = PlainCodes} app.now cells.now (λ n run. along_page_as by_number run left (trail_view trail.old) (seen_codes n body.old)) vm.old) }
+    ensures moved { OnOk result (CodesMoved moved.old moved.new (λ n. seen_codes n body.old) (λ n. seen_codes n body.new)) }
+    ensures idle { IsFresh vm.old body.old → (IsOk result × (moved.new ≡ moved.old)) × ((body.new ≡ body.old) × AsksAlone vm.old vm.new) }
+    ensures calm { Calm vm.new }
+{
+    if enters_page(vm, body)? {
+        renew_codes::<A>(vm, alloc, app, cells, trail, left, body, &None, moved)
+    } else {
+        Ok(())
     }
 }

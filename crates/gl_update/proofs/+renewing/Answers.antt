@@ -43,7 +43,7 @@ use Rattle.gl_value.specs.View.{view}
 use Rattle.gl_plain.specs.Live.{times_items, times_in, times_comment}
 use Rattle.gl_machine.specs.Code.{Listing, Code as PlainCode, Codes as PlainCodes, ItemCodes, listed_code, unlisted_code, items_of, lives_of, live_of}
 use Rattle.gl_plain.specs.Counts.{positions_in}
-use Rattle.gl_guards.specs.Along.{along_code_as, along_codes_as, along_body_as}
+use Rattle.gl_guards.specs.Along.{along_code_as, along_codes_as, along_body_as, few}
 use Rattle.gl_update.specs.Read.{Gives, IsOf, entries_now}
 use Rattle.gl_update.specs.declared.reading.Read.TheVariants as r
 use Rattle.gl_update.proofs.StayingItems.{GivesAt, none_now, stays_begin, stays_next, stays_fails, stays_end}
@@ -105,20 +105,20 @@ codes::renew_element-returns-in-Err-clause-fails g t c = λ made.
 pub codes::renew_body-returns-then-branch-clause-ok : goal.codes::renew_body-returns-then-branch-clause-ok
 codes::renew_body-returns-then-branch-clause-ok g t c =
     on_ok_weaker c.renew_codes.result
-    (region_entered c.args.app.now c.args.cells.now p.Codes (λ n. positions_in (lives_of (seen_codes n c.args.codes.now))) (λ n. seen_codes n c.args.codes.now) (Below c.args.app.now c.args.cells.now c.args.left (trail_view c.args.trail.now) (trail_view c.args.trail.now) c.args.codes.now)
+    (region_entered few c.args.app.now c.args.cells.now p.Codes (λ n. positions_in (lives_of (seen_codes n c.args.codes.now))) (λ n. seen_codes n c.args.codes.now) (Below c.args.app.now c.args.cells.now c.args.left (trail_view c.args.trail.now) (trail_view c.args.trail.now) c.args.codes.now)
     c.args.vm.now c.enters_body.new.vm c.renew_codes.new.vm (λ n. seen_codes n c.renew_codes.new.codes) (λ n u agrees. c.in_ok-enters_body.ensures.asked n u agrees ∙ c.if-branch.true) c.enters_body.ensures.still)
     c.renew_codes.ensures.ok
 
 pub codes::renew_body-returns-then-branch-clause-fails : goal.codes::renew_body-returns-then-branch-clause-fails
 codes::renew_body-returns-then-branch-clause-fails g t c =
     if_err c.renew_codes.result
-    (λ f r. region_fails c.args.app.now c.args.cells.now p.Codes (λ n. positions_in (lives_of (seen_codes n c.args.codes.now))) (λ n. seen_codes n c.args.codes.now) (Below c.args.app.now c.args.cells.now c.args.left (trail_view c.args.trail.now) (trail_view c.args.trail.now) c.args.codes.now)
+    (λ f r. region_fails few c.args.app.now c.args.cells.now p.Codes (λ n. positions_in (lives_of (seen_codes n c.args.codes.now))) (λ n. seen_codes n c.args.codes.now) (Below c.args.app.now c.args.cells.now c.args.left (trail_view c.args.trail.now) (trail_view c.args.trail.now) c.args.codes.now)
     c.args.vm.now c.enters_body.new.vm f (λ n u agrees. c.in_ok-enters_body.ensures.asked n u agrees ∙ c.if-branch.true) c.enters_body.ensures.still r)
     c.renew_codes.ensures.fails
 
 pub codes::renew_body-returns-else-branch-clause-ok : goal.codes::renew_body-returns-else-branch-clause-ok
 codes::renew_body-returns-else-branch-clause-ok g t c =
-    region_passed c.args.app.now c.args.cells.now p.Codes (λ n. positions_in (lives_of (seen_codes n c.args.codes.now))) (λ n. seen_codes n c.args.codes.now) (Below c.args.app.now c.args.cells.now c.args.left (trail_view c.args.trail.now) (trail_view c.args.trail.now) c.args.codes.now)
+    region_passed few c.args.app.now c.args.cells.now p.Codes (λ n. positions_in (lives_of (seen_codes n c.args.codes.now))) (λ n. seen_codes n c.args.codes.now) (Below c.args.app.now c.args.cells.now c.args.left (trail_view c.args.trail.now) (trail_view c.args.trail.now) c.args.codes.now)
     c.args.vm.now c.enters_body.new.vm (λ n u agrees. c.in_ok-enters_body.ensures.asked n u agrees ∙ c.if-branch.false) c.enters_body.ensures.still
 
 pub codes::renew_body-returns-else-branch-clause-moved : goal.codes::renew_body-returns-else-branch-clause-moved
@@ -127,20 +127,20 @@ codes::renew_body-returns-else-branch-clause-moved g t c = stays_moved c.args.mo
 pub codes::renew_side-returns-then-branch-clause-ok : goal.codes::renew_side-returns-then-branch-clause-ok
 codes::renew_side-returns-then-branch-clause-ok g t c =
     on_ok_weaker c.renew_below.result
-    (region_entered c.args.app.now c.args.cells.now p.Codes (λ n. positions_in (lives_of (seen_codes n c.args.body.now))) (λ n. seen_codes n c.args.body.now) (Below c.args.app.now c.args.cells.now c.args.left (path_step_view c.args.step ∷ trail_view c.args.trail.now) (path_step_view c.args.step ∷ trail_view c.args.trail.now) c.args.body.now)
+    (region_entered few c.args.app.now c.args.cells.now p.Codes (λ n. positions_in (lives_of (seen_codes n c.args.body.now))) (λ n. seen_codes n c.args.body.now) (Below c.args.app.now c.args.cells.now c.args.left (path_step_view c.args.step ∷ trail_view c.args.trail.now) (path_step_view c.args.step ∷ trail_view c.args.trail.now) c.args.body.now)
     c.args.vm.now c.enters_body.new.vm c.renew_below.new.vm (λ n. seen_codes n c.renew_below.new.body) (λ n u agrees. c.in_ok-enters_body.ensures.asked n u agrees ∙ c.if-branch.true) c.enters_body.ensures.still)
     c.renew_below.ensures.ok
 
 pub codes::renew_side-returns-then-branch-clause-fails : goal.codes::renew_side-returns-then-branch-clause-fails
 codes::renew_side-returns-then-branch-clause-fails g t c =
     if_err c.renew_below.result
-    (λ f r. region_fails c.args.app.now c.args.cells.now p.Codes (λ n. positions_in (lives_of (seen_codes n c.args.body.now))) (λ n. seen_codes n c.args.body.now) (Below c.args.app.now c.args.cells.now c.args.left (path_step_view c.args.step ∷ trail_view c.args.trail.now) (path_step_view c.args.step ∷ trail_view c.args.trail.now) c.args.body.now)
+    (λ f r. region_fails few c.args.app.now c.args.cells.now p.Codes (λ n. positions_in (lives_of (seen_codes n c.args.body.now))) (λ n. seen_codes n c.args.body.now) (Below c.args.app.now c.args.cells.now c.args.left (path_step_view c.args.step ∷ trail_view c.args.trail.now) (path_step_view c.args.step ∷ trail_view c.args.trail.now) c.args.body.now)
     c.args.vm.now c.enters_body.new.vm f (λ n u agrees. c.in_ok-enters_body.ensures.asked n u agrees ∙ c.if-branch.true) c.enters_body.ensures.still r)
     c.renew_below.ensures.fails
 
 pub codes::renew_side-returns-else-branch-clause-ok : goal.codes::renew_side-returns-else-branch-clause-ok
 codes::renew_side-returns-else-branch-clause-ok g t c =
-    region_passed c.args.app.now c.args.cells.now p.Codes (λ n. positions_in (lives_of (seen_codes n c.args.body.now))) (λ n. seen_codes n c.args.body.now) (Below c.args.app.now c.args.cells.now c.args.left (path_step_view c.args.step ∷ trail_view c.args.trail.now) (path_step_view c.args.step ∷ trail_view c.args.trail.now) c.args.body.now)
+    region_passed few c.args.app.now c.args.cells.now p.Codes (λ n. positions_in (lives_of (seen_codes n c.args.body.now))) (λ n. seen_codes n c.args.body.now) (Below c.args.app.now c.args.cells.now c.args.left (path_step_view c.args.step ∷ trail_view c.args.trail.now) (path_step_view c.args.step ∷ trail_view c.args.trail.now) c.args.body.now)
     c.args.vm.now c.enters_body.new.vm (λ n u agrees. c.in_ok-enters_body.ensures.asked n u agrees ∙ c.if-branch.false) c.enters_body.ensures.still
 
 pub codes::renew_side-returns-else-branch-clause-moved : goal.codes::renew_side-returns-else-branch-clause-moved
@@ -741,7 +741,7 @@ along::walk_item-returns-in-Ok-clause-ok g t c =
     let q : Path = item (plain (view x.spot.key)) x.spot.occurrence ∷ trail_view c.args.trail.now in
     let y : ItemCode = record { spot = x.spot; comment = x.comment; body = c.renew_codes.new.codes } in
     along_renews a c.args.cells.now c.args.left (trail_view c.args.trail.now) q x.spot x.comment x.body (λ n. seen_item_code n x) c.args.vm.now (λ n. item_is n x) refl c.renew_codes.new.codes (λ n. seen_item_code n y) c.renew_codes.new.vm (λ n. item_is n y)
-    (region_entered a c.args.cells.now p.Codes (λ n. positions_in (lives_of (seen_codes n x.body))) (λ n. seen_codes n x.body) (Below a c.args.cells.now c.args.left q q x.body)
+    (region_entered few a c.args.cells.now p.Codes (λ n. positions_in (lives_of (seen_codes n x.body))) (λ n. seen_codes n x.body) (Below a c.args.cells.now c.args.left q q x.body)
     c.args.vm.now c.enters_body.new.vm c.renew_codes.new.vm (λ n. seen_codes n c.renew_codes.new.codes) (λ n u agrees. c.in_ok-enters_body.ensures.asked n u agrees ∙ c.if-branch.true) c.enters_body.ensures.still
     (subst (λ w. Renews a c.args.cells.now (λ n run. along_codes_as by_number run c.args.left w 0 (seen_codes n x.body)) c.enters_body.new.vm (λ n. seen_codes n c.renew_codes.new.codes) c.renew_codes.new.vm) c.in_ok-enter_item.ensures.view c.in-Ok.ensures.ok))
 
@@ -751,7 +751,7 @@ along::walk_item-returns-in-Err-clause-fails g t c =
     let a = c.args.app.now in
     let q : Path = item (plain (view x.spot.key)) x.spot.occurrence ∷ trail_view c.args.trail.now in
     along_fails a c.args.cells.now c.args.left (trail_view c.args.trail.now) q x.spot x.comment x.body (λ n. seen_item_code n x) c.args.vm.now (λ n. item_is n x) refl c.in-Err.fault
-    (region_fails a c.args.cells.now p.Codes (λ n. positions_in (lives_of (seen_codes n x.body))) (λ n. seen_codes n x.body) (Below a c.args.cells.now c.args.left q q x.body)
+    (region_fails few a c.args.cells.now p.Codes (λ n. positions_in (lives_of (seen_codes n x.body))) (λ n. seen_codes n x.body) (Below a c.args.cells.now c.args.left q q x.body)
     c.args.vm.now c.enters_body.new.vm c.in-Err.fault (λ n u agrees. c.in_ok-enters_body.ensures.asked n u agrees ∙ c.if-branch.true) c.enters_body.ensures.still
     (subst (λ w. RenewFails {A = PlainCodes} a c.args.cells.now (λ n run. along_codes_as by_number run c.args.left w 0 (seen_codes n x.body)) c.enters_body.new.vm c.in-Err.fault) c.in_ok-enter_item.ensures.view c.in-Err.ensures.fails))
 
@@ -774,7 +774,7 @@ along::walk_item-returns-else-branch-clause-ok g t c =
     let a = c.args.app.now in
     let q : Path = item (plain (view x.spot.key)) x.spot.occurrence ∷ trail_view c.args.trail.now in
     along_renews a c.args.cells.now c.args.left (trail_view c.args.trail.now) q x.spot x.comment x.body (λ n. seen_item_code n x) c.args.vm.now (λ n. item_is n x) refl x.body (λ n. seen_item_code n x) c.enters_body.new.vm (λ n. item_is n x)
-    (region_passed a c.args.cells.now p.Codes (λ n. positions_in (lives_of (seen_codes n x.body))) (λ n. seen_codes n x.body) (Below a c.args.cells.now c.args.left q q x.body)
+    (region_passed few a c.args.cells.now p.Codes (λ n. positions_in (lives_of (seen_codes n x.body))) (λ n. seen_codes n x.body) (Below a c.args.cells.now c.args.left q q x.body)
     c.args.vm.now c.enters_body.new.vm (λ n u agrees. c.in_ok-enters_body.ensures.asked n u agrees ∙ c.if-branch.false) c.enters_body.ensures.still)
 
 pub along::walk_item-returns-else-branch-clause-moved : goal.along::walk_item-returns-else-branch-clause-moved

@@ -2,7 +2,7 @@ use Rattle.std.proofs.Common.{rules, [], None, ◌≡◌, ◌-◌, suc, reverse,
 use Rattle.gl_meaning.specs.declared.manifest.Manifest.{Manifest}
 use Rattle.gl_plain.specs.Naming.{by_number}
 use Rattle.gl_machine.specs.Code.{Code as PlainCode, Codes as PlainCodes}
-use Rattle.gl_guards.specs.Along.{along_body_as}
+use Rattle.gl_guards.specs.Along.{along_page_as}
 use Rattle.gl_code.specs.CodeView.{seen_code, seen_codes, component_seen}
 use Rattle.gl_code.specs.declared.code.Code.{the_lemmas}
 use Rattle.gl_code.specs.declared.code.Codes.{Codes}
@@ -21,20 +21,20 @@ returns-in-Ok-clause-ok g c =
     let m = c.manifest.result.now.limit - 1 in
     let one : c.manifest.result.now.limit ≡ suc m = (let ne = c.if-limit-eq0.false in omega (arith, ne)) in
     let old = c.args.page.now.vm in
-    let new = c.renew_body.new.vm in
-    page_renews a c.args.cells.now a.manifest.limit m (ap (λ (x : Manifest). x.limit) (sym c.manifest.ensures) ∙ one) c.in-Root.owner.value c.args.page.now.code _ c.in-Root.body c.renew_body.new.codes (trail_view c.of-trail.result) old new (c.of-trail.ensures ∙ ap reverse c.new.ensures)
+    let new = c.renew_top.new.vm in
+    page_renews a c.args.cells.now a.manifest.limit m (ap (λ (x : Manifest). x.limit) (sym c.manifest.ensures) ∙ one) c.in-Root.owner.value c.args.page.now.code _ c.in-Root.body c.renew_top.new.body (trail_view c.of-trail.result) old new (c.of-trail.ensures ∙ ap reverse c.new.ensures)
     (λ n. ap (seen_code n) c.in-Root.is ∙ root_is n c.in-Root.owner c.in-Root.body) (λ n. search (rules, the_lemmas))
-    (subst (λ (b : Codes). Renews a c.args.cells.now (λ n run. along_body_as by_number run m (trail_view c.of-trail.result) (seen_codes n b)) old (λ n. seen_codes n c.renew_body.new.codes) new) c.in-Root.body-is c.in-Ok.ensures.ok)
+    (subst (λ (b : Codes). Renews a c.args.cells.now (λ n run. along_page_as by_number run m (trail_view c.of-trail.result) (seen_codes n b)) old (λ n. seen_codes n c.renew_top.new.body) new) c.in-Root.body-is c.in-Ok.ensures.ok)
 
 pub returns-in-Ok-clause-moved : goal.returns-in-Ok-clause-moved
 returns-in-Ok-clause-moved g c =
     let o = c.in-Root.owner in
     let root : Tables → PlainCodes → PlainCode = λ n cs. component_seen (seen_owner n o.value) [] (refs_made o.value.cells) [] None cs in
     let m = c.none-moved.result in
-    let m2 = c.renew_body.new.moved in
-    page_moved m m2 c.args.page.now.code _ (λ n. root n (seen_codes n c.in-Root.body)) (λ n. root n (seen_codes n c.renew_body.new.codes)) c.none-moved.ensures
+    let m2 = c.renew_top.new.moved in
+    page_moved m m2 c.args.page.now.code _ (λ n. root n (seen_codes n c.in-Root.body)) (λ n. root n (seen_codes n c.renew_top.new.body)) c.none-moved.ensures
     (λ n. ap (seen_code n) c.in-Root.is ∙ root_is n o c.in-Root.body) (λ n. search (rules, the_lemmas))
-    (subst (λ (b : Codes). CodesMoved m m2 (λ n. seen_codes n b) (λ n. seen_codes n c.renew_body.new.codes)) c.in-Root.body-is c.in-Ok.ensures.moved)
+    (subst (λ (b : Codes). CodesMoved m m2 (λ n. seen_codes n b) (λ n. seen_codes n c.renew_top.new.body)) c.in-Root.body-is c.in-Ok.ensures.moved)
 
 pub returns-in-Root-clause-fails : goal.returns-in-Root-clause-fails
 returns-in-Root-clause-fails g c =
@@ -44,4 +44,4 @@ returns-in-Root-clause-fails g c =
     let old = c.args.page.now.vm in
     page_fails a c.args.cells.now a.manifest.limit m (ap (λ (x : Manifest). x.limit) (sym c.manifest.ensures) ∙ one) c.in-Root.owner.value c.args.page.now.code c.in-Root.body (trail_view c.of-trail.result) old c.in-Err.fault (c.of-trail.ensures ∙ ap reverse c.new.ensures)
     (λ n. ap (seen_code n) c.in-Root.is ∙ root_is n c.in-Root.owner c.in-Root.body)
-    (subst (λ (b : Codes). RenewFails {A = PlainCodes} a c.args.cells.now (λ n run. along_body_as by_number run m (trail_view c.of-trail.result) (seen_codes n b)) old c.in-Err.fault) c.in-Root.body-is c.in-Err.ensures.fails)
+    (subst (λ (b : Codes). RenewFails {A = PlainCodes} a c.args.cells.now (λ n run. along_page_as by_number run m (trail_view c.of-trail.result) (seen_codes n b)) old c.in-Err.fault) c.in-Root.body-is c.in-Err.ensures.fails)
