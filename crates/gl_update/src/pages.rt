@@ -28,8 +28,8 @@ use std::alloc::Global;
 /// Changes a page so that it shows the cells of now: what a touched source reached is evaluated again, branches of which the
 /// condition flipped are ended and the other ones appended, items are kept by their keys. New instances have the initial
 /// values of their fields. The nodes of the page then stand in its tree as they were rendered, in their order, and no others.
-/// What has few positions, none of them stale, is passed over, and so is the whole page where none is: then the answer is never want of
-/// memory, and nothing is another but the count of questions. It answers how many items were moved, each by one move of nodes; that they are
+/// What has few positions, none of them stale, is passed over, and so is the whole page where none is: then, where each can be asked and the
+/// nodes stood, it is never want of memory, and nothing is another but the count of questions. It answers how many items were moved, each by one move of nodes; that they are
 /// those between the two updating programs is said of one in which no key of a list stands twice. After a fault the page is not to be used.
 pub fn update<A: AppendBlock>(
     alloc: Global,
