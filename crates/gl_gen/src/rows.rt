@@ -18,7 +18,7 @@ pub fn text_for(alloc: Global, rows: usize) -> Result<Text, AllocError>
     ensures { IfOk result (λ t. t ≡ []) }
 {
     let room = OTHER_BYTES + ROW_BYTES * rows;
-    Ok(Text::from_string(String::with_capacity(alloc, room)?))
+    Text::with_capacity(alloc, room)
 }
 
 fn row_of(alloc: Global, number: u32) -> Result<Text, AllocError>

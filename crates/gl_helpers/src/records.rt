@@ -98,7 +98,7 @@ fn hash(alloc: Global, named: &[(Text, Value)]) -> Result<Record, AllocError>
 {
     let mut record = RecordBuilder::new(alloc);
     for (name, value) in by_name(alloc, named)? {
-        record.push(Text::from_string(name), value.copy()?)?;
+        record.push(Text::from_string(name)?, value.copy()?)?;
     }
     Ok(record.build()?)
 }

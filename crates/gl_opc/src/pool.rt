@@ -62,7 +62,7 @@ impl Pool {
         let mut texts = Texts::new(self.alloc);
         let mut set = self.set;
         for text in set.drain(..) {
-            texts.push(Text::from_string(text))?;
+            texts.push(Text::from_string(text)?)?;
         }
         Ok(texts)
     }

@@ -2,6 +2,7 @@
 #![tactic(auto)]
 
 mod shared;
+mod short;
 mod text;
 mod texts;
 

@@ -10,7 +10,7 @@ fn text(alloc: Global, characters: &str) -> Result<Text, Fail> {
 #[test]
 fn texts(rt: HostRuntime) -> Result<(), Fail> {
     let alloc = rt.alloc();
-    let mut written = Text::from_string(String::from_str(alloc, "\u{e9}")?);
+    let mut written = Text::from_string(String::from_str(alloc, "\u{e9}")?)?;
     written.push_str("b")?;
     written.push_text(&text(alloc, "c")?)?;
     written.push_char('\u{20ac}')?;

@@ -62,7 +62,7 @@ pub fn to_text(alloc: Global, wire: &Wire) -> Result<Text, AllocError>
     ensures { IfOk result (λ t. t ≡ wire_text (wire_view wire.now)) }
 {
     let json = to_json(alloc, wire)?;
-    Ok(Text::from_string(json.to_string(alloc)?))
+    Ok(Text::from_string(json.to_string(alloc)?)?)
 }
 
 // The text of the wire with these symbols and statements. It is written statement by statement.
@@ -74,7 +74,7 @@ fn text_of(alloc: Global, symbols: &Texts, body: WireBody) -> Result<Text, Alloc
     text.push_str(r#"],"symbols":"#)?;
     write_value(alloc, &mut text, &texts_value(alloc, symbols)?)?;
     text.push_str(r#","v":2}"#)?;
-    Ok(Text::from_string(text))
+    Ok(Text::from_string(text)?)
 }
 
 /// The JSON of a wire as text, without white space. The JSON of one top-level statement stands in memory at a time,

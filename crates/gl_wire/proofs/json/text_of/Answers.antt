@@ -18,4 +18,4 @@ returns c =
     let named = string_bytes c.push_str.new.self in
     let symbols = c.in_ok-write_value.ensures ∙ ap (λ (d : List ℕ). named ++ d) (ap compact_text c.in_ok-texts_value.ensures) in
     let all = wire_written w _ _ _ _ _ c.in_ok-text.ensures.ok c.in_ok-write_body.ensures c.in_ok-push_str.ensures.bytes symbols c.in_ok-push_str-2.ensures.bytes in
-    c.from_string.ensures ∙ ap chars all
+    c.in_ok-from_string.ensures ∙ ap chars all

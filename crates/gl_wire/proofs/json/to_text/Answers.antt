@@ -13,4 +13,4 @@ unfolding wire_text
 returns c =
     let same = c.in_ok-json.ensures in
     let whole : has_float (view c.in_ok-json.json) ≡ false = ap has_float same ∙ no_float Second (wire_view c.args.wire.now) in
-    c.from_string.ensures ∙ ap chars (c.in_ok-to_string.ensures.text whole ∙ ap compact_text same)
+    c.in_ok-from_string.ensures ∙ ap chars (c.in_ok-to_string.ensures.text whole ∙ ap compact_text same)

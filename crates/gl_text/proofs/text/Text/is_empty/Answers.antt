@@ -1,12 +1,12 @@
-use Rattle.std.proofs.Common.{arith, string_bytes}
+use Rattle.std.proofs.Common.{arith}
 use Rattle.std.proofs.lemmas.Grind.{common_steps}
-use Rattle.std.proofs.lemmas.Str.{IsUtf8-string_bytes}
 use Rattle.gl_base.proofs.Chars.{empty_chars, chars_empty}
 use Rattle.gl_text.proofs.text.Text.is_empty.Goals as goal
 
 pub returns : goal.returns
 returns c =
-    let bs = string_bytes c.self.inside.inner in
+    let bs = c.as_str.result.now in
     let there = empty_chars bs in
-    let back = chars_empty bs (IsUtf8-string_bytes c.self.inside.inner) in
+    let back = chars_empty bs c.as_str.ensures.utf8 in
+    let value = c.as_str.ensures.value in
     grind (arith, common_steps)
