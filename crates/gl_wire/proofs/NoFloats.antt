@@ -43,7 +43,7 @@ pub texts : (ts : List Text) → have (map text_json ts) ≡ false
 texts [] = refl
 texts (t ∷ ts) = texts ts
 
-places : (is : List ℕ) → have (map place_json is) ≡ false
+pub places : (is : List ℕ) → have (map place_json is) ≡ false
 places [] = refl
 places (i ∷ is) = places is
 
@@ -62,7 +62,7 @@ scalar (v.pairs ms) = refl
 scalar (v.action o n xs) = absurd o
 
 mutual
-  expression : (e : Expr) → has_float (expr_json e) ≡ false
+  pub expression : (e : Expr) → has_float (expr_json e) ≡ false
   expression (literal x) = scalar x
   expression (symbol i) = refl
   expression (this n) = refl
@@ -79,7 +79,7 @@ mutual
   pairs no_named = refl
   pairs (named_expr n e ns) = both _ _ (both _ _ (expression e) refl) (pairs ns)
 
-part : (p : Part) → has_float (part_json p) ≡ false
+pub part : (p : Part) → has_float (part_json p) ≡ false
 part (attribute n s) = refl
 part (live n e) = both _ _ (expression e) refl
 part (modifier n es ns) = both _ _ (expressions es) (both _ _ (pairs ns) refl)
@@ -110,7 +110,7 @@ names First to = refl
 names Second to = refl
 
 mutual
-  pub statement : (version : Version) (s : Stmt) → have (stmt_rows version s) ≡ false
+  statement : (version : Version) (s : Stmt) → have (stmt_rows version s) ≡ false
   statement version (text_stmt s) = refl
   statement version (comment_stmt s) = refl
   statement version (put e) = both _ _ (both _ _ (expression e) refl) refl

@@ -65,7 +65,7 @@ pub fn to_text(alloc: Global, wire: &Wire) -> Result<Text, AllocError>
     Ok(Text::from_string(json.to_string(alloc)?)?)
 }
 
-// The text of the wire with these symbols and statements. It is written statement by statement.
+// The text of the wire with these symbols and statements. It is written piece by piece.
 fn text_of(alloc: Global, symbols: &Texts, body: WireBody) -> Result<Text, AllocError>
     ensures { IfOk result (λ t. t ≡ wire_text (record { symbols = symbols.now; body = body_of body })) }
 {
@@ -77,8 +77,9 @@ fn text_of(alloc: Global, symbols: &Texts, body: WireBody) -> Result<Text, Alloc
     Ok(Text::from_string(text)?)
 }
 
-/// The JSON of a wire as text, without white space. The JSON of one top-level statement stands in memory at a time,
-/// and each statement is let go when its JSON is there.
+/// The JSON of a wire as text, without white space. It is written piece by piece, so that the JSON of one string, of one part
+/// of a tag or one expression in which no expression stands, or of one list of segments, of places or of the symbols stands in
+/// memory at a time. Each top-level statement is let go when it is written.
 pub fn into_text(alloc: Global, wire: Wire) -> Result<Text, AllocError>
     ensures { IfOk result (λ t. t ≡ wire_text (wire_view wire)) }
 {

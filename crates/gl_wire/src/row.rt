@@ -1,5 +1,5 @@
 // The values of an array of JSON, one after another.
-ghost use Rattle.std.specs.Prelude.{◌≡◌, [], ◌∷◌, ◌++◌, IfOk, OnOk, map};
+ghost use Rattle.std.specs.Prelude.{◌≡◌, [], ◌∷◌, ◌++◌, IfOk, OnOk};
 ghost use Rattle.serde_json.specs.Data.{string};
 ghost use Rattle.serde_json.specs.View.{view};
 ghost use Rattle.gl_wire.specs.Json.{array_of, text_json, texts_json, places_json};
@@ -48,13 +48,6 @@ impl Row {
         ensures { OnOk result (shown self.new ≡ shown self.old ++ text_json text.now ∷ []) }
     {
         self.push(Value::try_from_str(alloc, text.as_str())?)
-    }
-
-    /// The values, in order.
-    pub fn as_slice(&self) -> &[Value]
-        ensures { map view result.now ≡ shown self.now }
-    {
-        self.list.as_slice()
     }
 
     /// The array of the values. It takes no memory.

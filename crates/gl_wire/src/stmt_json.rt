@@ -17,7 +17,8 @@ use gl_value::Text;
 use serde_json::Value;
 use std::alloc::{AllocError, Global};
 
-fn part_value(alloc: Global, part: &WirePart) -> Result<Value, AllocError>
+/// The JSON of a part of a tag.
+pub(crate) fn part_value(alloc: Global, part: &WirePart) -> Result<Value, AllocError>
     ensures { IfOk result (λ v. view v ≡ part_json (part_view part.now)) }
 {
     match part {
@@ -74,8 +75,8 @@ fn push_expr_row(
     out.push(row.into_value())
 }
 
-// The word of an `If`.
-fn if_word(unless: bool) -> &'static str
+/// The word of an `If`.
+pub(crate) fn if_word(unless: bool) -> &'static str
     ensures { result.now ≡ if_word unless }
 {
     if unless { "unless" } else { "if" }
@@ -263,9 +264,9 @@ fn push_bodies(
     push_word(alloc, "end", out)
 }
 
-/// Adds the rows of a statement.
+// Adds the rows of a statement.
 #[cycle(statement)]
-pub(crate) fn push_stmt(
+fn push_stmt(
     alloc: Global,
     version: Version,
     stmt: &WireStmt,
