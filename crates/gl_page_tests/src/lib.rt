@@ -4,4 +4,6 @@
 #![tactic(auto)]
 
 #[cfg(test)]
+mod requests;
+#[cfg(test)]
 mod rows;
