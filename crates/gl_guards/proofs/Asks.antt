@@ -22,11 +22,11 @@ use Rattle.gl_machine.specs.Outcome.{Outcome, ok, deep, lost, on_ok}
 use Rattle.gl_machine.specs.Nesting.{Nests, NestsIn, NestsItems}
 use Rattle.gl_machine.specs.RenewCode.{Runs, kept, branch_with, unlisted_with, ItemDone, item_done, with_left, item_with, sync_one_code_as, sync_codes_as, fresh_codes, by_values, fresh_branch, fresh_other, fresh_item_as, renew_codes_as}
 use Rattle.gl_guards.specs.Guarded.{any_stale, guard, if_ok, with_taken, given_as, idle_handles, stale_taken_as, guarded_code_as, guarded_codes_as, guarded_items_as, guarded_handles_as, renew_items_as, guarded_root_code_as}
-use Rattle.gl_guards.specs.Questions.{region, after, OldItem, taken_item, with_first, where_taken, synced_asks_as, code_asks_as, codes_asks_as, items_asks_as, old_items_as, root_asks_as}
+use Rattle.gl_guards.specs.Questions.{region, after, OldItem, where_taken, synced_asks_as, code_asks_as, codes_asks_as, items_asks_as, old_items_as, root_asks_as}
 use Rattle.gl_guards.specs.Settled.{IsGiven, Leaves, Ended, NotesApart, ListingApart, Owns, OwnsItems, OwnsIn, Settled, SettledItems, SettledIn, Room, MayPass, AtRoot}
 use Rattle.gl_guards.proofs.Leaves.{ended_on, mods_left, given_more, all_left, reread_left, evaluate_left, attrs_left, left_then}
 use Rattle.gl_machine.proofs.Following.{either}
-use Rattle.gl_guards.proofs.Parts.{Elem, handle, elems, front, is_elem, taken_elem, both_handles, handles_taken, times_elem, times_elems, times_elems_of, EachElem, Parted, parted, OneLeft, one_left, ElemLeft, given_left, sync_left, renewing, attrs_counted, mods_counted, code_left, codes_left}
+use Rattle.gl_guards.proofs.Parts.{Elem, handle, elems, front, is_elem, taken_elem, both_handles, handles_taken, old_with, both_old, old_taken, times_elem, times_elems, times_elems_of, EachElem, Parted, parted, OneLeft, one_left, ElemLeft, given_left, sync_left, renewing, attrs_counted, mods_counted, code_left, codes_left}
 use Rattle.gl_guards.proofs.Steps.{Step, codes_go, items_go, room_less, room_into, room_beside, step_beside}
 use Rattle.gl_guards.proofs.Same.{SettledAt, SettledElem, ElemOwns, elems_settled, elems_go, given_settled, path_is, ElemSame, sync_same, idle, fresh_alone, guarding, entered_are, idle_are, region_same, code_same, codes_same, items_same}
 use Rattle.gl_guards.proofs.Outcomes.{Holds, holds_on, holds_both, holds_then, ended_then, holds_fact, items_in, codes_in}
@@ -144,25 +144,11 @@ module _ (naming : Naming) (notes : NotesApart naming) (run : Runs) (st0 : State
   -- Lists that were read again
 
   abbrev old_of : ℕ → Elem → OldItem
-  old_of m h = record { handle = handle (guarding naming notes run m) h; asks = λ q st. codes_asks_as naming run m q 0 h.codes st }
+  old_of m = old_with (guarding naming notes run m) (λ cs q st. codes_asks_as naming run m q 0 cs st)
 
   old_are : (m : ℕ) (is : ItemCodes) → old_items_as naming run m is ≡ map (old_of m) (elems is)
   old_are m no_item_codes = refl
   old_are m (item_code z k cs is) = ap (λ hs. old_of m (record { spot = z; comment = k; codes = cs }) ∷ hs) (old_are m is)
-
-  abbrev both_old : ℕ → Elem × List Elem → OldItem × List OldItem
-  both_old m p = (old_of m p.0, map (old_of m) p.1)
-
-  old_front : (m : ℕ) (h : Elem) (o : Option (Elem × List Elem)) → with_first (old_of m h) (option_map (both_old m) o) ≡ option_map (both_old m) (front h o)
-  old_front m h None = refl
-  old_front m h (Some p) = refl
-
-  old_taken : (m : ℕ) (x : Entry) (hs : List Elem) → taken_item x (map (old_of m) hs) ≡ option_map (both_old m) (taken_elem x hs)
-  old_taken m x [] = refl
-  old_taken m x (h ∷ hs) =
-      either (is_elem x h)
-      (λ t. cond t (Some (old_of m h, map (old_of m) hs)) (with_first (old_of m h) (taken_item x (map (old_of m) hs))) ≡ option_map (both_old m) (cond t (Some (h, hs)) (front h (taken_elem x hs))))
-      refl (ap (with_first (old_of m h)) (old_taken m x hs) ∙ old_front m h (taken_elem x hs))
 
   abbrev elem_path : Path → Elem → Path
   elem_path p h = item h.spot.key h.spot.occurrence ∷ p
@@ -339,7 +325,7 @@ module _ (naming : Naming) (notes : NotesApart naming) (run : Runs) (st0 : State
       subst
       (λ o. where_taken o (λ k rest. let st2 = given_as naming q x k.handle st in region st2 (positions_in (lives_of k.handle.codes)) (k.asks q st2) + after (k.handle.go q st2) (λ r. synced_asks_as naming one p xs rest r.1))
       (after (one q x st) (λ d. synced_asks_as naming one p xs (map (old_of m) hs) d.arm.state)) ≤ all_asks p hs)
-      (sym (old_taken m x hs))
+      (sym (old_taken (guarding naming notes run m) _ x hs))
       (by (taken_elem x hs) (parted x hs) (shared p x hs) (λ gs t. synced_le m one ol p around xs gs t)
       (subst (λ o. Holds (on_ok (sync_one_code_as naming one q x (map (handle (guarding naming notes run m)) hs) o st) (λ y. on_ok (sync_codes_as naming one p xs y.1 y.0.arm.state) (λ r. ok (item_with y.0 r)))) (ItemsDone p))
       (handles_taken (guarding naming notes run m) x hs) h)) where
@@ -347,7 +333,7 @@ module _ (naming : Naming) (notes : NotesApart naming) (run : Runs) (st0 : State
             → ((gs : List Elem) (t : State) → Rest m p around gs t → Holds (synced m one p xs gs t) (ItemsDone p) → synced_asks_as naming one p xs (map (old_of m) gs) t ≤ all_asks p gs)
             → let q = item x.key x.occurrence ∷ p in
             Holds (on_ok (sync_one_code_as naming one q x (map (handle (guarding naming notes run m)) hs) (option_map (both_handles (guarding naming notes run m)) o) st) (λ y. on_ok (sync_codes_as naming one p xs y.1 y.0.arm.state) (λ r. ok (item_with y.0 r)))) (ItemsDone p)
-            → where_taken (option_map (both_old m) o)
+            → where_taken (option_map (both_old (old_of m)) o)
             (λ k rest. let st2 = given_as naming q x k.handle st in region st2 (positions_in (lives_of k.handle.codes)) (k.asks q st2) + after (k.handle.go q st2) (λ r. synced_asks_as naming one p xs rest r.1))
             (after (one q x st) (λ d. synced_asks_as naming one p xs (map (old_of m) hs) d.arm.state)) ≤ all_asks p hs
         by None e f rec k =

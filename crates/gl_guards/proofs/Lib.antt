@@ -13,5 +13,6 @@ pub mod Outcomes
 pub mod Asks
 pub mod Rising
 pub mod TurnAsks
+pub mod AlongLess
 pub mod Itself
 pub mod Once

@@ -146,7 +146,7 @@ puts_are_renew env lowered differ s e reached k st placed follows xs own same n 
     puts_are_entered any_stale fresh_alone any_stale fresh_alone true env lowered differ s e reached k st placed follows xs own same n
 
 -- a question that enters more regions passes over fresh ones alone
-over_enters : (most : ℕ) → PassesFresh (enters_over most)
+pub over_enters : (most : ℕ) → PassesFresh (enters_over most)
 over_enters most st rs e = by (nat_lt most (length rs)) e where
   by : (b : Bool) → (b || any_stale st rs) ≡ false → any_stale st rs ≡ false
   by true e = absurd (true≢false e)

@@ -18,6 +18,7 @@ use Rattle.gl_machine.specs.Sight.{with_locals}
 use Rattle.gl_machine.specs.RenewCode.{Runs, start, commented, kept, branch_with, unlisted_with, item_start_as, ItemDone, item_done, CodeHandle, with_code_front, taken_code, with_left, item_with, times_code_handles, renew_item_code_as, sync_one_code_as, sync_codes_as, fresh_codes, by_values, fresh_branch, fresh_other, fresh_item_as, renew_code_as, renew_codes_as, code_handles_as}
 use Rattle.gl_machine.proofs.Following.{either}
 use Rattle.gl_guards.specs.Guarded.{given_as}
+use Rattle.gl_guards.specs.Questions.{OldItem, taken_item, with_first}
 use Rattle.gl_guards.specs.Settled.{Leaves, Ended, NotesApart, OwnAttrs, OwnMods, ChoiceApart, ListingApart, Owns, OwnsItems, OwnsIn}
 use Rattle.gl_guards.proofs.Leaves.{ended_on, Within, all_left, left_more, left_then, itself, nothing, reread_left, text_left, CountsAttrs, CountsMods, attrs_left, mods_left, give_left, dropped_left, source_left, commented_left}
 
@@ -62,6 +63,27 @@ handles_taken go x (h ∷ hs) =
     either (is_elem x h)
     (λ t. cond t (Some (handle go h, map (handle go) hs)) (with_code_front (handle go h) (taken_code x (map (handle go) hs))) ≡ option_map (both_handles go) (cond t (Some (h, hs)) (front h (taken_elem x hs))))
     refl (ap (with_code_front (handle go h)) (handles_taken go x hs) ∙ handle_front go h (taken_elem x hs))
+
+-- with what is asked in them
+abbrev pub Asks : Type 0
+Asks = Codes → Path → State → ℕ
+
+abbrev pub old_with : Goes → Asks → Elem → OldItem
+old_with go asks h = record { handle = handle go h; asks = asks h.codes }
+
+abbrev pub both_old : (Elem → OldItem) → Elem × List Elem → OldItem × List OldItem
+both_old f y = (f y.0, map f y.1)
+
+old_front : (f : Elem → OldItem) (h : Elem) (o : Option (Elem × List Elem)) → with_first (f h) (option_map (both_old f) o) ≡ option_map (both_old f) (front h o)
+old_front f h None = refl
+old_front f h (Some y) = refl
+
+pub old_taken : (go : Goes) (asks : Asks) (x : Entry) (hs : List Elem) → taken_item x (map (old_with go asks) hs) ≡ option_map (both_old (old_with go asks)) (taken_elem x hs)
+old_taken go asks x [] = refl
+old_taken go asks x (h ∷ hs) =
+    let f = old_with go asks in
+    either (is_elem x h) (λ t. cond t (Some (f h, map f hs)) (with_first (f h) (taken_item x (map f hs))) ≡ option_map (both_old f) (cond t (Some (h, hs)) (front h (taken_elem x hs)))) refl
+    (ap (with_first (f h)) (old_taken go asks x hs) ∙ old_front f h (taken_elem x hs))
 
 abbrev pub times_elem : Id → Elem → ℕ
 times_elem q h = occurs q (item_made h.spot) + (times_in q (lives_of h.codes) + times_comment q h.comment)

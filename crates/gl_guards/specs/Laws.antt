@@ -28,6 +28,7 @@ use Rattle.gl_guards.specs.Once.{KeysOnce}
 use Rattle.gl_guards.specs.Guarded.{any_stale, entered_code_as, entered_root_code_as, guarded_code_as, guarded_codes_as, guarded_items_as, renew_items_as, guarded_root_code_as}
 use Rattle.gl_guards.specs.Along.{along_root_code_as}
 use Rattle.gl_guards.specs.Questions.{root_asks_as}
+use Rattle.gl_guards.specs.AlongAsks.{along_asks_root}
 use Rattle.gl_guards.specs.Settled.{PassesFresh, NotesApart, MayPass, MayPassIn, MayPassItems, Fits, AtRoot, IsRoot}
 
 -- Both namings leave all things where they note something.
@@ -166,6 +167,21 @@ PutsAsk =
     → (xs : List Put) → AreOwn env.app f.named.owner (live_of k) xs → (applied env.app s (Some e)).sets ≡ map (held_of f.named.owner) xs
     → (n : ℕ) (x : Code × State) → let now = put_all xs (begin st) in let run = run_for_as by_number env [] n in
     guarded_root_code_as by_number env.app.limit run k now ≡ ok x → root_asks_as by_number env.app.limit run k now ≤ t.asked
+
+-- The update that goes along answers no more questions than the one that passes over just what is fresh asks,
+abbrev pub AlongAsksLess : Type 0
+AlongAsksLess =
+    (naming : Naming) → NotesApart naming → (run : Runs) (around : Id → ℕ) (m : ℕ) (k : Code) (st : State) → MayPass naming run st around m [] k → AtRoot k
+    → along_asks_root naming m run k st ≤ root_asks_as naming m run k st
+
+-- so in each turn of a session at most as many as the meaning says.
+abbrev pub PutsAskAlong : Type 0
+PutsAskAlong =
+    (env : Env) → AllLowered env → FieldsDiffer env.app → (s : session.State) (e : Event) (t : Turn) → Reached env.app s → step env.app s (Some e) ≡ Some t
+    → (k : Code) (st : State) → PlacedRoot env k → (f : FollowsBy env.app s st (live_of k))
+    → (xs : List Put) → AreOwn env.app f.named.owner (live_of k) xs → (applied env.app s (Some e)).sets ≡ map (held_of f.named.owner) xs
+    → (n : ℕ) (x : Code × State) → let now = put_all xs (begin st) in let run = run_for_as by_number env [] n in
+    along_root_code_as by_number env.app.limit run k now ≡ ok x → along_asks_root by_number env.app.limit run k now ≤ t.asked
 
 -- In a tree that follows a state of a session no key of a list stands twice.
 abbrev pub KeysAreOnce : Type 0

@@ -1,6 +1,6 @@
 //! The laws of an update that passes over what is fresh. Each function does nothing: its contract is the law.
 
-ghost use Rattle.gl_guards.specs.Laws.{NamingsApart, FreshStays, FreshStaysIn, FreshStaysItems, FreshStaysRoot, ListGoesAlong, GuardedIsRenew, GuardedIsRenewIn, GuardedIsRenewItems, GuardedIsRenewRoot, EnteredIsRenew, EnteredIsRenewRoot, TurnMayPass, TurnIsRenew, PutsAreRenew, PutsAreEntered, PutsGoAlong, KeysAreOnce, FreshAsksOne, TurnAsks, PutsAsk};
+ghost use Rattle.gl_guards.specs.Laws.{NamingsApart, FreshStays, FreshStaysIn, FreshStaysItems, FreshStaysRoot, ListGoesAlong, GuardedIsRenew, GuardedIsRenewIn, GuardedIsRenewItems, GuardedIsRenewRoot, EnteredIsRenew, EnteredIsRenewRoot, TurnMayPass, TurnIsRenew, PutsAreRenew, PutsAreEntered, PutsGoAlong, KeysAreOnce, FreshAsksOne, TurnAsks, PutsAsk, AlongAsksLess, PutsAskAlong};
 
 /// What is noted of what comes and goes leaves all things.
 pub fn notes()
@@ -53,4 +53,11 @@ pub fn questions()
     ensures one { FreshAsksOne }
     ensures most { TurnAsks }
     ensures puts { PutsAsk }
+{}
+
+/// An update that goes along, and counts one for a region in which nothing was evaluated, counts no more than one that enters just what is stale;
+/// so in each turn of a session at most as many questions as the turn says.
+pub fn along_questions()
+    ensures less { AlongAsksLess }
+    ensures puts { PutsAskAlong }
 {}
