@@ -1,4 +1,6 @@
 pub mod Renewing
+pub mod Asking
+pub mod AskedCodes
 pub mod Regions
 pub mod Walking
 pub mod Arms
@@ -21,3 +23,7 @@ pub mod AlongCounts
 pub mod AlongItems
 pub mod StayingItems
 pub mod PlainKeys
+pub mod AskedItems
+pub mod AskedSync
+pub mod AskedStaying
+pub mod AskedLists

@@ -47,11 +47,11 @@ module _ (n : Tables) where
   unlisted_is listing spot comment body = search (rules, the_lemmas)
 
 -- A list has items just where it has entries.
-no_items : {A : Type 0} (k : Text) (vs : Values Path) (f : Values Path → A) (a : A) → entries k 0 [] vs ≡ [] → by_values vs f a ≡ a
+pub no_items : {A : Type 0} (k : Text) (vs : Values Path) (f : Values Path → A) (a : A) → entries k 0 [] vs ≡ [] → by_values vs f a ≡ a
 no_items k no_values f a e = refl
 no_items k (value v vs) f a e = absurd (cc)
 
-some_items : {A : Type 0} (k : Text) (vs : Values Path) (f : Values Path → A) (a : A) → (entries k 0 [] vs ≡ [] → ⊥) → by_values vs f a ≡ f vs
+pub some_items : {A : Type 0} (k : Text) (vs : Values Path) (f : Values Path → A) (a : A) → (entries k 0 [] vs ≡ [] → ⊥) → by_values vs f a ≡ f vs
 some_items k no_values f a e = absurd (e refl)
 some_items k (value v vs) f a e = refl
 
@@ -60,7 +60,7 @@ module _ (a : App) (cells : CellList) (z : Tables → PlainListing) (key : Text)
   abbrev pub Gives : List PlainEntry → Vm → Type 0
   Gives es vm = (n : Tables) (u : Source → Bool) → es ≡ entries key 0 [] (values_listed (first_value (spot_pairs (state_of n vm u) s.ref)))
 
-  gives_at : (es : List PlainEntry) (vm : Vm) → Gives es vm → (n : Tables) (u : Source → Bool) → entries (z n).key 0 [] (values_listed (first_value (spot_pairs (state_of n vm u) s.ref))) ≡ es
+  pub gives_at : (es : List PlainEntry) (vm : Vm) → Gives es vm → (n : Tables) (u : Source → Bool) → entries (z n).key 0 [] (values_listed (first_value (spot_pairs (state_of n vm u) s.ref))) ≡ es
   gives_at es vm g n u = ap (λ k. entries k 0 [] (values_listed (first_value (spot_pairs (state_of n vm u) s.ref)))) (keyed n) ∙ sym (g n u)
 
   -- Without items

@@ -25,6 +25,13 @@ none_moved m x y e = λ n once. let z = e n in omega (arith, z)
 pub code_moved : (m m' : Moved) (x y k l : Tables → PlainCode) → ((n : Tables) → x n ≡ k n) → ((n : Tables) → y n ≡ l n) → CodeMoved m m' k l → CodeMoved m m' x y
 code_moved m m' x y k l e d h = λ n once. h n (subst (λ c. KeysOnce (live_of c)) (e n) once) ∙ ap (λ c. m.items + c) (ap₂ (λ a b. moved_between (live_of a) (live_of b)) (sym (e n)) (sym (d n)))
 
+-- Where the items counted are the same, so much was moved of a statement, and of a body.
+pub code_counted : (k m m' l : Moved) (x y : Tables → PlainCode) → m.items ≡ k.items → l.items ≡ m'.items → CodeMoved m m' x y → CodeMoved k l x y
+code_counted k m m' l x y e d h = λ n once. d ∙ (h n once ∙ ap (λ c. c + moved_between (live_of (x n)) (live_of (y n))) e)
+
+pub body_counted : (k m m' l : Moved) (x y : Tables → PlainCodes) → m.items ≡ k.items → l.items ≡ m'.items → CodesMoved m m' x y → CodesMoved k l x y
+body_counted k m m' l x y e d h = λ n once. d ∙ (h n once ∙ ap (λ c. c + moved_bodies (lives_of (x n)) (lives_of (y n))) e)
+
 -- a statement by what it is
 pub arm_moved : (m m' : Moved) (x y : Code) (k l : Tables → PlainCode) → ((n : Tables) → seen_code n x ≡ k n) → ((n : Tables) → seen_code n y ≡ l n) → CodeMoved m m' k l → CodeMoved m m' (λ n. seen_code n x) (λ n. seen_code n y)
 arm_moved m m' x y k l e d h = code_moved m m' (λ n. seen_code n x) (λ n. seen_code n y) k l e d h

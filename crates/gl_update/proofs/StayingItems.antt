@@ -93,11 +93,11 @@ none_now k (v ∷ vs) e =
     let no : d ∷ entries k 1 (key_of k 0 (labelled v) ∷ []) (values_with owner_path (values_of vs)) ≡ [] = e in absurd (cc)
 
 -- the first of the old items is taken
-takes_first : (e : Entry) (x : ItemCode) (xs : List ItemCode) → entry_key e ≡ code_key x → TakesOld e (map Some (x ∷ xs)) (map Some xs) (Some x)
+pub takes_first : (e : Entry) (x : ItemCode) (xs : List ItemCode) → entry_key e ≡ code_key x → TakesOld e (map Some (x ∷ xs)) (map Some xs) (Some x)
 takes_first e x xs same = λ n run m. taken_first run m e (seen_item_code n x) (map (seen_item_code n) (there (map Some xs))) (same ∙ sym (key_is n x))
 
 -- the path of an item with the entry's key
-key_path : (e : Entry) (x : ItemCode) (base : Path) → entry_key e ≡ code_key x → item e.key e.occurrence ∷ base ≡ item (plain (view x.spot.key)) x.spot.occurrence ∷ base
+pub key_path : (e : Entry) (x : ItemCode) (base : Path) → entry_key e ≡ code_key x → item e.key e.occurrence ∷ base ≡ item (plain (view x.spot.key)) x.spot.occurrence ∷ base
 key_path e x base same =
     let key : e.key ≡ plain (view x.spot.key) = sym (unowned-owned e.key) ∙ (ap (λ (k : Key). unowned k.0) same ∙ unowned-owned (plain (view x.spot.key))) in
     let occurrence : e.occurrence ≡ x.spot.occurrence = ap (λ (k : Key). k.1) same in
@@ -118,7 +118,7 @@ module _ (a : App) (cells : CellList) (left : ℕ) (base : Path) (e : Entry) (x 
       ∙ (ap (λ w. on_ok (along_body_as by_number run left w (seen_codes n x.body) g) (λ r. ok ((seen_item_spot x.spot, (stamp_of x.comment, r.0)), r.1))) (sym (key_path e x base same))
       ∙ (sym (item_renewed run left at_entry e y st) ∙ ap (λ w. one_item (renew_item_code_as by_number at_entry e (handle run left w) st)) (sym (item_is n x))))
 
-  stay_renews : (y : ItemCode) (new : Vm) → Renews a cells (AlongItem left base (λ n. seen_item_code n x)) mid (λ n. seen_item_code n y) new → Renews a cells (KeptItem left at_entry e (λ n. seen_item_code n x)) vm (λ n. seen_item_code n y) new
+  pub stay_renews : (y : ItemCode) (new : Vm) → Renews a cells (AlongItem left base (λ n. seen_item_code n x)) mid (λ n. seen_item_code n y) new → Renews a cells (KeptItem left at_entry e (λ n. seen_item_code n x)) vm (λ n. seen_item_code n y) new
   stay_renews y new r =
       renews_same a cells (λ n run st. AlongItem left base (λ m. seen_item_code m x) n run (given_of x.spot e n st)) (KeptItem left at_entry e (λ n. seen_item_code n x)) (λ n. seen_item_code n y) vm new stay_is
       (does_renews a cells (given_of x.spot e) (AlongItem left base (λ n. seen_item_code n x)) (λ n. seen_item_code n y) vm mid new d r)
@@ -148,13 +148,13 @@ module _ (a : App) (cells : CellList) (left : ℕ) (base : Path) where
       subst (λ xs. Onward a cells (AllOf a cells left z base es olds) vm (LeftOf a cells left z base [] es xs) vm) (sym (there_all olds)) (sync_begin_of a cells left z base es olds [] vm refl)
 
   -- what is known of a place
-  record Place (vs : List (PlainValue ℕ)) (olds : List ItemCode) (i : ℕ) (x : ItemCode) (k : Text) (vm mid : Vm) : Type 0 where
-    e : Entry
-    is : drop i (entries_now k vs) ≡ e ∷ drop (i + 1) (entries_now k vs)
-    key : entry_key e ≡ code_key x
-    given : Does (given_of x.spot e) vm mid
+  pub record Place (vs : List (PlainValue ℕ)) (olds : List ItemCode) (i : ℕ) (x : ItemCode) (k : Text) (vm mid : Vm) : Type 0 where
+    pub e : Entry
+    pub is : drop i (entries_now k vs) ≡ e ∷ drop (i + 1) (entries_now k vs)
+    pub key : entry_key e ≡ code_key x
+    pub given : Does (given_of x.spot e) vm mid
 
-  place : (vs : List (PlainValue ℕ)) (olds : List ItemCode) (i : ℕ) (x : ItemCode) (vm mid : Vm) → i < length olds → drop i olds ≡ x ∷ drop (i + 1) olds → GivesAt vs i x.spot vm mid → (k : Text) → entry_keys (entries_now k vs) ≡ map code_key olds
+  pub place : (vs : List (PlainValue ℕ)) (olds : List ItemCode) (i : ℕ) (x : ItemCode) (vm mid : Vm) → i < length olds → drop i olds ≡ x ∷ drop (i + 1) olds → GivesAt vs i x.spot vm mid → (k : Text) → entry_keys (entries_now k vs) ≡ map code_key olds
       → Place vs olds i x k vm mid
   place vs olds i x vm mid lt at gives k keys =
       let es = entries_now k vs in

@@ -22,6 +22,10 @@ use Rattle.gl_update.proofs.Renewing.{renews_same, renews_as, renews_then, renew
 abbrev pub seen_all : List Code → Tables → PlainCodes
 seen_all xs n = all_codes (map (seen_code n) xs)
 
+-- the statements of a body, by their list
+pub all_is : (all : Codes) (items : List Code) → items ≡ all.list.items → (n : Tables) → seen_all items n ≡ seen_codes n all
+all_is all items e n = ap (λ xs. seen_all xs n) e ∙ sym (body_is n all)
+
 module _ (a : App) (cells : CellList) (left : ℕ) (p : Path) where
   -- the update of one statement, of those from a place on, and of a body
   abbrev pub One : Path → Code → Renewal PlainCode
@@ -37,9 +41,6 @@ module _ (a : App) (cells : CellList) (left : ℕ) (p : Path) where
   pub record Walks (all : Codes) (vm0 : Vm) (items : List Code) (i : ℕ) (vm : Vm) : Type 0 where
     pub goes : (ys : List Code) (v : Vm) → Renews a cells (Rest i (drop i items)) vm (seen_all ys) v → Renews a cells (All all) vm0 (seen_all (take i items ++ ys)) v
     pub stops : (e : VmFault) → RenewFails a cells (Rest i (drop i items)) vm e → RenewFails a cells (All all) vm0 e
-
-  all_is : (all : Codes) (items : List Code) → items ≡ all.list.items → (n : Tables) → seen_all items n ≡ seen_codes n all
-  all_is all items e n = ap (λ xs. seen_all xs n) e ∙ sym (body_is n all)
 
   pub walks_begin : (all : Codes) (items : List Code) (vm : Vm) → items ≡ all.list.items → Walks all vm items 0 vm
   walks_begin all items vm e = record {

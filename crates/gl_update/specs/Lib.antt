@@ -1,5 +1,6 @@
 pub mod Asked
 pub mod Counted
+pub mod Questions
 pub mod ListItems
 pub mod OldItems
 pub mod View

@@ -2,13 +2,15 @@
 ghost use Rattle.std.specs.Prelude.{◌≡◌, ◌∷◌, ◌++◌, ◌<◌, ◌^◌, [], length, map, false, IfOk, OnOk, IfErr};
 ghost use Rattle.gl_value.specs.Value.{plain};
 ghost use Rattle.gl_value.specs.View.{view};
-ghost use Rattle.gl_meaning.specs.Path.{item};
+ghost use Rattle.gl_meaning.specs.Path as p;
+ghost use Rattle.gl_meaning.specs.Path.{item, items};
 ghost use Rattle.gl_machine.specs.Code as c;
 ghost use Rattle.gl_machine.specs.Code.{Code as PlainCode, ItemCodes};
 ghost use Rattle.gl_vm.specs.View.{Calm};
 ghost use Rattle.gl_code.specs.CodeView.{seen_code, seen_listing, seen_spot, seen_item_code, all_items};
 ghost use Rattle.gl_update.specs.View.{trail_view};
 ghost use Rattle.gl_update.specs.Counted.{CodeMoved, ItemsAlong, KeptMoved};
+ghost use Rattle.gl_update.specs.Questions.{Asks, AsksBody, AsksItems, AsksList};
 ghost use Rattle.gl_update.specs.ListItems.{Item, AlongItem, AlongItems, EntersList, GoesAlong, spot_key};
 ghost use Rattle.gl_code.specs.Renewing.{Renews, RenewFails};
 
@@ -56,10 +58,13 @@ pub(crate) fn walk_item<A: AppendBlock>(
     ensures ok { OnOk result (Renews app.now cells.now (AlongItem left (trail_view trail.old) (λ n. seen_item_code n item.old)) vm.old (λ n. seen_item_code n item.new) vm.new) }
     ensures fails { IfErr result (RenewFails {A = Item} app.now cells.now (AlongItem left (trail_view trail.old) (λ n. seen_item_code n item.old)) vm.old) }
     ensures moved { OnOk result (KeptMoved moved.old moved.new false (λ n. seen_item_code n item.old) (λ n. seen_item_code n item.new)) }
+    ensures asked { OnOk result (Asks app.now cells.now (λ n. AsksBody left (p.item (seen_item_code n item.old).0.key (seen_item_code n item.old).0.occurrence ∷ trail_view trail.old) (λ m. (seen_item_code m item.old).1.1) n) vm.old moved.old.asked moved.new.asked) }
     ensures key { OnOk result ((n : _) → spot_key (seen_item_code n item.new) ≡ spot_key (seen_item_code n item.old)) }
     ensures trail { OnOk result (trail.new ≡ trail.old) }
     ensures calm { Calm vm.new }
 {
+    moved.ask(1)?;
+    let mark = moved.mark(vm);
     if enters_body(vm, &item.body)? {
         enter_item(trail, &item.spot)?;
         match renew_codes::<A>(
@@ -75,6 +80,7 @@ pub(crate) fn walk_item<A: AppendBlock>(
         ) {
             Ok(()) => {
                 trail.pop(alloc);
+                moved.close(&mark, vm);
                 Ok(())
             }
             Err(fault) => Err(fault),
@@ -102,6 +108,7 @@ fn walk_items<A: AppendBlock>(
     ensures ok { OnOk result (Renews app.now cells.now (AlongItems left (trail_view trail.old) (λ n. map (seen_item_code n) items.old.items)) vm.old (λ n. all_items (map (seen_item_code n) items.new.items)) vm.new) }
     ensures fails { IfErr result (RenewFails {A = ItemCodes} app.now cells.now (AlongItems left (trail_view trail.old) (λ n. map (seen_item_code n) items.old.items)) vm.old) }
     ensures moved { OnOk result (ItemsAlong moved.old moved.new items.old.items items.new.items) }
+    ensures asked { OnOk result (Asks app.now cells.now (AsksItems left (trail_view trail.old) (λ n. map (seen_item_code n) items.old.items)) vm.old moved.old.asked moved.new.asked) }
     ensures trail { OnOk result (trail.new ≡ trail.old) }
     ensures calm { Calm vm.new }
 {
@@ -150,6 +157,7 @@ fn walk_entered<A: AppendBlock>(
     ensures ok { IfOk result (λ r. Renews app.now cells.now (EntersList (λ n. seen_listing n list.value.listing) (seen_spot list.value.spot) left (trail_view trail.old) (λ n. map (seen_item_code n) list.value.items.items)) vm.old (λ n. seen_code n r.value) vm.new) }
     ensures fails { IfErr result (RenewFails {A = PlainCode} app.now cells.now (EntersList (λ n. seen_listing n list.value.listing) (seen_spot list.value.spot) left (trail_view trail.old) (λ n. map (seen_item_code n) list.value.items.items)) vm.old) }
     ensures moved { IfOk result (λ r. CodeMoved moved.old moved.new (λ n. c.listed_code (seen_listing n list.value.listing) (seen_spot list.value.spot) (all_items (map (seen_item_code n) list.value.items.items))) (λ n. seen_code n r.value)) }
+    ensures asked { OnOk result (Asks app.now cells.now (AsksItems left (items ∷ trail_view trail.old) (λ n. map (seen_item_code n) list.value.items.items)) vm.old moved.old.asked moved.new.asked) }
     ensures trail { OnOk result (trail.new ≡ trail.old) }
     ensures calm { Calm vm.new }
 {
@@ -192,13 +200,21 @@ pub(crate) fn walk_list<A: AppendBlock>(
     ensures ok { IfOk result (λ r. Renews app.now cells.now (GoesAlong (λ n. seen_listing n list.value.listing) (seen_spot list.value.spot) left (trail_view trail.old) (λ n. map (seen_item_code n) list.value.items.items)) vm.old (λ n. seen_code n r.value) vm.new) }
     ensures fails { IfErr result (RenewFails {A = PlainCode} app.now cells.now (GoesAlong (λ n. seen_listing n list.value.listing) (seen_spot list.value.spot) left (trail_view trail.old) (λ n. map (seen_item_code n) list.value.items.items)) vm.old) }
     ensures moved { IfOk result (λ r. CodeMoved moved.old moved.new (λ n. c.listed_code (seen_listing n list.value.listing) (seen_spot list.value.spot) (all_items (map (seen_item_code n) list.value.items.items))) (λ n. seen_code n r.value)) }
+    ensures asked { OnOk result (Asks app.now cells.now (AsksList left (items ∷ trail_view trail.old) (λ n. map (seen_item_code n) list.value.items.items)) vm.old moved.old.asked moved.new.asked) }
     ensures trail { OnOk result (trail.new ≡ trail.old) }
     ensures calm { Calm vm.new }
 {
-    let asked = ask_items(vm, list)?;
+    let asked = ask_items(vm, list, moved)?;
+    let mark = moved.mark(vm);
     let enters = asked.1;
     if enters {
-        walk_entered::<A>(vm, alloc, app, cells, trail, left, asked.0, parent, moved)
+        match walk_entered::<A>(vm, alloc, app, cells, trail, left, asked.0, parent, moved) {
+            Ok(code) => {
+                moved.close(&mark, vm);
+                Ok(code)
+            }
+            Err(fault) => Err(fault),
+        }
     } else {
         Ok(with_items(alloc, asked.0)?)
     }

@@ -10,6 +10,7 @@ ghost use Rattle.gl_guards.specs.Along.{along_code_as};
 ghost use Rattle.gl_vm.specs.View.{Calm};
 ghost use Rattle.gl_code.specs.CodeView.{seen_choice, seen_codes, seen_spot};
 ghost use Rattle.gl_update.specs.Counted.{CodeMoved};
+ghost use Rattle.gl_update.specs.Questions.{Asks, AsksCode};
 ghost use Rattle.gl_update.specs.View.{trail_view};
 ghost use Rattle.gl_code.specs.Renewing.{Renews, RenewFails};
 
@@ -47,9 +48,11 @@ pub(crate) fn renew_branch<A: AppendBlock>(
     ensures ok { OnOk result (Renews app.now cells.now (λ n run. along_code_as by_number run left (trail_view trail.old) (c.branch_code (seen_choice n choice.now) (seen_spot spot.now) main.old (stamp_of comment.old) (seen_codes n body.old))) vm.old (λ n. c.branch_code (seen_choice n choice.now) (seen_spot spot.now) main.new (stamp_of comment.new) (seen_codes n body.new)) vm.new) }
     ensures fails { IfErr result (RenewFails {A = PlainCode} app.now cells.now (λ n run. along_code_as by_number run left (trail_view trail.old) (c.branch_code (seen_choice n choice.now) (seen_spot spot.now) main.old (stamp_of comment.old) (seen_codes n body.old))) vm.old) }
     ensures moved { OnOk result (CodeMoved moved.old moved.new (λ n. c.branch_code (seen_choice n choice.now) (seen_spot spot.now) main.old (stamp_of comment.old) (seen_codes n body.old)) (λ n. c.branch_code (seen_choice n choice.now) (seen_spot spot.now) main.new (stamp_of comment.new) (seen_codes n body.new))) }
+    ensures asked { OnOk result (Asks app.now cells.now (AsksCode left (trail_view trail.old) (λ n. c.branch_code (seen_choice n choice.now) (seen_spot spot.now) main.old (stamp_of comment.old) (seen_codes n body.old))) vm.old moved.old.asked moved.new.asked) }
     ensures trail { OnOk result (trail.new ≡ trail.old) }
     ensures calm { Calm vm.new }
 {
+    moved.ask(1)?;
     let shows = condition(vm, choice.unless, spot.id)?;
     if shows == *main {
         renew_side::<A>(

@@ -9,6 +9,7 @@ ghost use Rattle.gl_guards.specs.Along.{along_code_as, along_codes_as, along_bod
 ghost use Rattle.gl_vm.specs.View.{Calm};
 ghost use Rattle.gl_code.specs.CodeView.{seen_attr_spot, seen_code, seen_codes, seen_mod_spot};
 ghost use Rattle.gl_update.specs.Counted.{CodeMoved, CodesMoved};
+ghost use Rattle.gl_update.specs.Questions.{Asks, AsksBody, AsksCode, AsksIn};
 ghost use Rattle.gl_update.specs.View.{trail_view};
 ghost use Rattle.gl_code.specs.Renewing.{Renews, RenewFails};
 
@@ -45,6 +46,7 @@ pub(crate) fn renew_codes<A: AppendBlock>(
     ensures ok { OnOk result (Renews app.now cells.now (λ n run. along_codes_as by_number run left (trail_view trail.old) 0 (seen_codes n codes.old)) vm.old (λ n. seen_codes n codes.new) vm.new) }
     ensures fails { IfErr result (RenewFails {A = PlainCodes} app.now cells.now (λ n run. along_codes_as by_number run left (trail_view trail.old) 0 (seen_codes n codes.old)) vm.old) }
     ensures moved { OnOk result (CodesMoved moved.old moved.new (λ n. seen_codes n codes.old) (λ n. seen_codes n codes.new)) }
+    ensures asked { OnOk result (Asks app.now cells.now (AsksIn left (trail_view trail.old) (λ n. seen_codes n codes.old)) vm.old moved.old.asked moved.new.asked) }
     ensures trail { OnOk result (trail.new ≡ trail.old) }
     ensures calm { Calm vm.new }
 {
@@ -77,11 +79,20 @@ pub(crate) fn renew_body<A: AppendBlock>(
     ensures ok { OnOk result (Renews app.now cells.now (λ n run. along_body_as by_number run left (trail_view trail.old) (seen_codes n codes.old)) vm.old (λ n. seen_codes n codes.new) vm.new) }
     ensures fails { IfErr result (RenewFails {A = PlainCodes} app.now cells.now (λ n run. along_body_as by_number run left (trail_view trail.old) (seen_codes n codes.old)) vm.old) }
     ensures moved { OnOk result (CodesMoved moved.old moved.new (λ n. seen_codes n codes.old) (λ n. seen_codes n codes.new)) }
+    ensures asked { OnOk result (Asks app.now cells.now (AsksBody left (trail_view trail.old) (λ n. seen_codes n codes.old)) vm.old moved.old.asked moved.new.asked) }
     ensures trail { OnOk result (trail.new ≡ trail.old) }
     ensures calm { Calm vm.new }
 {
+    moved.ask(1)?;
+    let mark = moved.mark(vm);
     if enters_body(vm, codes)? {
-        renew_codes::<A>(vm, alloc, app, cells, trail, left, codes, parent, moved)
+        match renew_codes::<A>(vm, alloc, app, cells, trail, left, codes, parent, moved) {
+            Ok(()) => {
+                moved.close(&mark, vm);
+                Ok(())
+            }
+            Err(fault) => Err(fault),
+        }
     } else {
         Ok(())
     }
@@ -105,12 +116,14 @@ pub(crate) fn renew_code<A: AppendBlock>(
     ensures ok { OnOk result (Renews app.now cells.now (λ n run. along_code_as by_number run left (trail_view trail.old) (seen_code n code.old)) vm.old (λ n. seen_code n code.new) vm.new) }
     ensures fails { IfErr result (RenewFails {A = PlainCode} app.now cells.now (λ n run. along_code_as by_number run left (trail_view trail.old) (seen_code n code.old)) vm.old) }
     ensures moved { OnOk result (CodeMoved moved.old moved.new (λ n. seen_code n code.old) (λ n. seen_code n code.new)) }
+    ensures asked { OnOk result (Asks app.now cells.now (AsksCode left (trail_view trail.old) (λ n. seen_code n code.old)) vm.old moved.old.asked moved.new.asked) }
     ensures trail { OnOk result (trail.new ≡ trail.old) }
     ensures calm { Calm vm.new }
 {
     match code {
         Code::Still { .. } => Ok(()),
         Code::Put { node, spot } => {
+            moved.ask(1)?;
             renew_text(vm, alloc, *node, spot.id)?;
             Ok(())
         }
@@ -181,9 +194,12 @@ fn renew_element<A: AppendBlock>(
     ensures ok { OnOk result ((made : _) → Renews app.now cells.now (λ n run. along_code_as by_number run left (trail_view trail.old) (c.element_code node.1 made (map seen_attr_spot attrs.now.items) (map seen_mod_spot mods.now.items) (seen_codes n body.old))) vm.old (λ n. c.element_code node.1 made (map seen_attr_spot attrs.now.items) (map seen_mod_spot mods.now.items) (seen_codes n body.new)) vm.new) }
     ensures fails { (made : _) → IfErr result (RenewFails {A = PlainCode} app.now cells.now (λ n run. along_code_as by_number run left (trail_view trail.old) (c.element_code node.1 made (map seen_attr_spot attrs.now.items) (map seen_mod_spot mods.now.items) (seen_codes n body.old))) vm.old) }
     ensures moved { OnOk result (CodesMoved moved.old moved.new (λ n. seen_codes n body.old) (λ n. seen_codes n body.new)) }
+    ensures asked { OnOk result ((made : _) → Asks app.now cells.now (AsksCode left (trail_view trail.old) (λ n. c.element_code node.1 made (map seen_attr_spot attrs.now.items) (map seen_mod_spot mods.now.items) (seen_codes n body.old))) vm.old moved.old.asked moved.new.asked) }
     ensures trail { OnOk result (trail.new ≡ trail.old) }
     ensures calm { Calm vm.new }
 {
+    moved.ask(attrs.len())?;
+    moved.ask(mods.len())?;
     renew_attrs(vm, alloc, node, attrs.as_slice())?;
     match renew_codes::<A>(vm, alloc, app, cells, trail, left, body, &Some(node), moved) {
         Ok(()) => {
@@ -213,6 +229,7 @@ pub(crate) fn renew_below<A: AppendBlock>(
     ensures ok { OnOk result (Renews app.now cells.now (λ n run. along_codes_as by_number run left (path_step_view step ∷ trail_view trail.old) 0 (seen_codes n body.old)) vm.old (λ n. seen_codes n body.new) vm.new) }
     ensures fails { IfErr result (RenewFails {A = PlainCodes} app.now cells.now (λ n run. along_codes_as by_number run left (path_step_view step ∷ trail_view trail.old) 0 (seen_codes n body.old)) vm.old) }
     ensures moved { OnOk result (CodesMoved moved.old moved.new (λ n. seen_codes n body.old) (λ n. seen_codes n body.new)) }
+    ensures asked { OnOk result (Asks app.now cells.now (AsksIn left (path_step_view step ∷ trail_view trail.old) (λ n. seen_codes n body.old)) vm.old moved.old.asked moved.new.asked) }
     ensures trail { OnOk result (trail.new ≡ trail.old) }
     ensures calm { Calm vm.new }
 {
@@ -245,13 +262,22 @@ pub(crate) fn renew_side<A: AppendBlock>(
     ensures ok { OnOk result (Renews app.now cells.now (λ n run. along_body_as by_number run left (path_step_view step ∷ trail_view trail.old) (seen_codes n body.old)) vm.old (λ n. seen_codes n body.new) vm.new) }
     ensures fails { IfErr result (RenewFails {A = PlainCodes} app.now cells.now (λ n run. along_body_as by_number run left (path_step_view step ∷ trail_view trail.old) (seen_codes n body.old)) vm.old) }
     ensures moved { OnOk result (CodesMoved moved.old moved.new (λ n. seen_codes n body.old) (λ n. seen_codes n body.new)) }
+    ensures asked { OnOk result (Asks app.now cells.now (AsksBody left (path_step_view step ∷ trail_view trail.old) (λ n. seen_codes n body.old)) vm.old moved.old.asked moved.new.asked) }
     ensures trail { OnOk result (trail.new ≡ trail.old) }
     ensures calm { Calm vm.new }
 {
+    moved.ask(1)?;
+    let mark = moved.mark(vm);
     if enters_body(vm, body)? {
-        renew_below::<A>(
+        match renew_below::<A>(
             vm, alloc, app, cells, trail, step, left, body, parent, moved,
-        )
+        ) {
+            Ok(()) => {
+                moved.close(&mark, vm);
+                Ok(())
+            }
+            Err(fault) => Err(fault),
+        }
     } else {
         Ok(())
     }
@@ -275,6 +301,7 @@ fn renew_let<A: AppendBlock>(
     ensures ok { OnOk result (Renews app.now cells.now (λ n run. along_codes_as by_number run left (main ∷ trail_view trail.old) 0 (seen_codes n body.old)) vm.old (λ n. seen_codes n body.new) vm.new) }
     ensures fails { IfErr result (RenewFails {A = PlainCodes} app.now cells.now (λ n run. along_codes_as by_number run left (main ∷ trail_view trail.old) 0 (seen_codes n body.old)) vm.old) }
     ensures moved { OnOk result (CodesMoved moved.old moved.new (λ n. seen_codes n body.old) (λ n. seen_codes n body.new)) }
+    ensures asked { OnOk result (Asks app.now cells.now (AsksIn left (main ∷ trail_view trail.old) (λ n. seen_codes n body.old)) vm.old moved.old.asked moved.new.asked) }
     ensures trail { OnOk result (trail.new ≡ trail.old) }
     ensures calm { Calm vm.new }
 {
@@ -302,6 +329,7 @@ pub(crate) fn renew_else<A: AppendBlock>(
     ensures ok { OnOk result (Renews app.now cells.now (λ n run. along_body_as by_number run left (otherwise ∷ trail_view trail.old) (seen_codes n body.old)) vm.old (λ n. seen_codes n body.new) vm.new) }
     ensures fails { IfErr result (RenewFails {A = PlainCodes} app.now cells.now (λ n run. along_body_as by_number run left (otherwise ∷ trail_view trail.old) (seen_codes n body.old)) vm.old) }
     ensures moved { OnOk result (CodesMoved moved.old moved.new (λ n. seen_codes n body.old) (λ n. seen_codes n body.new)) }
+    ensures asked { OnOk result (Asks app.now cells.now (AsksBody left (otherwise ∷ trail_view trail.old) (λ n. seen_codes n body.old)) vm.old moved.old.asked moved.new.asked) }
     ensures trail { OnOk result (trail.new ≡ trail.old) }
     ensures calm { Calm vm.new }
 {
@@ -330,6 +358,7 @@ fn renew_yield<A: AppendBlock>(
     ensures ok { OnOk result (Renews app.now cells.now (λ n run. along_codes_as by_number run left (slot name.now ∷ trail_view trail.old) 0 (seen_codes n body.old)) vm.old (λ n. seen_codes n body.new) vm.new) }
     ensures fails { IfErr result (RenewFails {A = PlainCodes} app.now cells.now (λ n run. along_codes_as by_number run left (slot name.now ∷ trail_view trail.old) 0 (seen_codes n body.old)) vm.old) }
     ensures moved { OnOk result (CodesMoved moved.old moved.new (λ n. seen_codes n body.old) (λ n. seen_codes n body.new)) }
+    ensures asked { OnOk result (Asks app.now cells.now (AsksIn left (slot name.now ∷ trail_view trail.old) (λ n. seen_codes n body.old)) vm.old moved.old.asked moved.new.asked) }
     ensures trail { OnOk result (trail.new ≡ trail.old) }
     ensures calm { Calm vm.new }
 {
@@ -357,6 +386,7 @@ fn renew_component<A: AppendBlock>(
     ensures ok { OnOk result ((i : _) (made gm : _) (args : _) (k : _) (p : _) → i.path ≡ path_view path.now → Renews app.now cells.now (λ n run. along_code_as by_number run left p (c.component_code i made gm args k (seen_codes n body.old))) vm.old (λ n. c.component_code i made gm args k (seen_codes n body.new)) vm.new) }
     ensures fails { (i : _) (made gm : _) (args : _) (k : _) (p : _) → i.path ≡ path_view path.now → IfErr result (RenewFails {A = PlainCode} app.now cells.now (λ n run. along_code_as by_number run left p (c.component_code i made gm args k (seen_codes n body.old))) vm.old) }
     ensures moved { OnOk result (CodesMoved moved.old moved.new (λ n. seen_codes n body.old) (λ n. seen_codes n body.new)) }
+    ensures asked { OnOk result ((i : _) (made gm : _) (args : _) (k : _) (p : _) → i.path ≡ path_view path.now → Asks app.now cells.now (AsksCode left p (λ n. c.component_code i made gm args k (seen_codes n body.old))) vm.old moved.old.asked moved.new.asked) }
     ensures calm { Calm vm.new }
 {
     if left == 0 {

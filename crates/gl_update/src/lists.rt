@@ -10,6 +10,7 @@ ghost use Rattle.gl_vm.specs.View.{Calm};
 ghost use Rattle.gl_code.specs.CodeView.{seen_code, seen_codes, seen_listing, seen_spot, seen_item_code, all_items};
 ghost use Rattle.gl_code.specs.Entries.{seen_left};
 ghost use Rattle.gl_update.specs.Counted.{CodeMoved, IsListed, IsUnlisted};
+ghost use Rattle.gl_update.specs.Questions.{Asks, AsksCode, AsksListed, AsksRelist, AsksUnlisted};
 ghost use Rattle.gl_update.specs.View.{trail_view};
 ghost use Rattle.gl_update.specs.ListItems.{ListsFresh, ListsNone, Relists};
 ghost use Rattle.gl_code.specs.Renewing.{Renews, RenewFails};
@@ -54,9 +55,11 @@ pub(crate) fn renew_list<A: AppendBlock>(
     ensures ok { OnOk result (Renews app.now cells.now (λ n run. along_code_as by_number run left (trail_view trail.old) (seen_code n code.old)) vm.old (λ n. seen_code n code.new) vm.new) }
     ensures fails { IfErr result (RenewFails {A = PlainCode} app.now cells.now (λ n run. along_code_as by_number run left (trail_view trail.old) (seen_code n code.old)) vm.old) }
     ensures moved { OnOk result (CodeMoved moved.old moved.new (λ n. seen_code n code.old) (λ n. seen_code n code.new)) }
+    ensures asked { OnOk result (Asks app.now cells.now (AsksCode left (trail_view trail.old) (λ n. seen_code n code.old)) vm.old moved.old.asked moved.new.asked) }
     ensures trail { OnOk result (trail.new ≡ trail.old) }
     ensures calm { Calm vm.new }
 {
+    moved.ask(1)?;
     match take_list(alloc, code)? {
         Taken::Items(list) => match renew_listed::<A>(
             vm, alloc, app, cells, trail, left, list, parent, moved,
@@ -99,6 +102,7 @@ fn renew_listed<A: AppendBlock>(
     ensures ok { IfOk result (λ r. Renews app.now cells.now (λ n run. along_code_as by_number run left (trail_view trail.old) (c.listed_code (seen_listing n list.value.listing) (seen_spot list.value.spot) (all_items (map (seen_item_code n) list.value.items.items)))) vm.old (λ n. seen_code n r.value) vm.new) }
     ensures fails { IfErr result (RenewFails {A = PlainCode} app.now cells.now (λ n run. along_code_as by_number run left (trail_view trail.old) (c.listed_code (seen_listing n list.value.listing) (seen_spot list.value.spot) (all_items (map (seen_item_code n) list.value.items.items)))) vm.old) }
     ensures moved { IfOk result (λ r. CodeMoved moved.old moved.new (λ n. c.listed_code (seen_listing n list.value.listing) (seen_spot list.value.spot) (all_items (map (seen_item_code n) list.value.items.items))) (λ n. seen_code n r.value)) }
+    ensures asked { OnOk result (Asks app.now cells.now (AsksListed (λ n. seen_listing n list.value.listing) (seen_spot list.value.spot) left (trail_view trail.old) (λ n. map (seen_item_code n) list.value.items.items)) vm.old moved.old.asked moved.new.asked) }
     ensures trail { OnOk result (trail.new ≡ trail.old) }
     ensures calm { Calm vm.new }
 {
@@ -130,6 +134,7 @@ fn relist<A: AppendBlock>(
     ensures ok { IfOk result (λ r. Renews app.now cells.now (Relists (λ n. seen_listing n list.value.listing) (seen_spot list.value.spot) left (trail_view trail.old) (λ n. map (seen_item_code n) list.value.items.items)) vm.old (λ n. seen_code n r.value) vm.new) }
     ensures fails { IfErr result (RenewFails {A = PlainCode} app.now cells.now (Relists (λ n. seen_listing n list.value.listing) (seen_spot list.value.spot) left (trail_view trail.old) (λ n. map (seen_item_code n) list.value.items.items)) vm.old) }
     ensures moved { IfOk result (λ r. CodeMoved moved.old moved.new (λ n. c.listed_code (seen_listing n list.value.listing) (seen_spot list.value.spot) (all_items (map (seen_item_code n) list.value.items.items))) (λ n. seen_code n r.value)) }
+    ensures asked { OnOk result (Asks app.now cells.now (AsksRelist (λ n. seen_listing n list.value.listing) (seen_spot list.value.spot) left (trail_view trail.old) (λ n. map (seen_item_code n) list.value.items.items)) vm.old moved.old.asked moved.new.asked) }
     ensures trail { OnOk result (trail.new ≡ trail.old) }
     ensures calm { Calm vm.new }
 {
@@ -239,6 +244,7 @@ fn renew_unlisted<A: AppendBlock>(
     ensures ok { IfOk result (λ r. Renews app.now cells.now (λ n run. along_code_as by_number run left (trail_view trail.old) (c.unlisted_code (seen_listing n list.value.listing) (seen_spot list.value.spot) (stamp_of list.value.comment) (seen_codes n list.value.body))) vm.old (λ n. seen_code n r.value) vm.new) }
     ensures fails { IfErr result (RenewFails {A = PlainCode} app.now cells.now (λ n run. along_code_as by_number run left (trail_view trail.old) (c.unlisted_code (seen_listing n list.value.listing) (seen_spot list.value.spot) (stamp_of list.value.comment) (seen_codes n list.value.body))) vm.old) }
     ensures moved { IfOk result (λ r. CodeMoved moved.old moved.new (λ n. c.unlisted_code (seen_listing n list.value.listing) (seen_spot list.value.spot) (stamp_of list.value.comment) (seen_codes n list.value.body)) (λ n. seen_code n r.value)) }
+    ensures asked { OnOk result (Asks app.now cells.now (AsksUnlisted (seen_spot list.value.spot) left (trail_view trail.old) (λ n. seen_codes n list.value.body)) vm.old moved.old.asked moved.new.asked) }
     ensures trail { OnOk result (trail.new ≡ trail.old) }
     ensures calm { Calm vm.new }
 {

@@ -1,9 +1,10 @@
 // The update of a page.
-ghost use Rattle.std.specs.Prelude.{◌≡◌, ◌+◌, IfOk, IsOk, OnOk, IfErr, IsTrue};
+ghost use Rattle.std.specs.Prelude.{◌≡◌, ◌+◌, ◌<◌, ◌^◌, IfOk, IsOk, OnOk, IfErr, IsTrue};
 ghost use Rattle.gl_plain.specs.Naming.{by_number};
 ghost use Rattle.gl_machine.specs.Code.{Code as PlainCode, Codes as PlainCodes, live_of};
 ghost use Rattle.gl_machine.specs.Shape.{nest};
 ghost use Rattle.gl_guards.specs.Along.{along_root_code_as, along_page_as};
+ghost use Rattle.gl_guards.specs.AlongAsks.{along_asks_page, along_asks_root};
 ghost use Rattle.gl_guards.specs.Once.{KeysOnce};
 ghost use Rattle.gl_kept.specs.Between.{moved_between};
 ghost use Rattle.gl_vm.specs.View.{Calm};
@@ -11,6 +12,7 @@ ghost use Rattle.gl_code.specs.CodeView.{seen_code, seen_codes};
 ghost use Rattle.gl_code.specs.Hung.{nest_of};
 ghost use Rattle.gl_code.specs.Renewing.{Renews, RenewFails};
 ghost use Rattle.gl_update.specs.Counted.{CodesMoved};
+ghost use Rattle.gl_update.specs.Questions.{Asks};
 ghost use Rattle.gl_update.specs.Idle.{IsFresh, IsIdle, AsksAlone, StaysAs};
 ghost use Rattle.gl_update.specs.View.{trail_view};
 
@@ -42,6 +44,7 @@ pub fn update<A: AppendBlock>(
     ensures fails { IfErr result (RenewFails {A = PlainCode} app.now cells.now (λ n run. along_root_code_as by_number app.now.manifest.limit run (seen_code n page.old.code)) page.old.vm) }
     ensures nodes { OnOk result ((n : _) → nest_of page.new.vm.tree.forest ≡ nest (live_of (seen_code n page.new.code))) }
     ensures moved { IfOk result (λ m. (n : _) → KeysOnce (live_of (seen_code n page.old.code)) → m.items ≡ moved_between (live_of (seen_code n page.old.code)) (live_of (seen_code n page.new.code))) }
+    ensures asked { IfOk result (λ m. Asks app.now cells.now (λ n run. along_asks_root by_number app.now.manifest.limit run (seen_code n page.old.code)) page.old.vm 0 m.asked) }
     ensures moves { IfOk result (λ m. page.new.vm.tree.moves ≡ page.old.vm.tree.moves + m.items) }
     ensures idle { IsIdle app.now.manifest.limit page.old → IsOk result × StaysAs page.old page.new }
     ensures calm { Calm page.new.vm }
@@ -76,6 +79,7 @@ fn renew_page<A: AppendBlock>(
     ensures ok { OnOk result (Renews app.now cells.now (λ n run. along_root_code_as by_number app.now.manifest.limit run (seen_code n page.old.code)) page.old.vm (λ n. seen_code n page.new.code) page.new.vm) }
     ensures fails { IfErr result (RenewFails {A = PlainCode} app.now cells.now (λ n run. along_root_code_as by_number app.now.manifest.limit run (seen_code n page.old.code)) page.old.vm) }
     ensures moved { IfOk result (λ m. (n : _) → KeysOnce (live_of (seen_code n page.old.code)) → m.items ≡ moved_between (live_of (seen_code n page.old.code)) (live_of (seen_code n page.new.code))) }
+    ensures asked { IfOk result (λ m. Asks app.now cells.now (λ n run. along_asks_root by_number app.now.manifest.limit run (seen_code n page.old.code)) page.old.vm 0 m.asked) }
     ensures idle { IsIdle app.now.manifest.limit page.old → (IsOk result × IfOk result (λ m. m.items ≡ 0)) × StaysAs page.old page.new }
     ensures calm { Calm page.new.vm }
 {
@@ -121,11 +125,20 @@ fn renew_top<A: AppendBlock>(
     ensures ok { OnOk result (Renews app.now cells.now (λ n run. along_page_as by_number run left (trail_view trail.old) (seen_codes n body.old)) vm.old (λ n. seen_codes n body.new) vm.new) }
     ensures fails { IfErr result (RenewFails {A = PlainCodes} app.now cells.now (λ n run. along_page_as by_number run left (trail_view trail.old) (seen_codes n body.old)) vm.old) }
     ensures moved { OnOk result (CodesMoved moved.old moved.new (λ n. seen_codes n body.old) (λ n. seen_codes n body.new)) }
-    ensures idle { IsFresh vm.old body.old → (IsOk result × (moved.new ≡ moved.old)) × ((body.new ≡ body.old) × AsksAlone vm.old vm.new) }
+    ensures asked { OnOk result (Asks app.now cells.now (λ n run. along_asks_page by_number run left (trail_view trail.old) (seen_codes n body.old)) vm.old moved.old.asked moved.new.asked) }
+    ensures idle { moved.old.asked + 1 < 2 ^ 128 → IsFresh vm.old body.old → (IsOk result × (moved.new.items ≡ moved.old.items)) × ((body.new ≡ body.old) × AsksAlone vm.old vm.new) }
     ensures calm { Calm vm.new }
 {
+    moved.ask(1)?;
+    let mark = moved.mark(vm);
     if enters_page(vm, body)? {
-        renew_codes::<A>(vm, alloc, app, cells, trail, left, body, &None, moved)
+        match renew_codes::<A>(vm, alloc, app, cells, trail, left, body, &None, moved) {
+            Ok(()) => {
+                moved.close(&mark, vm);
+                Ok(())
+            }
+            Err(fault) => Err(fault),
+        }
     } else {
         Ok(())
     }

@@ -144,6 +144,7 @@ pub(crate) fn settle_item(
 ) -> Result<(), AllocError>
     ensures step { OnOk result (Does (λ n st. st) vm.old vm.new) }
     ensures moved { OnOk result (moved.new.items ≡ moved.old.items + one_if moves) }
+    ensures asked { moved.new.asked ≡ moved.old.asked }
     ensures calm { Calm vm.old → Calm vm.new }
 {
     if moves {

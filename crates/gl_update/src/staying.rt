@@ -1,6 +1,6 @@
 // The items of a list that is read again and whose keys are what they were: each stays in its place, and is given its value and
 // its index of now.
-ghost use Rattle.std.specs.Prelude.{◌≡◌, ◌∷◌, ◌++◌, ◌<◌, ◌^◌, [], Some, length, map, slice_get, IfOk, OnOk, IfErr};
+ghost use Rattle.std.specs.Prelude.{◌≡◌, ◌∷◌, ◌++◌, ◌+◌, ◌<◌, ◌^◌, [], Some, length, map, slice_get, IfOk, OnOk, IfErr};
 ghost use Rattle.gl_value.specs.Value.{count_value};
 ghost use Rattle.gl_meaning.specs.Path as p;
 ghost use Rattle.gl_each.specs.Key.{entry_keys};
@@ -16,6 +16,7 @@ ghost use Rattle.gl_code.specs.CodeView.{seen_code, seen_listing, seen_spot, see
 ghost use Rattle.gl_code.specs.declared.code.Listing.{Listing as ListingCode};
 ghost use Rattle.gl_update.specs.View.{trail_view};
 ghost use Rattle.gl_update.specs.Counted.{CodeMoved, ItemsAlong};
+ghost use Rattle.gl_update.specs.Questions.{Asks, AsksStaying, AsksSync};
 ghost use Rattle.gl_update.specs.ListItems.{SyncItems, Syncs};
 ghost use Rattle.gl_update.specs.OldItems.{code_key};
 ghost use Rattle.gl_update.specs.Read.{entries_now};
@@ -80,6 +81,7 @@ fn stay_items<A: AppendBlock>(
     ensures ok { OnOk result ((k : _) → entry_keys (entries_now k values.now) ≡ map code_key items.old.items → (z : ListingCode) → Renews app.now cells.now (SyncItems (λ n. seen_listing n z) left (trail_view trail.old) (entries_now k values.now) (λ n. map (seen_item_code n) items.old.items)) vm.old (λ n. all_items (map (seen_item_code n) items.new.items)) vm.new) }
     ensures fails { (k : _) → entry_keys (entries_now k values.now) ≡ map code_key items.old.items → (z : ListingCode) → IfErr result (RenewFails {A = ItemCodes} app.now cells.now (SyncItems (λ n. seen_listing n z) left (trail_view trail.old) (entries_now k values.now) (λ n. map (seen_item_code n) items.old.items)) vm.old) }
     ensures moved { OnOk result (ItemsAlong moved.old moved.new items.old.items items.new.items) }
+    ensures asked { OnOk result ((k : _) → entry_keys (entries_now k values.now) ≡ map code_key items.old.items → (z : ListingCode) → Asks app.now cells.now (AsksStaying (λ n. seen_listing n z) left (trail_view trail.old) (entries_now k values.now) (λ n. map (seen_item_code n) items.old.items)) vm.old moved.old.asked moved.new.asked) }
     ensures trail { OnOk result (trail.new ≡ trail.old) }
     ensures calm { Calm vm.new }
 {
@@ -95,12 +97,14 @@ fn stay_items<A: AppendBlock>(
     Ok(())
 }
 
-// The trail goes to the items of a list. The list and its values are handed through, so that they are dropped here where it can't.
+// The trail goes to the items of a list, which counts as a question. The list and its values are handed through, so that they are
+// dropped here where it can't.
 #[inline(never)]
 fn begin_stay(
     trail: &mut Trail<'_>,
     list: Box<Listed>,
     values: List,
+    moved: &mut Moved,
 ) -> Result<(Box<Listed>, List), AllocError>
     ensures list { IfOk result (λ x. x.0 ≡ list) }
     ensures values { IfOk result (λ x. x.1 ≡ values) }
@@ -108,7 +112,10 @@ fn begin_stay(
     ensures steps { OnOk result (trail.new.path.steps ≡ trail.old.path.steps ++ p.items ∷ []) }
     ensures view { OnOk result (trail_view trail.new ≡ p.items ∷ trail_view trail.old) }
     ensures room { OnOk result (length trail.old.path.steps < 2 ^ 64) }
+    ensures moved { moved.new.items ≡ moved.old.items }
+    ensures asked { OnOk result (moved.new.asked ≡ moved.old.asked + 1) }
 {
+    moved.ask(1)?;
     trail.push(PathStep::Items)?;
     Ok((list, values))
 }
@@ -152,10 +159,13 @@ pub(crate) fn stay_list<A: AppendBlock>(
     ensures ok { IfOk result (λ r. Renews app.now cells.now (Syncs (λ n. seen_listing n list.value.listing) (seen_spot list.value.spot) left (trail_view trail.old) (entries_now list.value.listing.key values) (λ n. map (seen_item_code n) list.value.items.items)) vm.old (λ n. seen_code n r.value) vm.new) }
     ensures fails { IfErr result (RenewFails {A = PlainCode} app.now cells.now (Syncs (λ n. seen_listing n list.value.listing) (seen_spot list.value.spot) left (trail_view trail.old) (entries_now list.value.listing.key values) (λ n. map (seen_item_code n) list.value.items.items)) vm.old) }
     ensures moved { IfOk result (λ r. CodeMoved moved.old moved.new (λ n. c.listed_code (seen_listing n list.value.listing) (seen_spot list.value.spot) (all_items (map (seen_item_code n) list.value.items.items))) (λ n. seen_code n r.value)) }
+    ensures asked { OnOk result (Asks app.now cells.now (AsksSync (λ n. seen_listing n list.value.listing) left (p.items ∷ trail_view trail.old) (entries_now list.value.listing.key values) (λ n. map (seen_item_code n) list.value.items.items)) vm.old moved.old.asked moved.new.asked) }
     ensures trail { OnOk result (trail.new ≡ trail.old) }
     ensures calm { Calm vm.new }
 {
-    let mut begun = begin_stay(trail, list, values)?;
+    let mut begun = begin_stay(trail, list, values, moved)?;
+    let mark = moved.mark(vm);
+    let stayed = begun.0.items.len();
     match stay_items::<A>(
         vm,
         alloc,
@@ -170,6 +180,7 @@ pub(crate) fn stay_list<A: AppendBlock>(
     ) {
         Ok(()) => {
             trail.pop(alloc);
+            moved.settle(&mark, stayed);
             Ok(end_stay(alloc, begun.0, begun.1)?)
         }
         Err(fault) => Err(lost_stay(begun.0, begun.1, fault)),

@@ -1,9 +1,9 @@
 // The items of a list become those of other entries: an old item with the key of an entry is kept, where there is none one
 // is appended, and what is left of the old ones is ended.
-ghost use Rattle.std.specs.Prelude.{◌≡◌, ◌∷◌, ◌++◌, ◌+◌, ◌<◌, ◌^◌, [], length, map, reverse, IfOk, OnOk, IfErr};
+ghost use Rattle.std.specs.Prelude.{◌≡◌, ◌∷◌, ◌++◌, ◌+◌, ◌<◌, ◌^◌, [], is_some, length, map, reverse, IfOk, OnOk, IfErr};
 ghost use Rattle.gl_value.specs.Value.{count_value, plain};
 ghost use Rattle.gl_value.specs.View.{view};
-ghost use Rattle.gl_meaning.specs.Path.{item};
+ghost use Rattle.gl_meaning.specs.Path.{item, items};
 ghost use Rattle.gl_meaning.specs.View.{path_view};
 ghost use Rattle.gl_each.specs.Key.{entry_key, entry_keys};
 ghost use Rattle.gl_each.specs.Moved.{moves as count_moves};
@@ -20,6 +20,8 @@ ghost use Rattle.gl_code.specs.CodeView.{seen_code, seen_listing, seen_spot, see
 ghost use Rattle.gl_code.specs.Entries.{seen_entry, seen_left};
 ghost use Rattle.gl_update.specs.View.{trail_view};
 ghost use Rattle.gl_update.specs.ListItems.{Item, spot_key, there, FreshItem, KeptItem, SyncItems, Syncs};
+ghost use Rattle.gl_guards.specs.AlongAsks.{stay_count};
+ghost use Rattle.gl_update.specs.Questions.{Asks, AsksKept, AsksOne, AsksStaying, AsksSync, old_items};
 ghost use Rattle.gl_update.specs.Counted.{CodeMoved, HasKey, ItemMoved, ItemsMoved, KeptMoved, one_if};
 ghost use Rattle.gl_update.specs.OldItems.{IsReady, OneItem, unboxed};
 ghost use Rattle.gl_code.specs.Renewing.{Renews, RenewFails};
@@ -97,6 +99,7 @@ fn settled(
     ensures item { IfOk result (λ r. r ≡ item) }
     ensures step { OnOk result (Does (λ n st. st) vm.old vm.new) }
     ensures moved { OnOk result (moved.new.items ≡ moved.old.items + one_if moves) }
+    ensures asked { moved.new.asked ≡ moved.old.asked }
     ensures calm { Calm vm.old → Calm vm.new }
 {
     settle_item(vm, moves, &item.body, &item.comment, seat, moved)?;
@@ -133,6 +136,7 @@ fn kept_item<A: AppendBlock>(
     ensures ok { IfOk result (λ r. Renews app.now cells.now (KeptItem left (item (plain (view entry.value.key)) entry.value.occurrence ∷ trail_view trail.old) (seen_entry entry.value) (λ n. seen_item_code n old.value)) vm.old (λ n. seen_item_code n r.value) vm.new) }
     ensures fails { IfErr result (RenewFails {A = Item} app.now cells.now (KeptItem left (item (plain (view entry.value.key)) entry.value.occurrence ∷ trail_view trail.old) (seen_entry entry.value) (λ n. seen_item_code n old.value)) vm.old) }
     ensures moved { IfOk result (λ r. KeptMoved moved.old moved.new moves (λ n. seen_item_code n old.value) (λ n. seen_item_code n r.value)) }
+    ensures asked { OnOk result (Asks app.now cells.now (AsksKept left (item (plain (view entry.value.key)) entry.value.occurrence ∷ trail_view trail.old) (seen_entry entry.value) (λ n. seen_item_code n old.value)) vm.old moved.old.asked moved.new.asked) }
     ensures key { IfOk result (λ r. (n : _) → spot_key (seen_item_code n r.value) ≡ spot_key (seen_item_code n old.value)) }
     ensures trail { OnOk result (trail.new ≡ trail.old) }
     ensures calm { Calm vm.new }
@@ -212,6 +216,7 @@ fn entry_item<A: AppendBlock>(
     ensures ok { IfOk result (λ r. Renews app.now cells.now (OneItem (λ n. seen_listing n listing.now) left (item (plain (view next.entry.value.key)) next.entry.value.occurrence ∷ trail_view trail.old) (seen_entry next.entry.value) (unboxed next.old)) vm.old (λ n. seen_item_code n r.value) vm.new) }
     ensures fails { IfErr result (RenewFails {A = Item} app.now cells.now (OneItem (λ n. seen_listing n listing.now) left (item (plain (view next.entry.value.key)) next.entry.value.occurrence ∷ trail_view trail.old) (seen_entry next.entry.value) (unboxed next.old)) vm.old) }
     ensures moved { IfOk result (λ r. ItemMoved moved.old moved.new next.moves (unboxed next.old) r.value) }
+    ensures asked { OnOk result (Asks app.now cells.now (AsksOne left (item (plain (view next.entry.value.key)) next.entry.value.occurrence ∷ trail_view trail.old) (seen_entry next.entry.value) (unboxed next.old)) vm.old moved.old.asked moved.new.asked) }
     ensures key { IfOk result (λ r. (n : _) → HasKey n (unboxed next.old) (entry_key (seen_entry next.entry.value)) r.value) }
     ensures trail { OnOk result (trail.new ≡ trail.old) }
     ensures calm { Calm vm.new }
@@ -245,6 +250,23 @@ fn end_left(vm: &mut Vm, alloc: Global, work: &mut Work) -> Result<(), AllocErro
     end_items(vm, olds.as_slice())
 }
 
+// One more old item stays, where there is one for the entry.
+#[inline(never)]
+fn count_stayed(stayed: &mut usize, next: &Next) -> Result<(), AllocError>
+    ensures { OnOk result (stayed.new ≡ stayed.old + one_if (is_some (unboxed next.now.old))) }
+{
+    if next.old.is_none() {
+        return Ok(());
+    }
+    match stayed.checked_add(1) {
+        Some(more) => {
+            *stayed = more;
+            Ok(())
+        }
+        None => Err(AllocError),
+    }
+}
+
 // The entries that wait, one after another, and then the end of the old items that are left. The trail is that of the items
 // of the list.
 #[cycle(renewing)]
@@ -265,6 +287,8 @@ fn sync_items<A: AppendBlock>(
     ensures ok { IfOk result (λ r. Renews app.now cells.now (SyncItems (λ n. seen_listing n begun.old.listing) left (trail_view trail.old) (seen_left begun.old.work.waiting.items) (λ n. map (seen_item_code n) (there begun.old.work.olds.items))) vm.old (λ n. all_items (map (seen_item_code n) r.items)) vm.new) }
     ensures fails { IfErr result (RenewFails {A = ItemCodes} app.now cells.now (SyncItems (λ n. seen_listing n begun.old.listing) left (trail_view trail.old) (seen_left begun.old.work.waiting.items) (λ n. map (seen_item_code n) (there begun.old.work.olds.items))) vm.old) }
     ensures moved { IfOk result (λ r. ItemsMoved moved.old moved.new (count_moves (reverse (seen_steps begun.old.work.steps.items))) (there begun.old.work.olds.items) r.items) }
+    ensures asked { OnOk result (Asks app.now cells.now (AsksStaying (λ n. seen_listing n begun.old.listing) left (trail_view trail.old) (seen_left begun.old.work.waiting.items) (λ n. map (seen_item_code n) (there begun.old.work.olds.items))) vm.old moved.old.asked moved.new.asked) }
+    ensures stayed { OnOk result ((n : _) (run : _) → begun.new.stayed ≡ begun.old.stayed + stay_count (seen_left begun.old.work.waiting.items) (old_items run left (map (seen_item_code n) (there begun.old.work.olds.items)))) }
     ensures keys { IfOk result (λ r. (n : _) → map spot_key (map (seen_item_code n) r.items) ≡ entry_keys (seen_left begun.old.work.waiting.items)) }
     ensures listing { OnOk result (begun.new.listing ≡ begun.old.listing) }
     ensures spot { OnOk result (begun.new.spot ≡ begun.old.spot) }
@@ -273,6 +297,7 @@ fn sync_items<A: AppendBlock>(
 {
     let mut done = Vec::new(alloc);
     while let Some(next) = begun.work.next(alloc)? {
+        count_stayed(&mut begun.stayed, &next)?;
         match entry_item::<A>(
             vm,
             alloc,
@@ -314,13 +339,16 @@ pub(crate) fn sync_list<A: AppendBlock>(
     ensures ok { IfOk result (λ r. Renews app.now cells.now (Syncs (λ n. seen_listing n list.value.listing) (seen_spot list.value.spot) left (trail_view trail.old) (seen_left ready.value.entries.items) (λ n. map (seen_item_code n) list.value.items.items)) vm.old (λ n. seen_code n r.value) vm.new) }
     ensures fails { IfErr result (RenewFails {A = PlainCode} app.now cells.now (Syncs (λ n. seen_listing n list.value.listing) (seen_spot list.value.spot) left (trail_view trail.old) (seen_left ready.value.entries.items) (λ n. map (seen_item_code n) list.value.items.items)) vm.old) }
     ensures moved { IfOk result (λ r. CodeMoved moved.old moved.new (λ n. c.listed_code (seen_listing n list.value.listing) (seen_spot list.value.spot) (all_items (map (seen_item_code n) list.value.items.items))) (λ n. seen_code n r.value)) }
+    ensures asked { OnOk result (Asks app.now cells.now (AsksSync (λ n. seen_listing n list.value.listing) left (items ∷ trail_view trail.old) (seen_left ready.value.entries.items) (λ n. map (seen_item_code n) list.value.items.items)) vm.old moved.old.asked moved.new.asked) }
     ensures trail { OnOk result (trail.new ≡ trail.old) }
     ensures calm { Calm vm.new }
 {
-    let mut begun = begin_sync(alloc, trail, list, ready, parent)?;
+    let mut begun = begin_sync(alloc, trail, list, ready, parent, moved)?;
+    let mark = moved.mark(vm);
     match sync_items::<A>(vm, alloc, app, cells, trail, left, &mut begun, moved) {
         Ok(items) => {
             trail.pop(alloc);
+            moved.settle(&mark, begun.stayed);
             Ok(end_sync(alloc, begun, items)?)
         }
         Err(fault) => Err(lost_sync(begun, fault)),

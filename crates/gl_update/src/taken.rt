@@ -1,5 +1,5 @@
 // Lists that are taken out of the updating program, each in a box: so the walk of what is in them takes little stack.
-ghost use Rattle.std.specs.Prelude.{◌≡◌, ◌∷◌, ◌++◌, ◌<◌, ◌^◌, [], length, map, reverse, IfOk, OnOk};
+ghost use Rattle.std.specs.Prelude.{◌≡◌, ◌∷◌, ◌++◌, ◌+◌, ◌<◌, ◌^◌, [], length, map, reverse, IfOk, OnOk};
 ghost use Rattle.gl_value.specs.View.{view};
 ghost use Rattle.gl_meaning.specs.Render.{entries, values_listed};
 ghost use Rattle.gl_each.specs.Key.{entry_keys};
@@ -26,6 +26,7 @@ ghost use Rattle.gl_meaning.specs.Path as p;
 ghost use Rattle.gl_meaning.specs.View.{path_view};
 ghost use Rattle.gl_update.specs.View.{trail_view};
 
+use crate::counting::Moved;
 use crate::old_items::Work;
 use crate::positions::{reread, shown};
 use crate::seating::Seat;
@@ -208,15 +209,22 @@ pub(crate) fn ask_list(vm: &mut Vm, list: Box<Listed>) -> Result<(Box<Listed>, b
     Ok((list, stale))
 }
 
-/// Whether the items of a list are entered. The list is handed through likewise.
+/// Whether the items of a list are entered, which counts as a question. The list is handed through likewise.
 #[inline(never)]
-pub(crate) fn ask_items(vm: &mut Vm, list: Box<Listed>) -> Result<(Box<Listed>, bool), AllocError>
+pub(crate) fn ask_items(
+    vm: &mut Vm,
+    list: Box<Listed>,
+    moved: &mut Moved,
+) -> Result<(Box<Listed>, bool), AllocError>
     requires calm { Calm vm.old }
     ensures list { IfOk result (λ x. x.0 ≡ list) }
     ensures asked { IfOk result (λ x. (n : _) (touched : _) → Agrees touched vm.old → enters_few (state_of n vm.old touched) (positions_items (items_of (all_items (map (seen_item_code n) list.value.items.items)))) ≡ x.1) }
+    ensures moved { moved.new.items ≡ moved.old.items }
+    ensures counted { OnOk result (moved.new.asked ≡ moved.old.asked + 1) }
     ensures still { Does (λ n st. st) vm.old vm.new }
     ensures calm { Calm vm.new }
 {
+    moved.ask(1)?;
     let enters = enters_items(vm, &list.items)?;
     Ok((list, enters))
 }
@@ -251,7 +259,7 @@ pub(crate) fn boxed_ready(
     Ok(Box::new(alloc, Ready { keys, entries })?)
 }
 
-/// A list while its items become others: what is to be done of them, their path, and where the next one goes.
+/// A list while its items become others: what is to be done of them, their path, where the next one goes, and how many stayed.
 #[derive(Drop)]
 pub(crate) struct Begun {
     pub(crate) listing: Listing,
@@ -259,9 +267,11 @@ pub(crate) struct Begun {
     pub(crate) work: Work,
     pub(crate) base: Path,
     pub(crate) seat: Seat,
+    /// How many old items have been given to an entry.
+    pub(crate) stayed: usize,
 }
 
-/// The items of a list are to become those that it has now. The trail goes to its items.
+/// The items of a list are to become those that it has now, which counts as a question. The trail goes to its items.
 #[inline(never)]
 pub(crate) fn begin_sync(
     alloc: Global,
@@ -269,6 +279,7 @@ pub(crate) fn begin_sync(
     list: Box<Listed>,
     ready: Box<Ready>,
     parent: &Option<NodeId>,
+    moved: &mut Moved,
 ) -> Result<Box<Begun>, AllocError>
     requires keys { ready.value.keys ≡ entry_keys (seen_left ready.value.entries.items) }
     ensures listing { IfOk result (λ b. b.value.listing ≡ list.value.listing) }
@@ -283,7 +294,11 @@ pub(crate) fn begin_sync(
     ensures view { OnOk result (trail_view trail.new ≡ p.items ∷ trail_view trail.old) }
     ensures room { OnOk result (length trail.old.path.steps < 2 ^ 64) }
     ensures path { IfOk result (λ b. path_view b.value.base ≡ trail_view trail.new) }
+    ensures stayed { IfOk result (λ b. b.value.stayed ≡ 0) }
+    ensures moved { moved.new.items ≡ moved.old.items }
+    ensures asked { OnOk result (moved.new.asked ≡ moved.old.asked + 1) }
 {
+    moved.ask(1)?;
     let Listed {
         listing,
         spot,
@@ -301,6 +316,7 @@ pub(crate) fn begin_sync(
             work,
             base,
             seat,
+            stayed: 0,
         },
     )
 }

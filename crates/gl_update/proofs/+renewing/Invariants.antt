@@ -10,8 +10,14 @@ use Rattle.gl_update.proofs.SyncItems.{All, Left}
 use Rattle.gl_update.proofs.MovedCodes.{Walked}
 use Rattle.gl_update.proofs.SyncCounts.{Syncing}
 use Rattle.gl_update.proofs.Walking.{Walks}
+use Rattle.gl_update.proofs.AskedCodes.{AsksWalk}
 use Rattle.gl_update.proofs.AlongCounts.{Along}
 use Rattle.gl_update.proofs.AlongItems.{WalksItems}
+use Rattle.gl_code.specs.Entries.{seen_left}
+use Rattle.gl_update.proofs.AskedItems.{AsksWalkItems}
+use Rattle.gl_update.proofs.AskedStaying.{AsksStays}
+use Rattle.gl_update.proofs.AskedSync.{AsksOf, StaysOn}
+use Rattle.gl_update.proofs.Asking.{AsksOn}
 use Rattle.gl_update.proofs.+renewing.Given as goal
 
 -- The trail grows, and no list is longer than that; where it begins anew, one level of nesting less is left.
@@ -101,6 +107,7 @@ invariant-codes::renew_codes-loop-place g l = record {
   calm : Calm l.vm;
   walks : Walks l.app l.cells l.left (trail_view l.fn.trail) l.fn.codes l.fn.vm l.code-items l.place l.vm;
   moved : Walked l.fn.moved l.moved l.fn.codes.list.items l.code-items l.place;
+  asks : AsksWalk l.app l.cells l.left (trail_view l.fn.trail) l.fn.codes l.fn.vm l.fn.moved.asked l.code-items l.place l.vm l.moved.asked;
 }
 
 abbrev pub invariant-along::walk_items-loop-item : goal.invariant-along::walk_items-loop-item
@@ -110,6 +117,7 @@ invariant-along::walk_items-loop-item g l = record {
   calm : Calm l.vm;
   walks : WalksItems l.app l.cells l.left (trail_view l.fn.trail) l.fn.items.items l.fn.vm l.item-items l.item-index l.vm;
   moved : Along l.fn.moved l.moved l.fn.items.items l.item-items l.item-index;
+  asks : AsksWalkItems l.app l.cells l.left (trail_view l.fn.trail) l.fn.items.items l.fn.vm l.fn.moved.asked l.item-items l.item-index l.vm l.moved.asked;
 }
 
 abbrev pub invariant-staying::stay_items-loop-kept : goal.invariant-staying::stay_items-loop-kept
@@ -120,6 +128,7 @@ invariant-staying::stay_items-loop-kept g l = record {
   index : l.index ≡ l.kept-index;
   stays : Stays l.app l.cells l.left (trail_view l.fn.trail) l.values l.fn.items.items l.fn.vm l.kept-items l.kept-index l.vm;
   moved : Along l.fn.moved l.moved l.fn.items.items l.kept-items l.kept-index;
+  asks : AsksStays l.app l.cells l.left (trail_view l.fn.trail) l.values l.fn.items.items l.fn.vm l.fn.moved.asked l.kept-index l.vm l.moved.asked;
 }
 
 abbrev pub invariant-syncing::sync_items-loop-done : goal.invariant-syncing::sync_items-loop-done
@@ -133,6 +142,9 @@ invariant-syncing::sync_items-loop-done g l = record {
   onward : Onward l.app l.cells (All l.app l.cells l.left l.fn.begun.listing (trail_view l.fn.trail) l.fn.begun.work.waiting.items (there l.fn.begun.work.olds.items)) l.fn.vm
       (Left l.app l.cells l.left l.fn.begun.listing (trail_view l.fn.trail) l.done.items l.begun.work.waiting.items (there l.begun.work.olds.items)) l.vm;
   moved : Syncing l.fn.moved l.moved l.fn.begun.work l.begun.work l.done.items;
+  asks : AsksOn l.app l.cells (AsksOf l.app l.cells l.left l.fn.begun.listing (trail_view l.fn.trail) (seen_left l.fn.begun.work.waiting.items) l.fn.begun.work.olds.items) l.fn.vm l.fn.moved.asked
+      (AsksOf l.app l.cells l.left l.fn.begun.listing (trail_view l.fn.trail) (seen_left l.begun.work.waiting.items) l.begun.work.olds.items) l.vm l.moved.asked;
+  stayed : StaysOn l.left l.fn.begun.stayed (seen_left l.fn.begun.work.waiting.items) l.fn.begun.work.olds.items l.begun.stayed (seen_left l.begun.work.waiting.items) l.begun.work.olds.items;
 }
 
 abbrev pub decreases-syncing::sync_items-loop-done : goal.decreases-syncing::sync_items-loop-done

@@ -12,6 +12,9 @@ use Rattle.gl_update.specs.Counted.{CodesMoved}
 use Rattle.gl_update.specs.View.{trail_view}
 use Rattle.gl_code.specs.Renewing.{Renews, RenewFails}
 use Rattle.gl_update.proofs.Arms.{root_is, page_renews, page_fails}
+use Rattle.gl_guards.specs.AlongAsks.{along_asks_page}
+use Rattle.gl_update.specs.Questions.{Asks}
+use Rattle.gl_update.proofs.AskedCodes.{page_asks}
 use Rattle.gl_update.proofs.MovedCodes.{page_moved}
 use Rattle.gl_update.proofs.pages.renew_page.Goals as goal
 
@@ -32,9 +35,21 @@ returns-in-Ok-clause-moved g c =
     let root : Tables → PlainCodes → PlainCode = λ n cs. component_seen (seen_owner n o.value) [] (refs_made o.value.cells) [] None cs in
     let m = c.none-moved.result in
     let m2 = c.renew_top.new.moved in
-    page_moved m m2 c.args.page.now.code _ (λ n. root n (seen_codes n c.in-Root.body)) (λ n. root n (seen_codes n c.renew_top.new.body)) c.none-moved.ensures
+    page_moved m m2 c.args.page.now.code _ (λ n. root n (seen_codes n c.in-Root.body)) (λ n. root n (seen_codes n c.renew_top.new.body)) c.none-moved.ensures.items
     (λ n. ap (seen_code n) c.in-Root.is ∙ root_is n o c.in-Root.body) (λ n. search (rules, the_lemmas))
     (subst (λ (b : Codes). CodesMoved m m2 (λ n. seen_codes n b) (λ n. seen_codes n c.renew_top.new.body)) c.in-Root.body-is c.in-Ok.ensures.moved)
+
+pub returns-in-Ok-clause-asked : goal.returns-in-Ok-clause-asked
+returns-in-Ok-clause-asked g c =
+    let a = c.args.app.now in
+    let m = c.manifest.result.now.limit - 1 in
+    let one : c.manifest.result.now.limit ≡ suc m = (let ne = c.if-limit-eq0.false in omega (arith, ne)) in
+    let old = c.args.page.now.vm in
+    let before = c.none-moved.result.asked in
+    let after = c.renew_top.new.moved.asked in
+    page_asks a c.args.cells.now a.manifest.limit m (ap (λ (x : Manifest). x.limit) (sym c.manifest.ensures) ∙ one) c.in-Root.owner.value c.args.page.now.code c.in-Root.body (trail_view c.of-trail.result) old before after (c.of-trail.ensures ∙ ap reverse c.new.ensures) c.none-moved.ensures.asked
+    (λ n. ap (seen_code n) c.in-Root.is ∙ root_is n c.in-Root.owner c.in-Root.body)
+    (subst (λ (b : Codes). Asks a c.args.cells.now (λ n run. along_asks_page by_number run m (trail_view c.of-trail.result) (seen_codes n b)) old before after) c.in-Root.body-is c.in-Ok.ensures.asked)
 
 pub returns-in-Root-clause-fails : goal.returns-in-Root-clause-fails
 returns-in-Root-clause-fails g c =
