@@ -15,7 +15,7 @@ use Rattle.gl_meaning.specs.Session.{State, first_state, Turn, step, Session, go
 use Rattle.gl_meaning.specs.View.{manifest_view}
 use Rattle.gl_opc.specs.IsApp.{IsAppWith}
 use Rattle.gl_opc.specs.declared.app.App.{App}
-use Rattle.gl_session.specs.Standing.{StandsAt, Starts, Turns, Counts}
+use Rattle.gl_session.specs.Standing.{StandsAt, Starts, Turns, Counts, Asked, AsksAtMost}
 use Rattle.gl_session.specs.Turn.{work_view, added}
 use Rattle.gl_session.specs.declared.session.Session as code
 use Rattle.gl_session.specs.declared.turn.Turn as by_code
@@ -29,7 +29,7 @@ use Rattle.gl_run.specs.Plays.{StartStops, TurnStops, Opens, GoesOn}
 use Rattle.gl_run.specs.Reached.{of_turns, turns_before, turn_bytes, Reached}
 use Rattle.gl_commands.specs.declared.fault.PlayFault.{PlayFault}
 use Rattle.gl_commands.specs.declared.fault.PlayFault.TheVariants as v
-use Rattle.gl_run.proofs.Works.{told_is, counts_first, counts_more}
+use Rattle.gl_run.proofs.Works.{told_is, counts_first, counts_more, asks_first, asks_more}
 
 -- The texts of an output that is played
 
@@ -103,12 +103,13 @@ module _ (told : Told) (app : App) (templates : List Body) (events : List a.Even
 
   -- Turn 0
 
-  pub start_reached : (held : code.Session) (m : by_code.Turn) (old now : Option (List ℕ)) → Starts app templates held m → held.counts ≡ m.work → Takes old now (bytes_of (seen_text told m)) → Here events 1 held old now
-  start_reached held m old now (t, made, is, stands) c p = record {
+  pub start_reached : (held : code.Session) (m : by_code.Turn) (old now : Option (List ℕ)) → Starts app templates held m → held.counts ≡ m.work → held.asks ≡ 0 → Takes old now (bytes_of (seen_text told m)) → Here events 1 held old now
+  start_reached held m old now (t, made, is, stands) c q p = record {
     state = t.state;
     done = t ∷ [];
     stands = stands;
     counts = counts_first held m t c is;
+    asks = asks_first held t q;
     number = numbered of_app first_state None t made;
     last = refl;
     whole = first_turn of_app events t made;
@@ -131,7 +132,7 @@ module _ (told : Told) (app : App) (templates : List Body) (events : List a.Even
   start_stops v.Memory took is h = some_nothing took (played_app told of_app events).texts
 
   pub opened : (held : code.Session) (old now : Option (List ℕ)) → IsAppWith (manifest_view app.manifest) templates app.programs → Opens told app (Ok held) old now → Here events 1 held old now
-  opened held old now is (m, starts, taken) = start_reached held m old now (starts.stands templates is) starts.counts taken
+  opened held old now is (m, starts, taken) = start_reached held m old now (starts.stands templates is) starts.counts starts.asks taken
 
   pub open_stops : (f : PlayFault) (old now : Option (List ℕ)) → IsAppWith (manifest_view app.manifest) templates app.programs → Opens told app (Err f) old now → PlayFails f old now (played_app told of_app events)
   open_stops f old now is (inl (stops, same)) = subst (λ x. PlayFails f old x (played_app told of_app events)) (sym same) (start_stops f old is stops)
@@ -143,8 +144,8 @@ module _ (told : Told) (app : App) (templates : List Body) (events : List a.Even
     next_turn : (t : Turn) → step of_app r.state (Some e) ≡ Some t → session of_app events ≡ turns_before r.done (of_turns (session_from of_app left t.state).stopped (t ∷ (session_from of_app left t.state).turns))
     next_turn t made = r.whole ∙ ap (λ o. turns_before r.done (go_on r.state o (session_from of_app left))) made
 
-    pub turn_reached : (new_held : code.Session) (m : by_code.Turn) (new : Option (List ℕ)) → Turns app templates r.state e new_held m → work_view new_held.counts ≡ added (work_view held.counts) (work_view m.work) → Takes now new (bytes_of (seen_text told m)) → Here left (turn + 1) new_held old new
-    turn_reached new_held m new (t, made, is, stands) c p =
+    pub turn_reached : (new_held : code.Session) (m : by_code.Turn) (new : Option (List ℕ)) → Turns app templates r.state e new_held m → work_view new_held.counts ≡ added (work_view held.counts) (work_view m.work) → Asked app templates r.state e held new_held → Takes now new (bytes_of (seen_text told m)) → Here left (turn + 1) new_held old new
+    turn_reached new_held m new (t, made, is, stands) c q p =
         let rest = session_from of_app left t.state in
         let risen = numbered of_app r.state (Some e) t made in
         let before = r.number in
@@ -154,6 +155,7 @@ module _ (told : Told) (app : App) (templates : List Body) (events : List a.Even
           done = r.done ++ t ∷ [];
           stands = stands;
           counts = counts_more held new_held m r.done t r.counts c is;
+          asks = asks_more held new_held r.done t r.asks (q t made).1;
           number = omega (arith, risen, before);
           last = after_more first_state r.done t;
           whole = next_turn t made ∙ ap (of_turns rest.stopped) (sym (append_assoc r.done (t ∷ []) rest.turns));
@@ -179,7 +181,7 @@ module _ (told : Told) (app : App) (templates : List Body) (events : List a.Even
     turn_stops v.Memory h = turn_wants
 
     pub gone_on : (new_held : code.Session) (most : ℕ) (new : Option (List ℕ)) → GoesOn {X = Unit {0}} told (Ok tt) held new_held e turn most now new → Here left (turn + 1) new_held old new
-    gone_on new_held most new (m, turns, taken) = turn_reached new_held m new (turns.stands app templates r.state r.stands) turns.counts taken
+    gone_on new_held most new (m, turns, taken) = turn_reached new_held m new (turns.stands app templates r.state r.stands) turns.counts (turns.asks app templates r.state r.stands) taken
 
     pub goes_no_further : (f : PlayFault) (new_held : code.Session) (most : ℕ) (new : Option (List ℕ)) → most ≡ app.manifest.limit → GoesOn {X = Unit {0}} told (Err f) held new_held e turn most now new → PlayFails f old new (played_app told of_app events)
     goes_no_further f new_held most new limit (inl (stops, same)) =
@@ -203,4 +205,5 @@ module _ (told : Told) (app : App) (templates : List Body) (events : List a.Even
       record {
         stands = subst (λ s. StandsAt held app templates s) (sym (ap (λ (x : Session). state_after first_state x.turns) all ∙ r.last)) r.stands;
         counts = subst (λ (x : Session). Counts held x.turns) (sym all) r.counts;
+        asks = subst (λ (x : Session). AsksAtMost held x.turns) (sym all) r.asks;
       }

@@ -10,7 +10,7 @@ use Rattle.gl_meaning.specs.Manifest.{app_of}
 use Rattle.gl_meaning.specs.Session.{first_state, Turn, Session, go_on, session_from, session}
 use Rattle.gl_meaning.specs.View.{manifest_view}
 use Rattle.gl_opc.specs.declared.app.App.{App}
-use Rattle.gl_session.specs.Standing.{StandsAt, Starts, Turns, Counts}
+use Rattle.gl_session.specs.Standing.{StandsAt, Starts, Turns, Counts, Asked, AsksAtMost}
 use Rattle.gl_session.specs.Turn.{work_view, added}
 use Rattle.gl_session.specs.declared.session.Session as code
 use Rattle.gl_session.specs.declared.turn.Turn as by_code
@@ -21,7 +21,7 @@ use Rattle.gl_run.specs.Sample.{Tallies, Sums}
 use Rattle.gl_run.specs.declared.sample.Tally.{Tally}
 use Rattle.gl_run.specs.Reached.{of_turns, turns_before, Counted}
 use Rattle.gl_run.proofs.Played.{after_more, first_turn}
-use Rattle.gl_run.proofs.Works.{counts_first, counts_more}
+use Rattle.gl_run.proofs.Works.{counts_first, counts_more, asks_first, asks_more}
 
 last_of_more : (first : Text) (texts : List Text) (text : Text) → last_of first (texts ++ text ∷ []) ≡ text
 last_of_more first [] text = refl
@@ -54,21 +54,22 @@ module _ (app : App) (templates : List Body) (events : List a.Event) where
   pub left_is : (left same : List a.Event) (held : code.Session) (tally : Tally) → left ≡ same → Here left held tally → Here same held tally
   left_is left same held tally e r = subst (λ es. Here es held tally) e r
 
-  pub start_counted : (held : code.Session) (m : by_code.Turn) (tally : Tally) → Starts app templates held m → held.counts ≡ m.work → Tallies tally (m.text ∷ []) → Here events held tally
-  start_counted held m tally (t, made, is, stands) c p = record {
+  pub start_counted : (held : code.Session) (m : by_code.Turn) (tally : Tally) → Starts app templates held m → held.counts ≡ m.work → held.asks ≡ 0 → Tallies tally (m.text ∷ []) → Here events held tally
+  start_counted held m tally (t, made, is, stands) c q p = record {
     state = t.state;
     done = t ∷ [];
     stands = stands;
     counts = counts_first held m t c is;
+    asks = asks_first held t q;
     last = refl;
     whole = first_turn of_app events t made;
     tallied = subst (λ x. Tallies tally (x ∷ [])) is.text p;
   }
 
   pub turn_counted : (e : a.Event) (left : List a.Event) (held : code.Session) (tally : Tally) (r : Here (e ∷ left) held tally) (new_held : code.Session) (m : by_code.Turn) (new : Tally)
-      → Turns app templates r.state e new_held m → work_view new_held.counts ≡ added (work_view held.counts) (work_view m.work)
+      → Turns app templates r.state e new_held m → work_view new_held.counts ≡ added (work_view held.counts) (work_view m.work) → Asked app templates r.state e held new_held
       → new.turns ≡ tally.turns + 1 → new.bytes ≡ tally.bytes + byte_count m.text → new.last ≡ byte_count m.text → Here left new_held new
-  turn_counted e left held tally r new_held m new (t, made, is, stands) c turns bytes last =
+  turn_counted e left held tally r new_held m new (t, made, is, stands) c q turns bytes last =
       let rest = session_from of_app left t.state in
       let all = ap (λ x. turn_texts r.done ++ x ∷ []) is.text ∙ sym (map-append (λ (u : Turn). u.text) r.done (t ∷ [])) in
       record {
@@ -76,6 +77,7 @@ module _ (app : App) (templates : List Body) (events : List a.Event) where
         done = r.done ++ t ∷ [];
         stands = stands;
         counts = counts_more held new_held m r.done t r.counts c is;
+        asks = asks_more held new_held r.done t r.asks (q t made).1;
         last = after_more first_state r.done t;
         whole = r.whole ∙ ap (λ o. turns_before r.done (go_on r.state o (session_from of_app left))) made ∙ ap (of_turns rest.stopped) (sym (append_assoc r.done (t ∷ []) rest.turns));
         tallied = subst (Tallies new) all (tallies_more tally new (turn_texts r.done) m.text r.tallied turns bytes last);
@@ -94,4 +96,5 @@ module _ (app : App) (templates : List Body) (events : List a.Event) where
       record {
         stands = subst (λ s. StandsAt held app templates s) (sym (ap (λ (x : Session). state_after first_state x.turns) all ∙ r.last)) r.stands;
         counts = subst (λ (x : Session). Counts held x.turns) (sym all) r.counts;
+        asks = subst (λ (x : Session). AsksAtMost held x.turns) (sym all) r.asks;
       }

@@ -1,10 +1,10 @@
--- What is told of turns, and their work together.
-use Rattle.std.proofs.Common.{◌≡◌, List, [], ◌∷◌, ◌++◌, sym, ap, ap₂, ◌∙◌, arith}
+-- What is told of turns, and their work and questions together.
+use Rattle.std.proofs.Common.{◌≡◌, ◌≤◌, ◌+◌, List, [], ◌∷◌, ◌++◌, sym, ap, ap₂, ◌∙◌, arith}
 use Rattle.gl_base.specs.Texts.{Text}
 use Rattle.gl_meaning.specs.Session.{Turn, work_line}
 use Rattle.gl_meaning.specs.Work.{Work}
-use Rattle.gl_session.specs.Standing.{Counts}
-use Rattle.gl_session.specs.Turn.{TellsTurn, work_view, no_work, added, work_of}
+use Rattle.gl_session.specs.Standing.{Counts, AsksAtMost}
+use Rattle.gl_session.specs.Turn.{TellsTurn, work_view, no_work, added, work_of, asked_of}
 use Rattle.gl_session.specs.declared.session.Session.{Session}
 use Rattle.gl_session.specs.declared.turn.Turn as code
 use Rattle.gl_commands.specs.Told.{told_text}
@@ -42,3 +42,17 @@ counts_first held made t e h = ap work_view e ∙ (h.work ∙ sym (added_none t.
 
 pub counts_more : (old new : Session) (made : code.Turn) (done : List Turn) (t : Turn) → Counts old done → work_view new.counts ≡ added (work_view old.counts) (work_view made.work) → TellsTurn made t → Counts new (done ++ t ∷ [])
 counts_more old new made done t c e h = e ∙ (ap₂ added c h.work ∙ sym (work_more done t))
+
+-- Questions
+
+-- one turn more
+asked_more : (done : List Turn) (t : Turn) → asked_of (done ++ t ∷ []) ≡ asked_of done + t.asked
+asked_more [] t = omega arith
+asked_more (d ∷ done) t = let more = asked_more done t in omega (arith, more)
+
+-- the questions after turn 0, and after each further turn
+pub asks_first : (held : Session) (t : Turn) → held.asks ≡ 0 → AsksAtMost held (t ∷ [])
+asks_first held t e = omega (arith, e)
+
+pub asks_more : (old new : Session) (done : List Turn) (t : Turn) → AsksAtMost old done → new.asks ≤ old.asks + t.asked → AsksAtMost new (done ++ t ∷ [])
+asks_more old new done t a b = let all = asked_more done t in omega (arith, a, b, all)

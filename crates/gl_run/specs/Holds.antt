@@ -10,7 +10,7 @@ use Rattle.gl_opc.specs.IsApp.{IsAppWith}
 use Rattle.gl_opc.specs.declared.app.App.{App}
 use Rattle.gl_load.specs.Load.{Whole, whole_in}
 use Rattle.gl_load.specs.Refusal.{Refusal}
-use Rattle.gl_session.specs.Standing.{StandsAt, Counts}
+use Rattle.gl_session.specs.Standing.{StandsAt, Counts, AsksAtMost}
 use Rattle.gl_session.specs.declared.session.Session.{Session}
 use Rattle.gl_commands.specs.Command.{Command, run_command, sample_command}
 use Rattle.gl_commands.specs.Sample.{sample_whole}
@@ -24,11 +24,12 @@ state_after s (t ∷ ts) = state_after t.state ts
 abbrev pub last_state : a.App → List a.Event → State
 last_state app events = state_after first_state (session app events).turns
 
--- The session stands where a session of this application, with these templates, ends over the events, and its counts are the work of all
--- turns of that.
+-- The session stands where a session of this application, with these templates, ends over the events, its counts are the work of all
+-- turns of that, and it asked at most as much as these may ask.
 pub record EndsAt (held : Session) (app : App) (templates : List Body) (events : List a.Event) : Type 0 where
   pub stands : StandsAt held app templates (last_state (app_of (manifest_view app.manifest) templates) events)
   pub counts : Counts held (session (app_of (manifest_view app.manifest) templates) events).turns
+  pub asks : AsksAtMost held (session (app_of (manifest_view app.manifest) templates) events).turns
 
 -- what was loaded is an application with its events, and the session stands where theirs ends, with its counts
 abbrev pub EndsWith : Session → Result Whole Refusal → Type 0

@@ -9,7 +9,7 @@ use Rattle.gl_meaning.specs.Session.{State, first_state, step}
 use Rattle.gl_meaning.specs.View.{manifest_view}
 use Rattle.gl_opc.specs.IsApp.{IsAppWith}
 use Rattle.gl_opc.specs.declared.app.App.{App}
-use Rattle.gl_session.specs.Standing.{StandsAt, Starts, Turns}
+use Rattle.gl_session.specs.Standing.{StandsAt, Starts, Turns, Asked}
 use Rattle.gl_session.specs.Turn.{work_view, added}
 use Rattle.gl_session.specs.declared.turn.Turn.{Turn}
 use Rattle.gl_session.specs.declared.session.Session.{Session}
@@ -35,15 +35,19 @@ TurnStops session e turn most (v.NestingLimit number limit) =
 TurnStops session e turn most v.WriteFault = ⊥
 TurnStops session e turn most v.Memory = Unit {0}
 
--- The session of an application, with whichever templates it is one, stands after turn 0, of which this is told, and counts its work.
+-- The session of an application, with whichever templates it is one, stands after turn 0, of which this is told, and counts its work. Nothing
+-- was asked.
 pub record IsStart (app : App) (held : Session) (made : Turn) : Type 0 where
   pub stands : (templates : List Body) → IsAppWith (manifest_view app.manifest) templates app.programs → Starts app templates held made
   pub counts : held.counts ≡ made.work
+  pub asks : held.asks ≡ 0
 
--- Wherever the session stood, it now stands after the turn of the event, of which this is told, and counts its work too.
+-- Wherever the session stood, it now stands after the turn of the event, of which this is told, and counts its work too; it asked at most as much
+-- as that turn may ask.
 pub record IsTurn (held : Session) (e : Event) (new : Session) (made : Turn) : Type 0 where
   pub stands : (app : App) (templates : List Body) (s : State) → StandsAt held app templates s → Turns app templates s e new made
   pub counts : work_view new.counts ≡ added (work_view held.counts) (work_view made.work)
+  pub asks : (app : App) (templates : List Body) (s : State) → StandsAt held app templates s → Asked app templates s e held new
 
 -- What is left where a session was to be started and turn 0 told: both was done; or there is no such turn; or it wasn't told.
 abbrev pub Opens : Told → App → Result Session PlayFault → Option (List ℕ) → Option (List ℕ) → Type 0

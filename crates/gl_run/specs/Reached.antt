@@ -8,7 +8,7 @@ use Rattle.gl_meaning.specs.Manifest.{app_of}
 use Rattle.gl_meaning.specs.Session.{State, first_state, Turn, Session, session_from, session}
 use Rattle.gl_meaning.specs.View.{manifest_view}
 use Rattle.gl_opc.specs.declared.app.App.{App}
-use Rattle.gl_session.specs.Standing.{StandsAt, Counts}
+use Rattle.gl_session.specs.Standing.{StandsAt, Counts, AsksAtMost}
 use Rattle.gl_session.specs.declared.session.Session as code
 use Rattle.gl_run.specs.Holds.{state_after}
 use Rattle.gl_commands.specs.Output.{turn_texts}
@@ -39,6 +39,7 @@ pub record Reached (told : Told) (app : App) (templates : List Body) (events lef
   pub done : List Turn
   pub stands : StandsAt held app templates state
   pub counts : Counts held done
+  pub asks : AsksAtMost held done
   pub number : state.turn ≡ turn
   pub last : state_after first_state done ≡ state
   pub whole : Leads app templates events left state done
@@ -50,6 +51,7 @@ pub record Counted (app : App) (templates : List Body) (events left : List a.Eve
   pub done : List Turn
   pub stands : StandsAt held app templates state
   pub counts : Counts held done
+  pub asks : AsksAtMost held done
   pub last : state_after first_state done ≡ state
   pub whole : Leads app templates events left state done
   pub tallied : Tallies tally (turn_texts done)

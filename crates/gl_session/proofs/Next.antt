@@ -1,5 +1,5 @@
 -- The turn of an event.
-use Rattle.std.proofs.Common.{◌≡◌, ℕ, List, [], map, Some, None, refl, sym, ap, ◌∙◌, subst, le_refl}
+use Rattle.std.proofs.Common.{◌≡◌, ◌≤◌, ℕ, zero, suc, ◌+◌, max, List, [], map, Some, None, refl, sym, ap, ◌∙◌, subst, le_refl, arith}
 use Rattle.gl_ast.specs.Template.{Body}
 use Rattle.gl_meaning.specs.App as m
 use Rattle.gl_meaning.specs.Order.{NamesRise}
@@ -13,10 +13,12 @@ use Rattle.gl_plain.specs.State.{Names, Inst, instance_row, State}
 use Rattle.gl_plain.specs.Naming.{by_number}
 use Rattle.gl_plain.specs.Turns.{begin}
 use Rattle.gl_naming.specs.Exist.{FieldsDiffer}
+use Rattle.gl_machine.specs.Code as c
 use Rattle.gl_machine.specs.Code.{Code as PlainCode, live_of}
 use Rattle.gl_machine.specs.Laws.{AllLowered}
 use Rattle.gl_machine.specs.Root.{renew_root_code_as}
-use Rattle.gl_machine.specs.Outcome.{Outcome, ok}
+use Rattle.gl_machine.specs.Outcome.{Outcome, ok, lost}
+use Rattle.gl_machine.specs.RenewCode.{Runs}
 use Rattle.gl_machine.specs.Step.{run_for_as}
 use Rattle.gl_vm.specs.View.{state_of}
 use Rattle.gl_vm.specs.Steps.{Follows}
@@ -24,6 +26,8 @@ use Rattle.gl_vm.specs.declared.vm.Vm.{Vm}
 use Rattle.gl_kept.specs.Between.{moved_between}
 use Rattle.gl_follows.specs.Sets.{put_all, held_of, AreOwn}
 use Rattle.gl_guards.specs.Along.{along_root_code_as}
+use Rattle.gl_guards.specs.AlongAsks.{along_asks_root}
+use Rattle.gl_guards.proofs.AlongLess.{puts_ask_along}
 use Rattle.gl_guards.proofs.Pages.{puts_go_along}
 use Rattle.gl_code.specs.CodeView.{seen_code}
 use Rattle.gl_code.specs.Tables.{env_of, tables_of}
@@ -38,6 +42,7 @@ use Rattle.gl_fires.proofs.Standing.{instance_is}
 use Rattle.gl_standing.specs.Standing.{StandsIn}
 use Rattle.gl_texts.specs.Lines.{destroyed_lines}
 use Rattle.gl_code.specs.Renewing.{Renews, RenewsDeep}
+use Rattle.gl_update.specs.Questions.{Asks}
 use Rattle.gl_session.specs.Laying.{GivensFor, touch_of, touch_all}
 use Rattle.gl_session.specs.declared.laying.Given.{Given}
 use Rattle.gl_session.proofs.Laid.{laid_in}
@@ -50,6 +55,19 @@ row_of : (a : App) (templates : List Body) (page : Page) (s : session.State) (x 
 row_of a templates page s x k i args e =
     let y = instance_is a templates page s x k i args e in
     subst (λ q. (state_of (tables_of (manifest_view a.manifest)) page.vm x.touched).look (instance_id q) ≡ Some (instance_row i)) y.id y.kept
+
+-- an update that ends well asked the page
+page_asked : (m : ℕ) (run : Runs) (k : PlainCode) (st : State) (x : PlainCode × State) → along_root_code_as by_number m run k st ≡ ok x → 1 ≤ along_asks_root by_number m run k st
+page_asked zero run k st x e = let no : lost ≡ ok x = e in absurd (cc)
+page_asked (suc m) run (c.component_code i made gm args b cs) st x e = omega arith
+page_asked (suc m) run (c.still_code n) st x e = let no : lost ≡ ok x = e in absurd (cc)
+page_asked (suc m) run (c.put_code n z) st x e = let no : lost ≡ ok x = e in absurd (cc)
+page_asked (suc m) run (c.element_code n made xs zs cs) st x e = let no : lost ≡ ok x = e in absurd (cc)
+page_asked (suc m) run (c.branch_code z y u b cs) st x e = let no : lost ≡ ok x = e in absurd (cc)
+page_asked (suc m) run (c.listed_code z y is) st x e = let no : lost ≡ ok x = e in absurd (cc)
+page_asked (suc m) run (c.unlisted_code z y b cs) st x e = let no : lost ≡ ok x = e in absurd (cc)
+page_asked (suc m) run (c.let_code made rs cs) st x e = let no : lost ≡ ok x = e in absurd (cc)
+page_asked (suc m) run (c.yield_code n made rs cs) st x e = let no : lost ≡ ok x = e in absurd (cc)
 
 module _ (a : App) (templates : List Body) (rises : NamesRise (manifest_view a.manifest)) (lowered : IsAppWith (manifest_view a.manifest) templates a.programs)
     (differ : FieldsDiffer (env_of a templates).app) (page : Page) (s : session.State) (x : StandsIn a templates page s)
@@ -118,6 +136,25 @@ module _ (a : App) (templates : List Body) (rises : NamesRise (manifest_view a.m
           made r.steps (seen_code (tables_of (manifest_view a.manifest)) page'.code, r.state) is,
           ends r.steps (seen_code (tables_of (manifest_view a.manifest)) page'.code, r.state) is,
         )
+
+    -- it asked at most as much as the turn may ask
+    pub asks_less : (page' : Page) → Renews a [] (λ n run. along_root_code_as by_number a.manifest.limit run (seen_code n page.code)) mid (λ n. seen_code n page'.code) page'.vm
+        → (count : ℕ) → Asks a [] (λ n run. along_asks_root by_number a.manifest.limit run (seen_code n page.code)) mid 0 count
+        → (t : session.Turn) → step (env_of a templates).app s (Some e) ≡ Some t → (1 ≤ count) × (count ≤ t.asked)
+    asks_less page' h count q t made' =
+        let n = tables_of (manifest_view a.manifest) in
+        let r = h templates rises laid.touched begun.agrees in
+        let y = q templates rises laid.touched begun.agrees in
+        let k = max r.steps y.steps in
+        let run = run_for_as by_number (env_of a templates) [] k in
+        let root = seen_code n page.code in
+        let now = put_all (puts_of (world_of a templates page s x) sets) (begin (state_of n page.vm x.touched)) in
+        let same' : state_of n mid laid.touched ≡ now = begun.state ∙ laid_is in
+        let is : along_root_code_as by_number (env_of a templates).app.limit run root now ≡ ok (seen_code n page'.code, r.state) =
+        ap (along_root_code_as by_number (env_of a templates).app.limit run root) (sym same') ∙ r.is k (omega arith) in
+        let less = puts_ask_along (env_of a templates) is_lowered differ s e t x.reached made' root (state_of n page.vm x.touched) x.placed x.follows (puts_of (world_of a templates page s x) sets) own held k (seen_code n page'.code, r.state) is in
+        let counted : count ≡ 0 + along_asks_root by_number (env_of a templates).app.limit run root now = y.is k (omega arith) ∙ ap (λ st. 0 + along_asks_root by_number (env_of a templates).app.limit run root st) same' in
+        let one = page_asked (env_of a templates).app.limit run root now (seen_code n page'.code, r.state) is in (omega (arith, one, counted), omega (arith, less, counted))
 
     pub too_deep : RenewsDeep {A = PlainCode} a [] (λ n run. along_root_code_as by_number a.manifest.limit run (seen_code n page.code)) mid → step (env_of a templates).app s (Some e) ≡ None
     too_deep h =

@@ -21,6 +21,7 @@ use Rattle.gl_naming.specs.Exist.{FieldsDiffer}
 use Rattle.gl_naming.proofs.Rules.{entries_differ}
 use Rattle.gl_machine.specs.Code.{Code as PlainCode, live_of}
 use Rattle.gl_guards.specs.Along.{along_root_code_as}
+use Rattle.gl_guards.specs.AlongAsks.{along_asks_root}
 use Rattle.gl_guards.specs.Once.{KeysOnce}
 use Rattle.gl_guards.proofs.Once.{keys_are_once}
 use Rattle.gl_machine.specs.Shape.{nest}
@@ -36,6 +37,7 @@ use Rattle.gl_code.specs.declared.fault.VmFault.TheVariants as fault
 use Rattle.gl_code.specs.declared.page.Page.{Page}
 use Rattle.gl_kept.specs.Between.{moved_between}
 use Rattle.gl_code.specs.Renewing.{Renews, RenewsDeep, RenewFails}
+use Rattle.gl_update.specs.Questions.{Asks}
 use Rattle.gl_actions.specs.Sets as acts
 use Rattle.gl_actions.specs.Own.{AreOwnSets}
 use Rattle.gl_actions.specs.World.{sets_in}
@@ -47,10 +49,10 @@ use Rattle.gl_standing.specs.Standing.{StandsIn}
 use Rattle.gl_texts.specs.Lines.{destroyed_lines}
 use Rattle.gl_session.specs.Laying.{GivensFor, touch_of, touch_all}
 use Rattle.gl_session.specs.declared.laying.Given.{Given}
-use Rattle.gl_session.specs.Standing.{Goes, TurnFails, app_with}
+use Rattle.gl_session.specs.Standing.{Goes, TurnFails, TurnAsks, app_with}
 use Rattle.gl_session.specs.Telling.{committed}
 use Rattle.gl_session.specs.declared.turn.Turn.{Turn}
-use Rattle.gl_session.proofs.Next.{laid, renewed, too_deep}
+use Rattle.gl_session.proofs.Next.{laid, renewed, asks_less, too_deep}
 use Rattle.gl_session.proofs.Pages.{Did, written, goes}
 use Rattle.gl_session.proofs.Words.{ended_lines, first_made, first_fails}
 
@@ -105,6 +107,11 @@ module _ (a : App) (templates : List Body) (rises : NamesRise (manifest_view a.m
       r.0 (moved_between (live_of (seen_code (tables_of (manifest_view a.manifest)) page.code)) l') r.2 r.1 (nested (tables_of (manifest_view a.manifest))) flat sound (stepped e x.reached r.2.is) (head_line turn (Some e)) (missing_lines missing) made
       (ap (λ k. head_line k (Some e)) t) (ap missing_lines q) (w ∙ ap (λ z. written a templates page' s (Some e) z r.0 (head_line turn (Some e)) (missing_lines missing)) told)
       (record { evaluated = did'.evaluated; made = did'.made ∙ ap (λ k. page'.vm.tree.nodes.made - k) first; moved = did'.moved ∙ moves (tables_of (manifest_view a.manifest)) once })
+
+  -- it asked at most as much as the turn may ask
+  pub next_asks : (page' : Page) → Renews a [] (λ n run. along_root_code_as by_number a.manifest.limit run (seen_code n page.code)) mid (λ n. seen_code n page'.code) page'.vm
+      → (count : ℕ) → Asks a [] (λ n run. along_asks_root by_number a.manifest.limit run (seen_code n page.code)) mid 0 count → TurnAsks a templates s e count
+  next_asks page' h count q = λ t is. asks_less a templates rises lowered (fields_differ a templates rises) page s x e sets givens same owned found mid begun page' h count q t is
 
   pub next_is_deep : RenewsDeep {A = PlainCode} a [] (λ n run. along_root_code_as by_number a.manifest.limit run (seen_code n page.code)) mid → step (app_with a templates) s (Some e) ≡ None
   next_is_deep h = too_deep a templates rises lowered (fields_differ a templates rises) page s x e sets givens same owned found mid begun h

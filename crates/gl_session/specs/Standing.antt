@@ -1,5 +1,5 @@
 -- What a session stands for.
-use Rattle.std.specs.Prelude.{◌≡◌, List, Option, Some, None}
+use Rattle.std.specs.Prelude.{◌≡◌, ◌≤◌, ℕ, ◌+◌, List, Option, Some, None}
 use Rattle.gl_ast.specs.Template.{Body}
 use Rattle.gl_meaning.specs.App as m
 use Rattle.gl_meaning.specs.Manifest.{app_of}
@@ -17,7 +17,7 @@ use Rattle.gl_session.specs.declared.fault.EventFault.{EventFault}
 use Rattle.gl_session.specs.declared.fault.EventFault.TheVariants as event
 use Rattle.gl_session.specs.declared.session.Session.{Session}
 use Rattle.gl_session.specs.declared.turn.Turn.{Turn}
-use Rattle.gl_session.specs.Turn.{TellsTurn, work_view, work_of}
+use Rattle.gl_session.specs.Turn.{TellsTurn, work_view, work_of, asked_of}
 
 -- the application with these templates, as the meaning has it
 abbrev pub app_with : App → List Body → m.App
@@ -35,6 +35,14 @@ pub record StandsAt (x : Session) (a : App) (templates : List Body) (s : session
 -- its counts are the work of these turns together
 abbrev pub Counts : Session → List session.Turn → Type 0
 Counts x turns = work_view x.counts ≡ work_of turns
+
+-- it asked at most as much as these turns may ask
+abbrev pub AsksAtMost : Session → List session.Turn → Type 0
+AsksAtMost x turns = x.asks ≤ asked_of turns
+
+-- So many questions are at most as many as the turn of an event may ask.
+abbrev pub TurnAsks : App → List Body → session.State → m.Event → ℕ → Type 0
+TurnAsks a templates s e count = (t : session.Turn) → step (app_with a templates) s (Some e) ≡ Some t → (1 ≤ count) × (count ≤ t.asked)
 
 -- a session that was started may go on
 abbrev pub IsReady : Session → Type 0
@@ -54,6 +62,10 @@ Starts a templates x made = (t : session.Turn) × (step (app_with a templates) f
 -- The session stands in the state after the turn of the event, the text and work of which are told.
 abbrev pub Turns : App → List Body → session.State → m.Event → Session → Turn → Type 0
 Turns a templates s e x made = (t : session.Turn) × (step (app_with a templates) s (Some e) ≡ Some t) × TellsTurn made t × StandsAt x a templates t.state
+
+-- The session asked more, by at most as much as the turn of the event may ask.
+abbrev pub Asked : App → List Body → session.State → m.Event → Session → Session → Type 0
+Asked a templates s e old new = (t : session.Turn) → step (app_with a templates) s (Some e) ≡ Some t → (old.asks + 1 ≤ new.asks) × (new.asks ≤ old.asks + t.asked)
 
 -- a component would stand too deep: there is no such turn
 abbrev pub TurnFails : App → List Body → session.State → Option m.Event → VmFault → Type 0

@@ -1,5 +1,5 @@
 -- What a turn tells, and the work of some turns.
-use Rattle.std.specs.Prelude.{◌≡◌, ◌+◌, List, [], ◌∷◌}
+use Rattle.std.specs.Prelude.{◌≡◌, ℕ, ◌+◌, List, [], ◌∷◌}
 use Rattle.gl_meaning.specs.Session as session
 use Rattle.gl_meaning.specs.Work as m
 use Rattle.gl_session.specs.declared.turn.Turn.{Turn}
@@ -24,3 +24,8 @@ added v w = record { evaluated = v.evaluated + w.evaluated; made = v.made + w.ma
 abbrev pub work_of : List session.Turn → m.Work
 work_of [] = no_work
 work_of (t ∷ ts) = added t.work (work_of ts)
+
+-- how many questions these turns may ask together
+abbrev pub asked_of : List session.Turn → ℕ
+asked_of [] = 0
+asked_of (t ∷ ts) = t.asked + asked_of ts

@@ -1,5 +1,5 @@
 // A turn: what it writes, and how much it had to do.
-ghost use Rattle.std.specs.Prelude.{◌≡◌, IfOk};
+ghost use Rattle.std.specs.Prelude.{◌≡◌, ◌+◌, IfOk};
 ghost use Rattle.gl_session.specs.Turn.{work_view, added};
 
 use gl_value::Text;
@@ -39,4 +39,21 @@ impl Work {
 pub struct Turn {
     pub text: Text,
     pub work: Work,
+}
+
+/// A turn of an event, and how many questions the update answered in it.
+#[derive(Drop)]
+pub(crate) struct Made {
+    pub(crate) turn: Turn,
+    pub(crate) asked: u128,
+}
+
+/// Questions with those of one more turn, likewise.
+pub(crate) fn summed(asks: u128, more: u128) -> Result<u128, AllocError>
+    ensures { IfOk result (λ n. n ≡ asks + more) }
+{
+    match asks.checked_add(more) {
+        Some(all) => Ok(all),
+        None => Err(AllocError),
+    }
 }

@@ -10,6 +10,7 @@ ghost use Rattle.gl_opc.specs.IsApp.{IsAppWith};
 ghost use Rattle.gl_plain.specs.Naming.{by_number};
 ghost use Rattle.gl_machine.specs.Code.{Code as PlainCode, live_of};
 ghost use Rattle.gl_guards.specs.Along.{along_root_code_as};
+ghost use Rattle.gl_guards.specs.AlongAsks.{along_asks_root};
 ghost use Rattle.gl_guards.specs.Once.{KeysOnce};
 ghost use Rattle.gl_machine.specs.Shape.{nest};
 ghost use Rattle.gl_kept.specs.Between.{moved_between};
@@ -18,10 +19,11 @@ ghost use Rattle.gl_code.specs.CodeView.{seen_code};
 ghost use Rattle.gl_code.specs.Hung.{nest_of};
 ghost use Rattle.gl_code.specs.Renewing.{Renews, RenewFails};
 ghost use Rattle.gl_standing.specs.Standing.{StandsIn};
-ghost use Rattle.gl_session.specs.Standing.{Goes, TurnFails};
+ghost use Rattle.gl_session.specs.Standing.{Goes, TurnFails, TurnAsks};
+ghost use Rattle.gl_update.specs.Questions.{Asks};
 
 use crate::laying::{begin_turn, givens_for, lay};
-use crate::turn::{Turn, Work};
+use crate::turn::{Made, Turn, Work};
 use crate::writing::{front, push_committed};
 use gl_append::{Opcodes, append};
 use gl_code::{Cells, Page, VmFault};
@@ -29,7 +31,7 @@ use gl_events::{Applied, apply};
 use gl_gone::{Standing, push_destroyed, standing};
 use gl_meaning::Event;
 use gl_opc::App;
-use gl_update::update;
+use gl_update::{Moved, update};
 use gl_value::Text;
 use std::alloc::{AllocError, Global};
 
@@ -80,18 +82,19 @@ fn first_made(alloc: Global, app: &App, page: Page) -> Result<(Page, Turn), Allo
 }
 
 /// A page that is updated, and whose nodes stand in the tree as they were rendered then. It answers how many items were moved, where no key of
-/// a list stood twice.
-fn renew(alloc: Global, app: &App, page: &mut Page) -> Result<u128, VmFault>
+/// a list stood twice, and how many questions were answered.
+fn renew(alloc: Global, app: &App, page: &mut Page) -> Result<Moved, VmFault>
     requires calm { Calm page.old.vm }
     ensures ok { OnOk result (Renews app.now [] (λ n run. along_root_code_as by_number app.now.manifest.limit run (seen_code n page.old.code)) page.old.vm (λ n. seen_code n page.new.code) page.new.vm) }
     ensures nodes { OnOk result ((n : _) → nest_of page.new.vm.tree.forest ≡ nest (live_of (seen_code n page.new.code))) }
     ensures fails { IfErr result (RenewFails {A = PlainCode} app.now [] (λ n run. along_root_code_as by_number app.now.manifest.limit run (seen_code n page.old.code)) page.old.vm) }
-    ensures moved { IfOk result (λ m. (n : _) → KeysOnce (live_of (seen_code n page.old.code)) → m ≡ moved_between (live_of (seen_code n page.old.code)) (live_of (seen_code n page.new.code))) }
+    ensures moved { IfOk result (λ m. (n : _) → KeysOnce (live_of (seen_code n page.old.code)) → m.items ≡ moved_between (live_of (seen_code n page.old.code)) (live_of (seen_code n page.new.code))) }
+    ensures asked { IfOk result (λ m. Asks app.now [] (λ n run. along_asks_root by_number app.now.manifest.limit run (seen_code n page.old.code)) page.old.vm 0 m.asked) }
     ensures calm { Calm page.new.vm }
 {
     let cells = Cells::new(alloc);
     match update::<Opcodes>(alloc, app, &cells, page) {
-        Ok(moved) => Ok(moved.items),
+        Ok(moved) => Ok(moved),
         Err(fault) => Err(fault),
     }
 }
@@ -117,16 +120,17 @@ fn next_text(
     Ok(text)
 }
 
-/// A page after the turn of an event, and that turn.
+/// A page after the turn of an event, and that turn, with the questions that were answered: at most as many as the meaning's turn has.
 pub(crate) fn next_turn(
     alloc: Global,
     app: &App,
     page: &mut Page,
     turn: u128,
     event: &Event,
-) -> Result<Turn, VmFault>
+) -> Result<Made, VmFault>
     requires calm { Calm page.old.vm }
-    ensures ok { IfOk result (λ t. (templates : List Body) (s : session.State) → IsAppWith (manifest_view app.now.manifest) templates app.now.programs → StandsIn app.now templates page.old s → turn ≡ s.turn → Goes app.now templates s (Some (event_view event.now)) page.new t) }
+    ensures ok { IfOk result (λ r. (templates : List Body) (s : session.State) → IsAppWith (manifest_view app.now.manifest) templates app.now.programs → StandsIn app.now templates page.old s → turn ≡ s.turn → Goes app.now templates s (Some (event_view event.now)) page.new r.turn) }
+    ensures asked { IfOk result (λ r. (templates : List Body) (s : session.State) → IsAppWith (manifest_view app.now.manifest) templates app.now.programs → StandsIn app.now templates page.old s → TurnAsks app.now templates s (event_view event.now) r.asked) }
     ensures fails { IfErr result (λ f. (templates : List Body) (s : session.State) → IsAppWith (manifest_view app.now.manifest) templates app.now.programs → StandsIn app.now templates page.old s → TurnFails app.now templates s (Some (event_view event.now)) f) }
     ensures calm { Calm page.new.vm }
 {
@@ -139,9 +143,12 @@ pub(crate) fn next_turn(
     lay(&mut page.vm, givens)?;
     match renew(alloc, app, page) {
         Ok(moved) => {
-            let work = work_of(page, first, moved);
+            let work = work_of(page, first, moved.items);
             let text = next_text(alloc, app, page, turn, event, missing.as_slice(), &before)?;
-            Ok(Turn { text, work })
+            Ok(Made {
+                turn: Turn { text, work },
+                asked: moved.asked,
+            })
         }
         Err(fault) => Err(fault),
     }

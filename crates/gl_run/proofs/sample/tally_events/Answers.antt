@@ -13,6 +13,6 @@ loop-event-preserved c =
           let here = ap seen_events (drop_item items i c.event-item.result c.loop-event-test.true c.event-item.is) in
           let counted = rw here at (c.loop-event.invariant.counted app templates r) in
           let turns = c.in_ok-made.ensures.turns.stands app templates counted.state counted.stands in
-          turn_counted app templates c.args.script.now.events (event_view c.event-item.result) (seen_events (drop (i + 1) items)) c.loop-event.session c.loop-event.tally counted _ _ _ turns c.in_ok-made.ensures.turns.counts c.in_ok-tally.ensures.turns c.in_ok-tally.ensures.bytes c.in_ok-tally.ensures.last;
+          turn_counted app templates c.args.script.now.events (event_view c.event-item.result) (seen_events (drop (i + 1) items)) c.loop-event.session c.loop-event.tally counted _ _ _ turns c.in_ok-made.ensures.turns.counts (c.in_ok-made.ensures.turns.asks app templates counted.state counted.stands) c.in_ok-tally.ensures.turns c.in_ok-tally.ensures.bytes c.in_ok-tally.ensures.last;
       ready = c.in_ok-made.ensures.ready;
     }
