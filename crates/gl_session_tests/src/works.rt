@@ -134,11 +134,23 @@ fn files_of(
     Ok(files)
 }
 
-// What the session that is left has counted, and how much stands there.
-fn left(last: &Last) -> (Option<Work>, Option<Live>) {
+// What a session has counted, how much stands there, and how many questions it asked.
+#[derive(Drop)]
+struct Left {
+    counts: Work,
+    live: Live,
+    asks: u128,
+}
+
+// The same of the session that is left.
+fn left(last: &Last) -> Option<Left> {
     match &last.session {
-        Some(session) => (Some(session.counts()), Some(session.live())),
-        None => (None, None),
+        Some(session) => Some(Left {
+            counts: session.counts(),
+            live: session.live(),
+            asks: session.asks(),
+        }),
+        None => None,
     }
 }
 
@@ -148,7 +160,7 @@ fn played(
     command: &str,
     files: Files,
     out: &mut CalmSink,
-) -> (Status, (Option<Work>, Option<Live>)) {
+) -> (Status, Option<Left>) {
     let mut shelf = CalmShelf::new(files);
     let mut err = CalmSink::new(alloc);
     let mut last = Last::new();
@@ -159,7 +171,7 @@ fn played(
 
 fn check_row(rt: &impl Abort, alloc: Global, row: &Row) -> Result<(), Fail> {
     let mut out = CalmSink::new(alloc);
-    let (status, (counts, _)) = played(
+    let (status, left) = played(
         alloc,
         "work",
         files_of(alloc, row.1, row.2, row.3)?,
@@ -167,6 +179,10 @@ fn check_row(rt: &impl Abort, alloc: Global, row: &Row) -> Result<(), Fail> {
     );
     assert_eq!(rt; status, row.4, "{}", row.0);
     assert_eq!(rt; out.taken(), row.5.as_bytes(), "{}", row.0);
+    let counts = match left {
+        Some(left) => Some(left.counts),
+        None => None,
+    };
     assert_eq!(rt; counts, row.6, "{}", row.0);
     Ok(())
 }
@@ -175,6 +191,71 @@ fn check_row(rt: &impl Abort, alloc: Global, row: &Row) -> Result<(), Fail> {
 fn works(rt: HostRuntime) -> Result<(), Fail> {
     for row in &ROWS {
         check_row(&rt, rt.alloc(), row)?;
+    }
+    Ok(())
+}
+
+// What it shows, the template, the script, and how many questions the session asks at most.
+type Asking = (&'static str, &'static str, &'static str, u128);
+
+const LIST: &str =
+    "{\"classes\":{\"App\":{\"fields\":{\"a\":1,\"b\":1,\"l\":[1,2,3]},\"template\":\"app.hbs\"}},\"root\":\"App\"}";
+
+static ASKINGS: [Asking; 6] = [
+    (
+        "the whole, and its three members, of which the branch is fresh",
+        "<i>{{this.a}}</i>{{#if true}}{{this.b}}{{this.b}}{{this.b}}{{/if}}",
+        "[{\"set\":\"a\",\"to\":2}]",
+        4,
+    ),
+    (
+        "the whole alone, where nothing that is shown is set",
+        "<i>{{this.a}}</i>{{#if true}}{{this.a}}{{/if}}",
+        "[{\"set\":\"b\",\"to\":2}]",
+        1,
+    ),
+    (
+        "the branch too, where it is what reads the field",
+        "<i>{{this.a}}</i>{{#if true}}{{this.b}}{{this.b}}{{this.b}}{{/if}}",
+        "[{\"set\":\"b\",\"to\":2}]",
+        7,
+    ),
+    (
+        "the items together, where a list is set to what it was",
+        "{{#each this.l as |x|}}<b>{{x}}{{x}}</b>{{/each}}",
+        "[{\"set\":\"l\",\"to\":[1,2,3]}]",
+        3,
+    ),
+    (
+        "each item, and what is in the one whose value changed",
+        "{{#each this.l key=\"@index\" as |x|}}<b>{{x}}{{x}}</b>{{/each}}",
+        "[{\"set\":\"l\",\"to\":[1,9,3]}]",
+        8,
+    ),
+    (
+        "two turns",
+        "<i>{{this.a}}</i>{{#if true}}{{this.b}}{{this.b}}{{this.b}}{{/if}}",
+        "[{\"set\":\"a\",\"to\":2},{\"set\":\"b\",\"to\":2}]",
+        11,
+    ),
+];
+
+fn check_asking(rt: &impl Abort, alloc: Global, row: &Asking) -> Result<(), Fail> {
+    let mut out = CalmSink::new(alloc);
+    let files = files_of(alloc, LIST, &[("app.hbs", row.1)], row.2)?;
+    let (status, left) = played(alloc, "run", files, &mut out);
+    assert_eq!(rt; status, Status::Done, "{}", row.0);
+    match left {
+        Some(left) => assert!(rt; left.asks <= row.3, "{}", row.0),
+        None => assert!(rt; false),
+    }
+    Ok(())
+}
+
+#[test]
+fn questions(rt: HostRuntime) -> Result<(), Fail> {
+    for row in &ASKINGS {
+        check_asking(&rt, rt.alloc(), row)?;
     }
     Ok(())
 }
@@ -201,7 +282,7 @@ fn check_kept(
         ("kid.hbs", "<b {{on \"click\" this.inc}}>{{this.c}}</b>"),
     ];
     let mut out = CalmSink::new(alloc);
-    let (status, (_, found)) = played(
+    let (status, left) = played(
         alloc,
         "run",
         files_of(alloc, KID, &templates, script)?,
@@ -209,7 +290,10 @@ fn check_kept(
     );
     assert_eq!(rt; status, Status::Done);
     assert!(rt; out.taken().ends_with(end.as_bytes()));
-    assert_eq!(rt; found, Some(live));
+    match left {
+        Some(left) => assert_eq!(rt; left.live, live),
+        None => assert!(rt; false),
+    }
     Ok(())
 }
 
