@@ -143,7 +143,7 @@ struct Left {
 }
 
 // The same of the session that is left.
-fn left(last: &Last) -> Option<Left> {
+fn of_last(last: &Last) -> Option<Left> {
     match &last.session {
         Some(session) => Some(Left {
             counts: session.counts(),
@@ -166,7 +166,7 @@ fn played(
     let mut last = Last::new();
     let words = [command, "m.json", "s.json"];
     let status = run(alloc, &words, &mut shelf, out, &mut err, &mut last);
-    (status, left(&last))
+    (status, of_last(&last))
 }
 
 fn check_row(rt: &impl Abort, alloc: Global, row: &Row) -> Result<(), Fail> {
