@@ -2,6 +2,7 @@
 ghost use Rattle.std.specs.Prelude.{OnOk};
 ghost use Rattle.gl_machine.specs.Step as s;
 ghost use Rattle.gl_vm.specs.View.{Calm};
+ghost use Rattle.gl_vm.specs.Steps.{Rooted};
 ghost use Rattle.gl_append.specs.Steps.{EndsFrame};
 
 use crate::machine::{Frame, Kind, Machine};
@@ -14,6 +15,7 @@ impl Machine {
     pub(crate) fn do_end_if(&mut self, vm: &mut Vm, frame: Frame) -> Result<(), AllocError>
         ensures step { OnOk result (EndsFrame (λ n. s.do_end_if) vm.old self.old frame vm.new self.new) }
         ensures calm { Calm vm.old → Calm vm.new }
+        ensures roots { OnOk result (Rooted vm.old.tree vm.new.tree) }
     {
         let Frame { here, kind } = frame;
         match kind {

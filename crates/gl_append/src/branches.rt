@@ -44,6 +44,7 @@ impl Machine {
         requires calm { Calm vm.old }
         ensures step { OnOk result (Takes (λ n m. s.do_if unless other m (m.stack, seen_pushed top)) vm.old self.old vm.new self.new) }
         ensures calm { Calm vm.new }
+        ensures tree { vm.new.tree ≡ vm.old.tree }
     {
         if !vm.refs.readable(top.id) {
             return Err(AllocError);

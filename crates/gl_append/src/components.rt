@@ -30,6 +30,7 @@ fn pass(vm: &mut Vm, alloc: Global, class: u16, owner: Id<InstMark>) -> Result<B
     ensures step { IfOk result (λ id. Does (λ n. make a_block block_row) vm.old vm.new) }
     ensures id { IfOk result (λ id. Numbers vm.old.scopes vm.new.scopes id) }
     ensures calm { Calm vm.old → Calm vm.new }
+    ensures tree { vm.new.tree ≡ vm.old.tree }
 {
     vm.block(Block {
         class,
@@ -54,6 +55,7 @@ impl Machine {
     ) -> Result<(), AllocError>
         ensures step { OnOk result (Invokes (class_view class.now) cells.now vm.old self.old vm.new self.new) }
         ensures calm { Calm vm.old → Calm vm.new }
+        ensures tree { vm.new.tree ≡ vm.old.tree }
     {
         let path = self.next_path()?;
         let path = onward(path, PathStep::Into(class.name.copy()?))?;

@@ -1,8 +1,9 @@
 // Elements: where a tag ends and the body begins, and where the body ends.
-ghost use Rattle.std.specs.Prelude.{map, OnOk};
+ghost use Rattle.std.specs.Prelude.{◌≡◌, map, OnOk};
 ghost use Rattle.gl_meaning.specs.View.{path_view};
 ghost use Rattle.gl_machine.specs.Step as s;
 ghost use Rattle.gl_vm.specs.View.{Agrees, Calm};
+ghost use Rattle.gl_vm.specs.Steps.{Rooted};
 ghost use Rattle.gl_code.specs.CodeView.{seen_attr_spot};
 ghost use Rattle.gl_append.specs.MachineView.{seen_here, seen_kind, mach_of};
 ghost use Rattle.gl_parts.specs.Parts.{seen_parts};
@@ -47,6 +48,7 @@ impl Machine {
     fn begin_element(&mut self, vm: &mut Vm, given: Attributes) -> Result<(), AllocError>
         ensures step { OnOk result (Takes (λ n. element_begun given.attrs.items (map seen_attr_spot given.spots.items)) vm.old self.old vm.new self.new) }
         ensures calm { Calm vm.old → Calm vm.new }
+        ensures roots { OnOk result (Rooted vm.old.tree vm.new.tree) }
     {
         let Attributes { attrs, spots } = given;
         let path = self.next_path()?;
@@ -60,6 +62,7 @@ impl Machine {
         requires calm { Calm vm.old }
         ensures step { OnOk result (Takes (λ n. s.do_flush) vm.old self.old vm.new self.new) }
         ensures calm { Calm vm.new }
+        ensures roots { OnOk result (Rooted vm.old.tree vm.new.tree) }
     {
         let given = flush(self.alloc, vm, self.making.parts.as_slice())?;
         self.begin_element(vm, given)
@@ -70,6 +73,7 @@ impl Machine {
         requires calm { Calm vm.old }
         ensures step { OnOk result (Takes (λ n m. s.with_top m s.do_close) vm.old self.old vm.new self.new) }
         ensures calm { Calm vm.new }
+        ensures tree { vm.new.tree ≡ vm.old.tree }
     {
         match self.pop_frame()? {
             Some(frame) => self.end_element(vm, frame),
@@ -82,6 +86,7 @@ impl Machine {
         requires calm { Calm vm.old }
         ensures step { OnOk result ((n : _) (touched : _) → Agrees touched vm.old → GoesOn n (s.do_close (mach_of n touched vm.old self.old) (mach_of n touched vm.old self.old).rest.frames (seen_here n frame.here) (seen_kind n frame.kind)) vm.new self.new) }
         ensures calm { Calm vm.new }
+        ensures tree { vm.new.tree ≡ vm.old.tree }
     {
         if self.is_calling() {
             return Err(AllocError);

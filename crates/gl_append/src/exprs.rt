@@ -51,6 +51,7 @@ impl Machine {
     pub(crate) fn push_constant(&mut self, vm: &mut Vm, value: Value) -> Result<(), AllocError>
         ensures step { OnOk result (Takes (λ n. s.push_new (constant_form (labelled (view value)))) vm.old self.old vm.new self.new) }
         ensures calm { Calm vm.old → Calm vm.new }
+        ensures tree { vm.new.tree ≡ vm.old.tree }
     {
         let id = vm.constant(value)?;
         self.push_made(id)
@@ -60,6 +61,7 @@ impl Machine {
     pub(crate) fn push_new(&mut self, vm: &mut Vm, form: Form) -> Result<(), AllocError>
         ensures step { OnOk result (Takes (λ n. s.push_new (seen_form vm.old.refs.rows.made (code_form form))) vm.old self.old vm.new self.new) }
         ensures calm { Calm vm.old → Calm vm.new }
+        ensures tree { vm.new.tree ≡ vm.old.tree }
     {
         let id = bind(vm, form)?;
         self.push_made(id)
@@ -84,6 +86,7 @@ impl Machine {
     ) -> Result<(), AllocError>
         ensures step { OnOk result (Takes (λ n m. s.do_prop name.now m (m.stack, seen_pushed top)) vm.old self.old vm.new self.new) }
         ensures calm { Calm vm.old → Calm vm.new }
+        ensures tree { vm.new.tree ≡ vm.old.tree }
     {
         let name = name.copy()?;
         self.push_new(vm, Form::Prop(top.id, name))
@@ -93,6 +96,7 @@ impl Machine {
     pub(crate) fn do_cat(&mut self, vm: &mut Vm, count: u32) -> Result<(), AllocError>
         ensures step { OnOk result (Takes (λ n. s.do_cat count) vm.old self.old vm.new self.new) }
         ensures calm { Calm vm.old → Calm vm.new }
+        ensures tree { vm.new.tree ≡ vm.old.tree }
     {
         let taken = take_last(&mut self.stack, count)?;
         let ids = positional(self.alloc, taken.as_slice())?;
@@ -103,6 +107,7 @@ impl Machine {
     pub(crate) fn do_call(&mut self, vm: &mut Vm, helper: u16, count: u32) -> Result<(), AllocError>
         ensures step { OnOk result (Takes (λ n. s.do_call count (helper_name helper)) vm.old self.old vm.new self.new) }
         ensures calm { Calm vm.old → Calm vm.new }
+        ensures tree { vm.new.tree ≡ vm.old.tree }
     {
         let taken = take_last(&mut self.stack, count)?;
         let ids = positional(self.alloc, taken.as_slice())?;
@@ -124,6 +129,7 @@ impl Machine {
     pub(crate) fn do_arg_ref(&mut self, vm: &mut Vm, name: &Text) -> Result<(), AllocError>
         ensures step { OnOk result (Takes (λ n m. s.push_found (last_named name.now (args_in m.rest.sight)) m) vm.old self.old vm.new self.new) }
         ensures calm { Calm vm.old → Calm vm.new }
+        ensures tree { vm.new.tree ≡ vm.old.tree }
     {
         match self.sight.level.args.as_ref().get(name.as_str()) {
             Some(id) => self.push_old(id),

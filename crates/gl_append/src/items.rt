@@ -8,6 +8,7 @@ ghost use Rattle.gl_plain.specs.Naming.{by_number};
 ghost use Rattle.gl_machine.specs.Mach as m;
 ghost use Rattle.gl_machine.specs.Step as s;
 ghost use Rattle.gl_vm.specs.View.{Calm};
+ghost use Rattle.gl_vm.specs.Steps.{Rooted};
 ghost use Rattle.gl_code.specs.View.{seen_sight};
 ghost use Rattle.gl_append.specs.MachineView.{seen_here, seen_kind};
 ghost use Rattle.gl_code.specs.Entries.{seen_left};
@@ -71,6 +72,7 @@ impl Machine {
     ) -> Result<(), AllocError>
         ensures step { OnOk result (ItemBegins vm.old self.old iteration entry vm.new self.new) }
         ensures calm { Calm vm.old → Calm vm.new }
+        ensures tree { vm.new.tree ≡ vm.old.tree }
     {
         let path = self.item_path(&entry.key, entry.occurrence)?;
         let value = vm.item(entry.value)?;
@@ -90,6 +92,7 @@ impl Machine {
     fn begin_next_item(&mut self, vm: &mut Vm, iteration: Iteration) -> Result<(), AllocError>
         ensures step { OnOk result (EndsCall (λ n. s.do_item_as by_number) vm.old self.old (Call.Each iteration) vm.new self.new) }
         ensures calm { Calm vm.old → Calm vm.new }
+        ensures tree { vm.new.tree ≡ vm.old.tree }
     {
         let mut iteration = iteration;
         match iteration.left.pop() {
@@ -101,6 +104,7 @@ impl Machine {
     fn continue_list(&mut self, vm: &mut Vm, call: Call) -> Result<(), AllocError>
         ensures step { OnOk result (EndsCall (λ n. s.do_item_as by_number) vm.old self.old call vm.new self.new) }
         ensures calm { Calm vm.old → Calm vm.new }
+        ensures tree { vm.new.tree ≡ vm.old.tree }
     {
         match call {
             Call::Each(iteration) => self.begin_next_item(vm, iteration),
@@ -112,6 +116,7 @@ impl Machine {
     pub(crate) fn do_item(&mut self, vm: &mut Vm) -> Result<(), AllocError>
         ensures step { OnOk result (Takes (λ n k. s.with_top k (s.do_item_as by_number)) vm.old self.old vm.new self.new) }
         ensures calm { Calm vm.old → Calm vm.new }
+        ensures tree { vm.new.tree ≡ vm.old.tree }
     {
         match self.pop_call() {
             Some(call) => self.continue_list(vm, call),
@@ -123,6 +128,7 @@ impl Machine {
     pub(crate) fn do_end_item(&mut self, vm: &mut Vm, frame: Frame) -> Result<(), AllocError>
         ensures step { OnOk result (EndsFrame (λ n. s.do_end_item) vm.old self.old frame vm.new self.new) }
         ensures calm { Calm vm.old → Calm vm.new }
+        ensures roots { OnOk result (Rooted vm.old.tree vm.new.tree) }
     {
         let Frame { here, kind } = frame;
         match kind {

@@ -128,6 +128,7 @@ impl Machine {
     pub(crate) fn do_bind(&mut self, vm: &mut Vm, symbol: u32) -> Result<(), AllocError>
         ensures step { OnOk result (Takes (λ n m. s.do_bind symbol m m.rest.pending) vm.old self.old vm.new self.new) }
         ensures calm { Calm vm.old → Calm vm.new }
+        ensures tree { vm.new.tree ≡ vm.old.tree }
     {
         match take_first(self.alloc, &mut self.pending)? {
             Some(id) => self.add_param(symbol, id),

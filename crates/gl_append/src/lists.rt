@@ -6,6 +6,7 @@ ghost use Rattle.gl_plain.specs.Ids.{ref};
 ghost use Rattle.gl_machine.specs.Mach as m;
 ghost use Rattle.gl_machine.specs.Step as s;
 ghost use Rattle.gl_vm.specs.View.{Calm};
+ghost use Rattle.gl_vm.specs.Steps.{Rooted};
 ghost use Rattle.gl_code.specs.CodeView.{seen_listing, seen_spot};
 ghost use Rattle.gl_append.specs.MachineView.{seen_here, seen_pushed, call_kind};
 ghost use Rattle.gl_code.specs.Entries.{seen_left};
@@ -99,6 +100,7 @@ impl Machine {
         requires calm { Calm vm.old }
         ensures step { OnOk result (Takes (λ n k. each_at key.now other operands k (k.stack, seen_pushed top)) vm.old self.old vm.new self.new) }
         ensures calm { Calm vm.new }
+        ensures tree { vm.new.tree ≡ vm.old.tree }
     {
         if !vm.refs.readable(top.id) {
             return Err(AllocError);
@@ -128,6 +130,7 @@ impl Machine {
     pub(crate) fn do_end_each(&mut self, vm: &mut Vm, frame: Frame) -> Result<(), AllocError>
         ensures step { OnOk result (EndsFrame (λ n. s.do_end_each) vm.old self.old frame vm.new self.new) }
         ensures calm { Calm vm.old → Calm vm.new }
+        ensures roots { OnOk result (Rooted vm.old.tree vm.new.tree) }
     {
         let Frame { here, kind } = frame;
         match kind {

@@ -42,6 +42,7 @@ impl Machine {
     pub(crate) fn do_action(&mut self, vm: &mut Vm, name: &Text) -> Result<(), AllocError>
         ensures step { OnOk result (Takes (λ n m. s.push_new (constant_form (v.action (by_number.owner (inst_in m.rest.sight)) name.now v.no_values)) m) vm.old self.old vm.new self.new) }
         ensures calm { Calm vm.old → Calm vm.new }
+        ensures tree { vm.new.tree ≡ vm.old.tree }
     {
         let owner = self.sight.level.owner.as_ref().id.number();
         let name = name.copy()?;

@@ -1,8 +1,9 @@
 // Programs that end, and components of which the program begins.
-ghost use Rattle.std.specs.Prelude.{IfOk};
+ghost use Rattle.std.specs.Prelude.{◌≡◌, IfOk};
 ghost use Rattle.gl_plain.specs.Naming.{by_number};
 ghost use Rattle.gl_machine.specs.Step as s;
 ghost use Rattle.gl_vm.specs.View.{Calm};
+ghost use Rattle.gl_vm.specs.Steps.{Rooted};
 ghost use Rattle.gl_append.specs.Stepping.{Stepped, StepsIn};
 
 use crate::machine::{Call, Machine};
@@ -59,6 +60,7 @@ impl Machine {
         requires calm { Calm vm.old }
         ensures step { IfOk result (λ r. StepsIn app.now cells.now (λ env store m. s.do_invoke_as by_number env store m m.rest.left) vm.old self.old vm.new self.new r) }
         ensures calm { Calm vm.new }
+        ensures tree { vm.new.tree ≡ vm.old.tree }
     {
         if self.left == 0 {
             return Ok(Next::TooDeep);
@@ -72,6 +74,7 @@ impl Machine {
     pub(crate) fn leave_each(&mut self, vm: &mut Vm) -> Result<Next, AllocError>
         ensures step { IfOk result (λ r. (n : _) → Stepped n (λ m. s.with_end m s.do_end_each) vm.old self.old vm.new self.new r) }
         ensures calm { Calm vm.old → Calm vm.new }
+        ensures roots { IfOk result (λ r. Rooted vm.old.tree vm.new.tree) }
     {
         if self.is_calling() {
             self.end_list()?;

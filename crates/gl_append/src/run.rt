@@ -6,6 +6,7 @@ ghost use Rattle.gl_machine.specs.Mach.{going};
 ghost use Rattle.gl_machine.specs.RenewCode.{start};
 ghost use Rattle.gl_machine.specs.Step.{begun, step_as};
 ghost use Rattle.gl_vm.specs.View.{Calm};
+ghost use Rattle.gl_vm.specs.Steps.{Rooted};
 ghost use Rattle.gl_code.specs.View.{seen_sight};
 ghost use Rattle.gl_append.specs.MachineView.{mach_by};
 ghost use Rattle.gl_append.specs.Stepping.{StepsIn, Finishes, StopsFor};
@@ -50,6 +51,7 @@ impl Machine {
         requires calm { Calm vm.old }
         ensures step { IfOk result (λ r. StepsIn app.now cells.now (λ env store. step_as by_number env store) vm.old self.old vm.new self.new r) }
         ensures calm { Calm vm.new }
+        ensures roots { IfOk result (λ r. Rooted vm.old.tree vm.new.tree) }
     {
         let program = self.program(app)?;
         let op = word_at(program, self.pc)?;
@@ -62,6 +64,7 @@ impl Machine {
         ensures ok { OnOk result (Finishes app.now cells.now vm.old self.old vm.new self.new) }
         ensures deep { IfErr result (StopsFor app.now cells.now vm.old self.old) }
         ensures calm { Calm vm.new }
+        ensures roots { OnOk result (Rooted vm.old.tree vm.new.tree) }
     {
         for _ in 0..u64::MAX {
             match self.step(vm, app, cells)? {

@@ -2,6 +2,7 @@
 ghost use Rattle.std.specs.Prelude.{OnOk};
 ghost use Rattle.gl_machine.specs.Step as s;
 ghost use Rattle.gl_vm.specs.View.{Calm};
+ghost use Rattle.gl_vm.specs.Steps.{Rooted};
 ghost use Rattle.gl_code.specs.CodeView.{seen_code};
 ghost use Rattle.gl_append.specs.MachineView.{seen_pushed};
 ghost use Rattle.gl_append.specs.Steps.{Moves, Takes};
@@ -33,6 +34,7 @@ impl Machine {
     pub(crate) fn do_text(&mut self, vm: &mut Vm, text: &Text) -> Result<(), AllocError>
         ensures step { OnOk result (Takes (λ n. s.do_text text.now) vm.old self.old vm.new self.new) }
         ensures calm { Calm vm.old → Calm vm.new }
+        ensures roots { OnOk result (Rooted vm.old.tree vm.new.tree) }
     {
         let node = vm.text(text.as_str())?;
         let code = Code::still(node);
@@ -43,6 +45,7 @@ impl Machine {
     pub(crate) fn do_comment(&mut self, vm: &mut Vm, text: &Text) -> Result<(), AllocError>
         ensures step { OnOk result (Takes (λ n. s.do_comment text.now) vm.old self.old vm.new self.new) }
         ensures calm { Calm vm.old → Calm vm.new }
+        ensures roots { OnOk result (Rooted vm.old.tree vm.new.tree) }
     {
         let node = vm.comment(text.as_str())?;
         let code = Code::still(node);
@@ -54,6 +57,7 @@ impl Machine {
         requires calm { Calm vm.old }
         ensures step { OnOk result (Takes (λ n m. s.do_put m (m.stack, seen_pushed top)) vm.old self.old vm.new self.new) }
         ensures calm { Calm vm.new }
+        ensures roots { OnOk result (Rooted vm.old.tree vm.new.tree) }
     {
         if !vm.refs.readable(top.id) {
             return Err(AllocError);

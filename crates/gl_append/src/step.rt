@@ -1,7 +1,8 @@
 // One word of a program: the opcode that stands there.
-ghost use Rattle.std.specs.Prelude.{IfOk, Some};
+ghost use Rattle.std.specs.Prelude.{◌≡◌, IfOk, Some};
 ghost use Rattle.gl_program.specs.View.{program_view};
 ghost use Rattle.gl_vm.specs.View.{Calm};
+ghost use Rattle.gl_vm.specs.Steps.{Rooted};
 ghost use Rattle.gl_append.specs.Stepping.{DoesOp};
 
 use crate::machine::Machine;
@@ -38,6 +39,7 @@ impl Machine {
         requires calm { Calm vm.old }
         ensures step { IfOk result (λ r. DoesOp app.now cells.now (program_view program.now) op vm.old self.old vm.new self.new r) }
         ensures calm { Calm vm.new }
+        ensures roots { IfOk result (λ r. Rooted vm.old.tree vm.new.tree) }
     {
         match op {
             Op::Text { b } => {
@@ -82,6 +84,7 @@ impl Machine {
         requires calm { Calm vm.old }
         ensures step { IfOk result (λ r. DoesOp app.now cells.now (program_view program.now) op vm.old self.old vm.new self.new r) }
         ensures calm { Calm vm.new }
+        ensures roots { IfOk result (λ r. Rooted vm.old.tree vm.new.tree) }
     {
         match op {
             Op::Open { b } => {
@@ -129,6 +132,7 @@ impl Machine {
         requires calm { Calm vm.old }
         ensures step { IfOk result (λ r. DoesOp app.now cells.now (program_view program.now) op vm.old self.old vm.new self.new r) }
         ensures calm { Calm vm.new }
+        ensures roots { IfOk result (λ r. Rooted vm.old.tree vm.new.tree) }
     {
         match op {
             Op::EndIf => match self.pop_frame()? {
@@ -164,6 +168,7 @@ impl Machine {
         requires calm { Calm vm.old }
         ensures step { IfOk result (λ r. DoesOp app.now cells.now (program_view program.now) op vm.old self.old vm.new self.new r) }
         ensures calm { Calm vm.new }
+        ensures roots { IfOk result (λ r. Rooted vm.old.tree vm.new.tree) }
     {
         match op {
             Op::Flush => self.do_flush(vm)?,
@@ -206,6 +211,7 @@ impl Machine {
         requires calm { Calm vm.old }
         ensures step { IfOk result (λ r. DoesOp app.now cells.now (program_view program.now) op vm.old self.old vm.new self.new r) }
         ensures calm { Calm vm.new }
+        ensures tree { vm.new.tree ≡ vm.old.tree }
     {
         match op {
             Op::Local { a } => self.do_local(a)?,
@@ -255,6 +261,7 @@ impl Machine {
         requires calm { Calm vm.old }
         ensures step { IfOk result (λ r. DoesOp app.now cells.now (program_view program.now) op vm.old self.old vm.new self.new r) }
         ensures calm { Calm vm.new }
+        ensures tree { vm.new.tree ≡ vm.old.tree }
     {
         match op {
             Op::Undef => self.push_constant(vm, Value::Undefined)?,

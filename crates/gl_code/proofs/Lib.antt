@@ -10,6 +10,7 @@ pub mod Hanging
 pub mod Calming
 pub mod CodeNests
 pub mod Preparing
+pub mod Rooting
 pub mod Links
 pub mod EntryCounts
 pub mod Doing

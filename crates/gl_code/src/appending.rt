@@ -4,6 +4,7 @@ ghost use Rattle.gl_meaning.specs.View.{path_view};
 ghost use Rattle.gl_machine.specs.Code.{Codes as PlainCodes};
 ghost use Rattle.gl_machine.specs.RenewCode.{start};
 ghost use Rattle.gl_vm.specs.View.{Calm};
+ghost use Rattle.gl_vm.specs.Steps.{Rooted};
 ghost use Rattle.gl_code.specs.View.{seen_sight};
 ghost use Rattle.gl_code.specs.CodeView.{seen_codes};
 ghost use Rattle.gl_code.specs.Renewing.{Renews, RenewFails};
@@ -33,5 +34,6 @@ pub trait AppendBlock {
         requires calm { Calm vm.old }
         ensures ok { IfOk result (λ r. Renews app.now cells.now (λ n run. run (start (seen_sight n sight) pc (path_view path) left)) vm.old (λ n. seen_codes n r) vm.new) }
         ensures fails { IfErr result (RenewFails {A = PlainCodes} app.now cells.now (λ n run. run (start (seen_sight n sight) pc (path_view path) left)) vm.old) }
+        ensures roots { IfOk result (λ r. Rooted vm.old.tree vm.new.tree) }
         ensures calm { Calm vm.new };
 }

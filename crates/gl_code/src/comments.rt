@@ -3,6 +3,7 @@ ghost use Rattle.std.specs.Prelude.{◌≡◌, IfOk};
 ghost use Rattle.gl_plain.specs.Live.{has_node, have_node};
 ghost use Rattle.gl_machine.specs.Code.{live_of, lives_of};
 ghost use Rattle.gl_vm.specs.View.{Calm, state_of, Agrees};
+ghost use Rattle.gl_vm.specs.Steps.{Rooted};
 ghost use Rattle.gl_code.specs.CodeView.{seen_code, seen_codes};
 ghost use Rattle.gl_code.specs.Comments.{Commented};
 
@@ -46,6 +47,7 @@ impl Codes {
 pub fn comment_for(vm: &mut Vm, codes: &Codes) -> Result<Option<NodeId>, AllocError>
     ensures step { IfOk result (λ k. (n : _) (touched : _) → Agrees touched vm.old → Commented n (seen_codes n codes.now, state_of n vm.old touched) vm.new k) }
     ensures calm { Calm vm.old → Calm vm.new }
+    ensures roots { IfOk result (λ k. Rooted vm.old.tree vm.new.tree) }
 {
     if codes.has_node() {
         return Ok(None);

@@ -47,6 +47,7 @@ fn value_at(values: &List, place: usize) -> Result<Value, AllocError>
 fn lay(vm: &mut Vm, ids: &mut Ids, value: Value) -> Result<(), AllocError>
     ensures step { OnOk result (LaysOne (view value) ids.old ids.new vm.old vm.new) }
     ensures calm { Calm vm.old → Calm vm.new }
+    ensures tree { vm.new.tree ≡ vm.old.tree }
 {
     let id = vm.cell(value)?;
     ids.push(id)
@@ -56,6 +57,7 @@ fn lay(vm: &mut Vm, ids: &mut Ids, value: Value) -> Result<(), AllocError>
 fn lay_initial(vm: &mut Vm, alloc: Global, fields: &[(Text, Value)]) -> Result<Ids, AllocError>
     ensures step { IfOk result (λ ids. Lays (all_labelled (initial_values None 0 (seen_entries fields.now))) ids vm.old vm.new) }
     ensures calm { Calm vm.old → Calm vm.new }
+    ensures tree { vm.new.tree ≡ vm.old.tree }
 {
     let mut ids = Ids::with_capacity(alloc, fields.len())?;
     for field in fields {
@@ -74,6 +76,7 @@ fn lay_held(
 ) -> Result<Ids, AllocError>
     ensures step { IfOk result (λ ids. Lays (all_labelled (initial_values (Some held.now) 0 (seen_entries fields.now))) ids vm.old vm.new) }
     ensures calm { Calm vm.old → Calm vm.new }
+    ensures tree { vm.new.tree ≡ vm.old.tree }
 {
     let mut ids = Ids::with_capacity(alloc, fields.len())?;
     for _field in fields {
@@ -93,6 +96,7 @@ pub fn lay_cells(
 ) -> Result<Ids, AllocError>
     ensures step { IfOk result (λ ids. Lays (all_labelled (initial_values (cells_at (path_view path.now) cells.now) 0 (seen_entries fields.now))) ids vm.old vm.new) }
     ensures calm { Calm vm.old → Calm vm.new }
+    ensures tree { vm.new.tree ≡ vm.old.tree }
 {
     match cells.at(path)? {
         None => lay_initial(vm, alloc, fields),
@@ -131,6 +135,7 @@ pub fn instantiate(
     ensures class { IfOk result (λ o. o.value.class ≡ class) }
     ensures cells { IfOk result (λ o. o.value.cells ≡ cells) }
     ensures calm { Calm vm.old → Calm vm.new }
+    ensures tree { vm.new.tree ≡ vm.old.tree }
 {
     let kept = path_copy(alloc, &path)?;
     let ids = same_ids(alloc, cells.as_slice())?;

@@ -67,6 +67,7 @@ pub fn bind(vm: &mut Vm, form: Form) -> Result<RefId, AllocError>
     ensures step { IfOk result (λ id. Does (λ n. made_row (seen_form vm.old.refs.rows.made (code_form form))) vm.old vm.new) }
     ensures id { IfOk result (λ id. Numbers vm.old.refs.rows vm.new.refs.rows id) }
     ensures calm { Calm vm.old → Calm vm.new }
+    ensures tree { vm.new.tree ≡ vm.old.tree }
 {
     if !may_be(&vm.refs, &form) {
         return Err(AllocError);
@@ -80,6 +81,7 @@ pub fn position(vm: &mut Vm, ids: Ids) -> Result<RefId, AllocError>
     ensures step { IfOk result (λ id. Does (λ n st. (place (record { ids = stamps ids; made = []; state = st })).state) vm.old vm.new) }
     ensures id { IfOk result (λ id. Numbers vm.old.refs.rows vm.new.refs.rows id) }
     ensures calm { Calm vm.new }
+    ensures tree { vm.new.tree ≡ vm.old.tree }
 {
     if !all_readable(&vm.refs, ids.as_slice()) {
         return Err(AllocError);

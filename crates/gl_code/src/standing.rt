@@ -17,6 +17,7 @@ pub fn hang(tree: &mut NodeTree, parent: Option<NodeId>, codes: &Codes) -> Resul
     ensures hangs { (n : _) → OnOk result (Hangs tree.old tree.new (stamp_of parent) (nest_in (lives_of (seen_codes n codes.now)))) }
     ensures whole { (n : _) → OnOk result (parent ≡ None → nest_of tree.new.forest ≡ joined (nest_of tree.old.forest) (nest_in (lives_of (seen_codes n codes.now)))) }
     ensures sound { IsFlat tree.new }
+    ensures moves { OnOk result (tree.new.moves ≡ tree.old.moves) }
 {
     tree.flat();
     hang_codes(tree, &parent, codes)
@@ -26,6 +27,7 @@ pub fn hang(tree: &mut NodeTree, parent: Option<NodeId>, codes: &Codes) -> Resul
 fn hang_codes(tree: &mut NodeTree, parent: &Option<NodeId>, codes: &Codes) -> Result<(), AllocError>
     ensures hangs { (n : _) → OnOk result (Hangs tree.old tree.new (stamp_of parent.now) (nest_in (lives_of (seen_codes n codes.now)))) }
     ensures sound { IsFlat tree.new }
+    ensures moves { OnOk result (tree.new.moves ≡ tree.old.moves) }
 {
     tree.flat();
     for code in codes.list.as_slice() {
@@ -38,6 +40,7 @@ fn hang_codes(tree: &mut NodeTree, parent: &Option<NodeId>, codes: &Codes) -> Re
 fn hang_code(tree: &mut NodeTree, parent: &Option<NodeId>, code: &Code) -> Result<(), AllocError>
     ensures hangs { (n : _) → OnOk result (Hangs tree.old tree.new (stamp_of parent.now) (nest (live_of (seen_code n code.now)))) }
     ensures sound { IsFlat tree.new }
+    ensures moves { OnOk result (tree.new.moves ≡ tree.old.moves) }
 {
     match code {
         Code::Still { node } => hang_leaf(tree, parent, *node),
@@ -63,6 +66,7 @@ fn hang_element(
 ) -> Result<(), AllocError>
     ensures hangs { (n : _) → OnOk result (Hangs tree.old tree.new (stamp_of parent.now) (nested node.1 (nest_in (lives_of (seen_codes n body.now))) end)) }
     ensures sound { IsFlat tree.new }
+    ensures moves { OnOk result (tree.new.moves ≡ tree.old.moves) }
 {
     tree.put_last(*parent, node)?;
     hang_codes(tree, &Some(node), body)
@@ -76,6 +80,7 @@ fn hang_items(
 ) -> Result<(), AllocError>
     ensures hangs { (n : _) → OnOk result (Hangs tree.old tree.new (stamp_of parent.now) (nest_items (items_of (all_items (map (seen_item_code n) items.now.items))))) }
     ensures sound { IsFlat tree.new }
+    ensures moves { OnOk result (tree.new.moves ≡ tree.old.moves) }
 {
     tree.flat();
     for item in items.as_slice() {
@@ -92,6 +97,7 @@ fn hang_item(
 ) -> Result<(), AllocError>
     ensures hangs { (n : _) → let x = seen_item_code n item.now in OnOk result (Hangs tree.old tree.new (stamp_of parent.now) (joined (nest_in (lives_of x.1.1)) (nest_comment x.1.0))) }
     ensures sound { IsFlat tree.new }
+    ensures moves { OnOk result (tree.new.moves ≡ tree.old.moves) }
 {
     hang_body(tree, parent, &item.body, &item.comment)
 }
@@ -106,6 +112,7 @@ fn hang_body(
 ) -> Result<(), AllocError>
     ensures hangs { (n : _) → OnOk result (Hangs tree.old tree.new (stamp_of parent.now) (joined (nest_in (lives_of (seen_codes n body.now))) (nest_comment (stamp_of comment.now)))) }
     ensures sound { IsFlat tree.new }
+    ensures moves { OnOk result (tree.new.moves ≡ tree.old.moves) }
 {
     hang_codes(tree, parent, body)?;
     hang_comment(tree, parent, comment)
@@ -118,6 +125,7 @@ fn hang_comment(
 ) -> Result<(), AllocError>
     ensures hangs { OnOk result (Hangs tree.old tree.new (stamp_of parent.now) (nest_comment (stamp_of comment.now))) }
     ensures sound { IsFlat tree.new }
+    ensures moves { OnOk result (tree.new.moves ≡ tree.old.moves) }
 {
     tree.flat();
     match comment {
@@ -129,6 +137,7 @@ fn hang_comment(
 fn hang_leaf(tree: &mut NodeTree, parent: &Option<NodeId>, node: NodeId) -> Result<(), AllocError>
     ensures hangs { OnOk result (Hangs tree.old tree.new (stamp_of parent.now) (leaf node.1)) }
     ensures sound { IsFlat tree.new }
+    ensures moves { OnOk result (tree.new.moves ≡ tree.old.moves) }
 {
     tree.put_last(*parent, node)
 }

@@ -292,6 +292,7 @@ impl Taken {
     fn add(&mut self, vm: &mut Vm, attribute: &Attribute) -> Result<(), AllocError>
         ensures step { OnOk result (Leads (λ n st st'. (ws : _) → bound_after (stamps self.old.ids) (refs_made self.old.made) (t.given_refs (seen_attribute attribute.now ∷ ws) st) ≡ bound_after (stamps self.new.ids) (refs_made self.new.made) (t.given_refs ws st')) vm.old vm.new) }
         ensures calm { Calm vm.old → Calm vm.new }
+        ensures tree { vm.new.tree ≡ vm.old.tree }
     {
         match &attribute.given {
             Given::Fixed(text) => {
@@ -308,6 +309,7 @@ impl Taken {
 fn references(alloc: Global, vm: &mut Vm, taken: &[Attribute]) -> Result<Taken, AllocError>
     ensures step { IfOk result (λ r. Leads (λ n st st'. t.given_refs (seen_attributes taken.now) st ≡ record { ids = stamps r.ids; made = refs_made r.made; state = st' }) vm.old vm.new) }
     ensures calm { Calm vm.old → Calm vm.new }
+    ensures tree { vm.new.tree ≡ vm.old.tree }
 {
     let mut all = Taken {
         ids: Ids::new(alloc),
@@ -356,6 +358,7 @@ impl Attributes {
         requires calm { Calm vm.old }
         ensures step { OnOk result (Leads (λ n st st'. (rest : _) → given_after self.old.attrs.items (map seen_attr_spot self.old.spots.items) (attr_placed name.now (place (t.given_refs (seen_attributes taken.now) st)) rest) ≡ given_after self.new.attrs.items (map seen_attr_spot self.new.spots.items) (rest st')) vm.old vm.new) }
         ensures calm { Calm vm.new }
+        ensures tree { vm.new.tree ≡ vm.old.tree }
     {
         let Taken { ids, made } = references(alloc, vm, taken)?;
         prepare(vm, ids.as_slice())?;
@@ -376,6 +379,7 @@ impl Attributes {
         requires calm { Calm vm.old }
         ensures step { OnOk result (Leads (λ n st st'. (rest : _) → given_after self.old.attrs.items (map seen_attr_spot self.old.spots.items) (t.give_attr name.now (seen_attributes taken.now) st rest) ≡ given_after self.new.attrs.items (map seen_attr_spot self.new.spots.items) (rest st')) vm.old vm.new) }
         ensures calm { Calm vm.new }
+        ensures tree { vm.new.tree ≡ vm.old.tree }
     {
         if has_live(taken) {
             self.place(alloc, vm, name, taken)
@@ -390,6 +394,7 @@ fn give_all(alloc: Global, vm: &mut Vm, attributes: &[Attribute]) -> Result<Attr
     requires calm { Calm vm.old }
     ensures step { IfOk result (λ r. Leads (λ n st st'. t.give_attrs (seen_attributes attributes.now) (t.names_waiting (seen_attributes attributes.now)) st ≡ record { attrs = r.attrs.items; spots = map seen_attr_spot r.spots.items; state = st' }) vm.old vm.new) }
     ensures calm { Calm vm.new }
+    ensures tree { vm.new.tree ≡ vm.old.tree }
 {
     let names = names_of(alloc, attributes)?;
     let mut all = Attributes {
@@ -410,6 +415,7 @@ pub fn flush(alloc: Global, vm: &mut Vm, parts: &[Waiting]) -> Result<Attributes
     requires calm { Calm vm.old }
     ensures step { IfOk result (λ r. Leads (λ n st st'. t.flush_parts (seen_parts n parts.now) st ≡ record { attrs = r.attrs.items; spots = map seen_attr_spot r.spots.items; state = st' }) vm.old vm.new) }
     ensures calm { Calm vm.new }
+    ensures tree { vm.new.tree ≡ vm.old.tree }
 {
     let attributes = attributes_of(alloc, parts)?;
     give_all(alloc, vm, attributes.as_slice())

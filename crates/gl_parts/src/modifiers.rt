@@ -88,6 +88,7 @@ fn install(
     requires calm { Calm vm.old }
     ensures step { IfOk result (λ r. Leads (λ n st st'. t.install node.1 at (record { name = n.modifier name; ids = stamps args.now; names = name_stamps named.now }) (place (record { ids = stamps args.now ++ map (λ y. y.1) (name_stamps named.now); made = []; state = st })) ≡ (seen_mod_spot r, st')) vm.old vm.new) }
     ensures calm { Calm vm.new }
+    ensures tree { vm.new.tree ≡ vm.old.tree }
 {
     let ids = all_ids(alloc, args.as_slice(), named.as_slice())?;
     prepare(vm, ids.as_slice())?;
@@ -118,6 +119,7 @@ fn install_part(
     requires calm { Calm vm.old }
     ensures step { OnOk result (Leads (λ n st st'. (ws : _) → grown_after (map seen_mod_spot spots.old.items) (t.install_parts node.1 (length spots.old.items) (seen_part n part.now ∷ ws) st) ≡ grown_after (map seen_mod_spot spots.new.items) (t.install_parts node.1 (length spots.new.items) ws st')) vm.old vm.new) }
     ensures calm { Calm vm.new }
+    ensures tree { vm.new.tree ≡ vm.old.tree }
 {
     match part {
         Waiting::Modifier { name, args, named } => {
@@ -141,6 +143,7 @@ pub fn install_all(
     requires calm { Calm vm.old }
     ensures step { IfOk result (λ r. Leads (λ n st st'. t.install_parts node.1 0 (seen_parts n parts.now) st ≡ record { spots = map seen_mod_spot r.items; state = st' }) vm.old vm.new) }
     ensures calm { Calm vm.new }
+    ensures tree { vm.new.tree ≡ vm.old.tree }
 {
     let mut spots = Vec::new(alloc);
     for part in parts {

@@ -1,5 +1,5 @@
 // References that are kept before what they give is copied.
-ghost use Rattle.std.specs.Prelude.{OnOk};
+ghost use Rattle.std.specs.Prelude.{◌≡◌, OnOk};
 ghost use Rattle.gl_vm.specs.View.{Calm};
 ghost use Rattle.gl_vm.specs.Steps.{Prepares};
 
@@ -12,6 +12,7 @@ pub(crate) fn prepare(vm: &mut Vm, ids: &[RefId]) -> Result<(), AllocError>
     requires calm { Calm vm.old }
     ensures step { OnOk result (Prepares vm.old vm.new) }
     ensures calm { Calm vm.new }
+    ensures tree { vm.new.tree ≡ vm.old.tree }
 {
     for id in ids {
         if !vm.refs.readable(*id) {

@@ -7,7 +7,7 @@ use Rattle.gl_arena.specs.Id.{Id}
 use Rattle.gl_arena.specs.Arena.{amended, IsStamped}
 use Rattle.gl_arena.proofs.Stamps.{by_stamp-live}
 use Rattle.gl_nodes.specs.Node as n
-use Rattle.gl_nodes.specs.Tree.{Tree, node_at}
+use Rattle.gl_nodes.specs.Tree.{Tree, node_at, Makes, Changes}
 use Rattle.gl_nodes.specs.Flat.{node_by, MakesFlat, ChangesFlat}
 use Rattle.gl_plain.specs.Ids.{node}
 use Rattle.gl_plain.specs.State.{Content, element_content, content, put_thing}
@@ -15,7 +15,7 @@ use Rattle.gl_plain.specs.Grow.{made_node}
 use Rattle.gl_plain.specs.Renew as r
 use Rattle.gl_vm.specs.Kept.{Kept, state_by}
 use Rattle.gl_vm.specs.View.{seen_node, kept_of}
-use Rattle.gl_vm.specs.Steps.{Does, Follows, Numbers, put_attr, times_named}
+use Rattle.gl_vm.specs.Steps.{Does, Follows, Numbers, Rooted, put_attr, times_named}
 use Rattle.gl_vm.specs.declared.vm.Vm.{Vm}
 use Rattle.gl_vm.proofs.States.{amended_is, with_node, node_made, node_put}
 
@@ -85,3 +85,10 @@ attr_step vm t i tag attrs name value stamped e once made m k touched a = let s 
     let look : option_map seen_node (node_by vm.tree i.1) ≡ Some (element_content tag attrs) = ap (option_map seen_node) (by_stamp-live vm.tree.nodes i (n.element tag attrs) stamped e) in
     subst (λ (x : Content). Follows k (put_thing (node i.1) (content x) (state_by (kept_of k vm) touched)) (record vm { tree = t }))
     (ap (element_content tag) (once-with name value attrs once) ∙ ap (λ o. r.changed_attr name value (option_map content o)) (sym look)) s
+
+-- a node that is made stands nowhere, and one that changes stays where it is
+pub made_roots : (old t : Tree) (i : Id) (x : n.Node) → Makes old t i x → Rooted old t
+made_roots old t i x m = record { forest = m.forest; moves = m.moves }
+
+pub changed_roots : (old t : Tree) (i : Id) (x : Option n.Node) → Changes old t i x → Rooted old t
+changed_roots old t i x m = record { forest = m.forest; moves = m.moves }

@@ -7,6 +7,7 @@ use Rattle.gl_arena.specs.Arena.{Arena, IsOwn, by_stamp}
 use Rattle.gl_tags.specs.Tags as t
 use Rattle.gl_mods.specs.Mods as m
 use Rattle.gl_nodes.specs.Node as n
+use Rattle.gl_nodes.specs.Tree.{Tree}
 use Rattle.gl_refs.specs.Forms as f
 use Rattle.gl_refs.specs.State as s
 use Rattle.gl_refs.specs.Refs.{Refs, rows_of}
@@ -42,6 +43,11 @@ pub record Prepares (old new : Vm) : Type 0 where
   pub step : Does (λ n st. st) old new
   pub made : new.refs.rows.made ≡ old.refs.rows.made
   pub owns : (i : Id) → IsOwn old.refs.rows i → IsOwn new.refs.rows i
+
+-- No node is put into the tree, moved or taken out of it: nodes may be made, which stand nowhere yet, and change what they are.
+pub record Rooted (old new : Tree) : Type 0 where
+  pub forest : new.forest ≡ old.forest
+  pub moves : new.moves ≡ old.moves
 
 -- the node's attribute of a name is changed
 abbrev pub put_attr : ℕ → Text → Option Text → State → State

@@ -8,7 +8,7 @@ ghost use Rattle.gl_plain.specs.Ids.{node as node_id};
 ghost use Rattle.gl_plain.specs.State.{element_content, text_content, comment_content, content, put_thing};
 ghost use Rattle.gl_plain.specs.Grow.{made_node};
 ghost use Rattle.gl_vm.specs.View.{seen_node};
-ghost use Rattle.gl_vm.specs.Steps.{Does, Numbers, put_attr, times_named, is_told, has_once};
+ghost use Rattle.gl_vm.specs.Steps.{Does, Numbers, Rooted, put_attr, times_named, is_told, has_once};
 
 use crate::Vm;
 use gl_nodes::{Attr, Attrs, Node, NodeId};
@@ -37,6 +37,7 @@ impl Vm {
         ensures step { IfOk result (λ id. Does (λ n. made_node (element_content (chars tag.now) [])) self.old self.new) }
         ensures id { IfOk result (λ id. Numbers self.old.tree.nodes self.new.tree.nodes id) }
         ensures flat { IfOk result (λ id. MakesFlat self.old.tree self.new.tree id (n.element (chars tag.now) [])) }
+        ensures roots { IfOk result (λ id. Rooted self.old.tree self.new.tree) }
         ensures rest { self.new ≡ record self.old { tree = self.new.tree } }
         ensures err { OnErr result (self.new ≡ self.old) }
     {
@@ -48,6 +49,7 @@ impl Vm {
         ensures step { IfOk result (λ id. Does (λ n. made_node (element_content tag attrs)) self.old self.new) }
         ensures id { IfOk result (λ id. Numbers self.old.tree.nodes self.new.tree.nodes id) }
         ensures flat { IfOk result (λ id. MakesFlat self.old.tree self.new.tree id (n.element tag attrs)) }
+        ensures roots { IfOk result (λ id. Rooted self.old.tree self.new.tree) }
         ensures rest { self.new ≡ record self.old { tree = self.new.tree } }
         ensures err { OnErr result (self.new ≡ self.old) }
     {
@@ -59,6 +61,7 @@ impl Vm {
         ensures step { IfOk result (λ id. Does (λ n. made_node (text_content (chars text.now))) self.old self.new) }
         ensures id { IfOk result (λ id. Numbers self.old.tree.nodes self.new.tree.nodes id) }
         ensures flat { IfOk result (λ id. MakesFlat self.old.tree self.new.tree id (n.text (chars text.now))) }
+        ensures roots { IfOk result (λ id. Rooted self.old.tree self.new.tree) }
         ensures rest { self.new ≡ record self.old { tree = self.new.tree } }
         ensures err { OnErr result (self.new ≡ self.old) }
     {
@@ -70,6 +73,7 @@ impl Vm {
         ensures step { IfOk result (λ id. Does (λ n. made_node (comment_content (chars text.now))) self.old self.new) }
         ensures id { IfOk result (λ id. Numbers self.old.tree.nodes self.new.tree.nodes id) }
         ensures flat { IfOk result (λ id. MakesFlat self.old.tree self.new.tree id (n.comment (chars text.now))) }
+        ensures roots { IfOk result (λ id. Rooted self.old.tree self.new.tree) }
         ensures rest { self.new ≡ record self.old { tree = self.new.tree } }
         ensures err { OnErr result (self.new ≡ self.old) }
     {
@@ -103,6 +107,7 @@ impl Vm {
         requires { IfSome (node_at self.old.tree node) n.IsTold × IsSome (node_at self.old.tree node) }
         ensures step { OnOk result ((was : n.Node) → node_at self.old.tree node ≡ Some was → Does (λ names. put_thing (node_id node.1) (content (seen_node (n.retold (chars text.now) was)))) self.old self.new) }
         ensures flat { OnOk result (ChangesFlat self.old.tree self.new.tree node.1 (option_map (n.retold (chars text.now)) (node_at self.old.tree node))) }
+        ensures roots { OnOk result (Rooted self.old.tree self.new.tree) }
         ensures rest { self.new ≡ record self.old { tree = self.new.tree } }
         ensures err { OnErr result (self.new ≡ self.old) }
     {
@@ -120,6 +125,7 @@ impl Vm {
         ensures step { OnOk result ((was : n.Node) → node_at self.old.tree node ≡ Some was → Does (λ names. put_thing (node_id node.1) (content (seen_node (n.attributed (chars name.now) (option_map (λ v. chars v.now) value.entry) was)))) self.old self.new) }
         ensures once { OnOk result ((tag : _) (attrs : _) → node_at self.old.tree node ≡ Some (n.element tag attrs) → times_named (chars name.now) attrs ≡ 1 → Does (λ names. put_attr node.1 (chars name.now) (option_map (λ v. chars v.now) value.entry)) self.old self.new) }
         ensures flat { OnOk result (ChangesFlat self.old.tree self.new.tree node.1 (option_map (n.attributed (chars name.now) (option_map (λ v. chars v.now) value.entry)) (node_at self.old.tree node))) }
+        ensures roots { OnOk result (Rooted self.old.tree self.new.tree) }
         ensures rest { self.new ≡ record self.old { tree = self.new.tree } }
         ensures err { OnErr result (self.new ≡ self.old) }
     {

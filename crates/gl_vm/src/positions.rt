@@ -102,6 +102,7 @@ impl Vm {
         ensures step { Does (λ n. begin) self.old self.new }
         ensures untouched { Agrees (λ x. false) self.new }
         ensures clock { self.new.refs.tags.clock ≡ self.old.refs.tags.clock + 1 }
+        ensures tree { self.new.tree ≡ self.old.tree }
         ensures forms { forms_of self.new.refs ≡ forms_of self.old.refs }
         ensures calm { Calm self.old → Calm self.new }
         ensures led { Led self.old.refs → Led self.new.refs }

@@ -1,4 +1,4 @@
-use Rattle.std.proofs.Common.{◌+◌, Some, get_or, [], drop, ◌∙◌, ap, subst}
+use Rattle.std.proofs.Common.{◌+◌, Some, get_or, [], drop, ◌∙◌, ap, subst, refl}
 use Rattle.std.proofs.lemmas.List.{drop_all, drop_more}
 use Rattle.gl_base.specs.Names.{at_place}
 use Rattle.gl_value.specs.Value.{undefined}
@@ -8,7 +8,7 @@ use Rattle.gl_code.proofs.Laying.{StillLays, lays_begin, lays_step, lays_end}
 use Rattle.gl_code.proofs.instances.lay_held.Goals as goal
 
 pub loop-field-init : goal.loop-field-init
-loop-field-init c = (lays_begin (Some c.args.held.now) (seen_entries c.args.fields.now) c.in_ok-ids.ids c.args.vm.now c.in_ok-ids.ensures, λ calm. calm)
+loop-field-init c = (lays_begin (Some c.args.held.now) (seen_entries c.args.fields.now) c.in_ok-ids.ids c.args.vm.now c.in_ok-ids.ensures, λ calm. calm, refl)
 
 pub loop-field-preserved : goal.loop-field-preserved
 loop-field-preserved c =
@@ -19,6 +19,7 @@ loop-field-preserved c =
       lays_step (Some c.args.held.now) (seen_entries c.args.fields.now) (seen_entries rest) (i.0, view i.1) l.ids c.lay.new.ids (view c.in_ok-value.value) c.args.vm.now l.vm c.lay.new.vm (c.in_ok-value.ensures ∙ ap (λ k. at_place undefined k c.args.held.now) c.len.ensures) c.in_ok-lay.ensures.step
           (subst (λ fs. StillLays (Some c.args.held.now) (seen_entries c.args.fields.now) (seen_entries fs) l.ids c.args.vm.now l.vm) here l.invariant.0),
       λ calm. c.in_ok-lay.ensures.calm (l.invariant.1 calm),
+      c.lay.ensures.tree ∙ l.invariant.2,
     )
 
 pub returns-clause-step : goal.returns-clause-step

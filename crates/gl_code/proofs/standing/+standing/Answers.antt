@@ -1,4 +1,4 @@
-use Rattle.std.proofs.Common.{map, subst}
+use Rattle.std.proofs.Common.{map, subst, ◌∙◌}
 use Rattle.std.proofs.lemmas.Result.{on_ok_weaker}
 use Rattle.gl_nodes.specs.Flat.{stamp_of}
 use Rattle.gl_machine.specs.Code.{lives_of, items_of}
@@ -27,6 +27,7 @@ hang_item-returns-clause-hangs t c = λ n. let x = seen_item_code n c.args.item.
 pub hang_codes-loop-code-preserved : goal.hang_codes-loop-code-preserved
 hang_codes-loop-code-preserved t c = record {
   flat = c.hang_code.ensures.sound;
+  moves = c.in_ok-hang_code.ensures.moves ∙ c.loop-code.invariant.moves;
   left = λ n v sound h. c.loop-code.invariant.left n v sound
       (codes_go n c.loop-code.tree c.hang_code.new.tree v (stamp_of c.args.parent.now) c.as_slice-code-items.result.now c.loop-code.code-index c.code-item.result sound c.loop-code-test.true c.code-item.is (c.in_ok-hang_code.ensures.hangs n) h);
 }
@@ -39,6 +40,7 @@ hang_codes-returns-clause-hangs t c = λ n. let p = stamp_of c.args.parent.now i
 pub hang_items-loop-item-preserved : goal.hang_items-loop-item-preserved
 hang_items-loop-item-preserved t c = record {
   flat = c.hang_item.ensures.sound;
+  moves = c.in_ok-hang_item.ensures.moves ∙ c.loop-item.invariant.moves;
   left = λ n v sound h. c.loop-item.invariant.left n v sound
       (items_go n c.loop-item.tree c.hang_item.new.tree v (stamp_of c.args.parent.now) c.as_slice-item-items.result.now c.loop-item.item-index c.item-item.result sound c.loop-item-test.true c.item-item.is (c.in_ok-hang_item.ensures.hangs n) h);
 }

@@ -1,4 +1,4 @@
-use Rattle.std.proofs.Common.{map, drop}
+use Rattle.std.proofs.Common.{◌≡◌, map, drop}
 use Rattle.gl_nodes.specs.Tree.{Tree}
 use Rattle.gl_nodes.specs.Flat.{IsFlat, stamp_of}
 use Rattle.gl_machine.specs.Code.{lives_of, items_of}
@@ -12,6 +12,7 @@ use Rattle.gl_code.proofs.standing.+standing.Given as goal
 abbrev pub invariant-hang_codes-loop-code : goal.invariant-hang_codes-loop-code
 invariant-hang_codes-loop-code l = record {
   flat : IsFlat l.tree;
+  moves : l.tree.moves ≡ l.fn.tree.moves;
   left : (n : Tables) (v : Tree) → IsFlat v
       → Hangs l.tree v (stamp_of l.parent) (nest_in (lives_of (all_codes (map (seen_code n) (drop l.code-index l.code-items)))))
       → Hangs l.fn.tree v (stamp_of l.parent) (nest_in (lives_of (all_codes (map (seen_code n) l.code-items))));
@@ -20,6 +21,7 @@ invariant-hang_codes-loop-code l = record {
 abbrev pub invariant-hang_items-loop-item : goal.invariant-hang_items-loop-item
 invariant-hang_items-loop-item l = record {
   flat : IsFlat l.tree;
+  moves : l.tree.moves ≡ l.fn.tree.moves;
   left : (n : Tables) (v : Tree) → IsFlat v
       → Hangs l.tree v (stamp_of l.parent) (nest_items (items_of (all_items (map (seen_item_code n) (drop l.item-index l.item-items)))))
       → Hangs l.fn.tree v (stamp_of l.parent) (nest_items (items_of (all_items (map (seen_item_code n) l.item-items))));

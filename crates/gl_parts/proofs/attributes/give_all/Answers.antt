@@ -1,4 +1,4 @@
-use Rattle.std.proofs.Common.{◌≡◌, ◌+◌, map, drop, ◌∙◌, ap, ap₂, sym, subst}
+use Rattle.std.proofs.Common.{◌≡◌, ◌+◌, map, drop, refl, ◌∙◌, ap, ap₂, sym, subst}
 use Rattle.std.proofs.lemmas.List.{drop_all}
 use Rattle.gl_plain.specs.Tags.{give_attrs}
 use Rattle.gl_vm.specs.View.{state_of}
@@ -17,6 +17,7 @@ loop-name-init c =
       leads = leads_still (λ n x y. give_attrs ws names x ≡ given_after c.new.result.items (map seen_attr_spot c.new-2.result.items) (give_attrs ws names y)) c.args.vm.now
           (λ n t. ap₂ (λ xs ss. given_after xs (map seen_attr_spot ss) (give_attrs ws names (state_of n c.args.vm.now t))) (sym c.new.ensures.items) (sym c.new-2.ensures.items));
       calm = c.requires.calm;
+      tree = refl;
     }
 
 pub loop-name-preserved : goal.loop-name-preserved
@@ -34,6 +35,7 @@ loop-name-preserved c =
           (attr_goes ws c.name-item.result (seen_attributes c.as_slice.result.now) (given_after x.attrs.items (map seen_attr_spot x.spots.items)) (given_after y.attrs.items (map seen_attr_spot y.spots.items)) c.loop-name.vm c.give.new.vm
           (ap seen_attributes c.as_slice.ensures.value ∙ c.in_ok-taken.ensures) c.in_ok-give.ensures.step);
       calm = c.give.ensures.calm;
+      tree = c.give.ensures.tree ∙ c.loop-name.invariant.tree;
     }
 
 pub returns-clause-step : goal.returns-clause-step

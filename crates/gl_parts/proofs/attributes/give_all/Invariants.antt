@@ -9,4 +9,5 @@ abbrev pub invariant-loop-name : goal.invariant-loop-name
 invariant-loop-name l = record {
   leads : Leads (λ n x y. give_attrs (seen_attributes l.attributes) l.name-items x ≡ given_after l.all.attrs.items (map seen_attr_spot l.all.spots.items) (give_attrs (seen_attributes l.attributes) (drop l.name-index l.name-items) y)) l.fn.vm l.vm;
   calm : Calm l.vm;
+  tree : l.vm.tree ≡ l.fn.vm.tree;
 }

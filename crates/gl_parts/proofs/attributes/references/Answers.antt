@@ -1,4 +1,4 @@
-use Rattle.std.proofs.Common.{◌≡◌, ◌+◌, drop, sym, ap, ap₂}
+use Rattle.std.proofs.Common.{◌≡◌, ◌+◌, drop, refl, ◌∙◌, sym, ap, ap₂}
 use Rattle.std.proofs.lemmas.List.{drop_all}
 use Rattle.gl_plain.specs.Tags.{given_refs}
 use Rattle.gl_vm.specs.View.{stamps, state_of}
@@ -14,6 +14,7 @@ loop-attribute-init c = record {
   leads = leads_still (λ n x y. given_refs (seen_attributes c.args.taken.now) x ≡ bound_after (stamps c.new.result) (refs_made c.new-2.result) (given_refs (seen_attributes c.args.taken.now) y)) c.args.vm.now
       (λ n t. ap₂ (λ is ms. bound_after (stamps is) (refs_made ms) (given_refs (seen_attributes c.args.taken.now) (state_of n c.args.vm.now t))) (sym c.new.ensures) (sym c.new-2.ensures));
   calm = λ a. a;
+  tree = refl;
 }
 
 pub loop-attribute-preserved : goal.loop-attribute-preserved
@@ -27,6 +28,7 @@ loop-attribute-preserved c =
           (λ n. seen_attributes (drop k c.args.taken.now)) (λ n. seen_attributes (drop (k + 1) c.args.taken.now)) (λ n. seen_attribute c.attribute-item.result)
           c.args.vm.now c.loop-attribute.vm c.add.new.vm (λ n. ap seen_attributes at) c.loop-attribute.invariant.leads c.in_ok-add.ensures.step;
       calm = λ a. c.add.ensures.calm (c.loop-attribute.invariant.calm a);
+      tree = c.add.ensures.tree ∙ c.loop-attribute.invariant.tree;
     }
 
 pub returns-clause-step : goal.returns-clause-step

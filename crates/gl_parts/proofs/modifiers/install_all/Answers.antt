@@ -1,4 +1,4 @@
-use Rattle.std.proofs.Common.{◌≡◌, ◌+◌, map, length, drop, ap, sym}
+use Rattle.std.proofs.Common.{◌≡◌, ◌+◌, map, length, drop, refl, ◌∙◌, ap, sym}
 use Rattle.std.proofs.lemmas.List.{drop_all}
 use Rattle.gl_plain.specs.Tags.{install_parts}
 use Rattle.gl_vm.specs.View.{state_of}
@@ -14,6 +14,7 @@ loop-part-init c = record {
   leads = leads_still (λ n x y. install_parts c.args.node.1 0 (seen_parts n c.args.parts.now) x ≡ grown_after (map seen_mod_spot c.new-spots.result.items) (install_parts c.args.node.1 (length c.new-spots.result.items) (seen_parts n c.args.parts.now) y)) c.args.vm.now
       (λ n t. ap (λ ss. grown_after (map seen_mod_spot ss) (install_parts c.args.node.1 (length ss) (seen_parts n c.args.parts.now) (state_of n c.args.vm.now t))) (sym c.new-spots.ensures.items));
   calm = c.requires.calm;
+  tree = refl;
 }
 
 pub loop-part-preserved : goal.loop-part-preserved
@@ -28,6 +29,7 @@ loop-part-preserved c =
           (λ n. seen_parts n (drop k parts)) (λ n. seen_parts n (drop (k + 1) parts)) (λ n. seen_part n c.part-item.result) c.args.vm.now c.loop-part.vm c.install_part.new.vm
           (λ n. ap (seen_parts n) (item_next parts k c.part-item.result c.loop-part-test.true c.part-item.is)) c.loop-part.invariant.leads c.in_ok-install_part.ensures.step;
       calm = c.install_part.ensures.calm;
+      tree = c.install_part.ensures.tree ∙ c.loop-part.invariant.tree;
     }
 
 pub returns-clause-step : goal.returns-clause-step

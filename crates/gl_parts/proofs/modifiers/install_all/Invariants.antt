@@ -9,4 +9,5 @@ abbrev pub invariant-loop-part : goal.invariant-loop-part
 invariant-loop-part l = record {
   leads : Leads (λ n x y. install_parts l.node.1 0 (seen_parts n l.parts) x ≡ grown_after (map seen_mod_spot l.spots.items) (install_parts l.node.1 (length l.spots.items) (seen_parts n (drop l.part-index l.parts)) y)) l.fn.vm l.vm;
   calm : Calm l.vm;
+  tree : l.vm.tree ≡ l.fn.vm.tree;
 }

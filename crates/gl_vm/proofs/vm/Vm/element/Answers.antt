@@ -2,7 +2,7 @@ use Rattle.std.specs.Prelude.{[]}
 use Rattle.std.specs.Str.{chars}
 use Rattle.gl_arena.proofs.Stamps.{on_if}
 use Rattle.gl_nodes.specs.Node as n
-use Rattle.gl_vm.proofs.NodeSteps.{node_step, node_numbers}
+use Rattle.gl_vm.proofs.NodeSteps.{node_step, node_numbers, made_roots}
 use Rattle.gl_vm.proofs.vm.Vm.element.Goals as goal
 
 pub returns-clause-step : goal.returns-clause-step
@@ -10,3 +10,6 @@ returns-clause-step c = on_if c.element.result (λ id m. node_step c.args.self.n
 
 pub returns-clause-id : goal.returns-clause-id
 returns-clause-id c = on_if c.element.result (λ id m. node_numbers c.args.self.now.tree c.element.new.self id (n.element (chars c.args.tag.now) []) m) c.element.ensures.flat
+
+pub returns-clause-roots : goal.returns-clause-roots
+returns-clause-roots c = on_if c.element.result (λ id m. made_roots c.args.self.now.tree c.element.new.self id (n.element (chars c.args.tag.now) []) m) c.element.ensures.ok

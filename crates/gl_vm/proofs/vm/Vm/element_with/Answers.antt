@@ -1,6 +1,6 @@
 use Rattle.gl_arena.proofs.Stamps.{on_if}
 use Rattle.gl_nodes.specs.Node as n
-use Rattle.gl_vm.proofs.NodeSteps.{node_step, node_numbers}
+use Rattle.gl_vm.proofs.NodeSteps.{node_step, node_numbers, made_roots}
 use Rattle.gl_vm.proofs.vm.Vm.element_with.Goals as goal
 
 pub returns-clause-step : goal.returns-clause-step
@@ -8,3 +8,6 @@ returns-clause-step c = on_if c.element_with.result (λ id m. node_step c.args.s
 
 pub returns-clause-id : goal.returns-clause-id
 returns-clause-id c = on_if c.element_with.result (λ id m. node_numbers c.args.self.now.tree c.element_with.new.self id (n.element c.args.tag c.args.attrs) m) c.element_with.ensures.flat
+
+pub returns-clause-roots : goal.returns-clause-roots
+returns-clause-roots c = on_if c.element_with.result (λ id m. made_roots c.args.self.now.tree c.element_with.new.self id (n.element c.args.tag c.args.attrs) m) c.element_with.ensures.ok

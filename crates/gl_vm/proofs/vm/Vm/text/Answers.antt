@@ -1,7 +1,7 @@
 use Rattle.std.specs.Str.{chars}
 use Rattle.gl_arena.proofs.Stamps.{on_if}
 use Rattle.gl_nodes.specs.Node as n
-use Rattle.gl_vm.proofs.NodeSteps.{node_step, node_numbers}
+use Rattle.gl_vm.proofs.NodeSteps.{node_step, node_numbers, made_roots}
 use Rattle.gl_vm.proofs.vm.Vm.text.Goals as goal
 
 pub returns-clause-step : goal.returns-clause-step
@@ -9,3 +9,6 @@ returns-clause-step c = on_if c.text.result (λ id m. node_step c.args.self.now 
 
 pub returns-clause-id : goal.returns-clause-id
 returns-clause-id c = on_if c.text.result (λ id m. node_numbers c.args.self.now.tree c.text.new.self id (n.text (chars c.args.text.now)) m) c.text.ensures.flat
+
+pub returns-clause-roots : goal.returns-clause-roots
+returns-clause-roots c = on_if c.text.result (λ id m. made_roots c.args.self.now.tree c.text.new.self id (n.text (chars c.args.text.now)) m) c.text.ensures.ok
