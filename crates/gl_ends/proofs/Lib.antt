@@ -2,3 +2,4 @@ pub mod Joins
 pub mod Loops
 pub mod NodeMods
 pub mod CodeCounts
+pub mod Gone

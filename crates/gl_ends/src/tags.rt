@@ -6,6 +6,8 @@ ghost use Rattle.gl_vm.specs.Led.{Led};
 ghost use Rattle.gl_vm.specs.View.{Calm};
 ghost use Rattle.gl_code.specs.View.{refs_made};
 ghost use Rattle.gl_code.specs.CodeView.{seen_attr_spot, seen_mod_spot};
+ghost use Rattle.gl_machine.specs.Shape.{leaf};
+ghost use Rattle.gl_seats.specs.Seats.{Unseats};
 ghost use Rattle.gl_ends.specs.Ending.{Ends, times_spots};
 
 use crate::references::{end_references, end_spot};
@@ -22,6 +24,7 @@ fn end_attrs(vm: &mut Vm, attrs: &[AttrSpot]) -> Result<(), AllocError>
     ensures ends { (n : _) → OnOk result (Ends n (λ q. times_attrs q (map seen_attr_spot attrs.now)) vm.old vm.new) }
     ensures calm { Calm vm.old → Calm vm.new }
     ensures led { Led vm.old.refs → Led vm.new.refs }
+    ensures tree { OnOk result (vm.new.tree ≡ vm.old.tree) }
 {
     for attr in attrs {
         end_spot(vm, &attr.spot)?;
@@ -49,6 +52,7 @@ fn end_installed(vm: &mut Vm, node: NodeId, mods: &[ModSpot]) -> Result<(), Allo
     ensures ends { (n : _) → OnOk result (Ends n (λ q. occurs q (map (λ m. modifier_id m.id.1) mods.now)) vm.old vm.new) }
     ensures calm { Calm vm.old → Calm vm.new }
     ensures led { Led vm.old.refs → Led vm.new.refs }
+    ensures tree { OnOk result (vm.new.tree ≡ vm.old.tree) }
 {
     if !are_all(vm.mods.on_node(node), mods) {
         return Err(AllocError);
@@ -63,6 +67,7 @@ fn end_spots(vm: &mut Vm, mods: &[ModSpot]) -> Result<(), AllocError>
     ensures ends { (n : _) → OnOk result (Ends n (λ q. times_spots q mods.now) vm.old vm.new) }
     ensures calm { Calm vm.old → Calm vm.new }
     ensures led { Led vm.old.refs → Led vm.new.refs }
+    ensures tree { OnOk result (vm.new.tree ≡ vm.old.tree) }
 {
     for one in mods {
         end_spot(vm, &one.spot)?;
@@ -75,6 +80,7 @@ pub(crate) fn end_mods(vm: &mut Vm, node: NodeId, mods: &[ModSpot]) -> Result<()
     ensures ends { (n : _) → OnOk result (Ends n (λ q. times_mods q (map seen_mod_spot mods.now)) vm.old vm.new) }
     ensures calm { Calm vm.old → Calm vm.new }
     ensures led { Led vm.old.refs → Led vm.new.refs }
+    ensures tree { OnOk result (vm.new.tree ≡ vm.old.tree) }
 {
     end_installed(vm, node, mods)?;
     end_spots(vm, mods)
@@ -90,6 +96,8 @@ pub(crate) fn end_tag(
     ensures ends { (n : _) → OnOk result (Ends n (λ q. hit q (node_id node.1) + (occurs q (refs_made made.now) + times_attrs q (map seen_attr_spot attrs.now))) vm.old vm.new) }
     ensures calm { Calm vm.old → Calm vm.new }
     ensures led { Led vm.old.refs → Led vm.new.refs }
+    ensures unseats { OnOk result (Unseats vm.old.tree.forest vm.new.tree.forest (leaf node.1)) }
+    ensures moves { OnOk result (vm.new.tree.moves ≡ vm.old.tree.moves) }
 {
     end_attrs(vm, attrs)?;
     end_references(vm, made)?;

@@ -1,11 +1,13 @@
 // Nodes, instances and blocks that end, where they live.
-ghost use Rattle.std.specs.Prelude.{OnOk, ◌+◌};
+ghost use Rattle.std.specs.Prelude.{◌≡◌, OnOk, ◌+◌};
 ghost use Rattle.gl_nodes.specs.Flat.{stamp_of};
 ghost use Rattle.gl_plain.specs.Ids.{node as node_id, instance_id, block_id, hit, occurs};
 ghost use Rattle.gl_plain.specs.Live.{times_comment};
 ghost use Rattle.gl_vm.specs.Led.{Led};
 ghost use Rattle.gl_vm.specs.View.{Calm};
 ghost use Rattle.gl_code.specs.View.{refs_made};
+ghost use Rattle.gl_machine.specs.Shape.{leaf, nest_comment};
+ghost use Rattle.gl_seats.specs.Seats.{Unseats};
 ghost use Rattle.gl_ends.specs.Ending.{Ends};
 
 use crate::references::end_references;
@@ -20,6 +22,8 @@ pub(crate) fn end_node(vm: &mut Vm, node: NodeId) -> Result<(), AllocError>
     ensures ends { (n : _) → OnOk result (Ends n (λ q. hit q (node_id node.1)) vm.old vm.new) }
     ensures calm { Calm vm.old → Calm vm.new }
     ensures led { Led vm.old.refs → Led vm.new.refs }
+    ensures unseats { OnOk result (Unseats vm.old.tree.forest vm.new.tree.forest (leaf node.1)) }
+    ensures moves { OnOk result (vm.new.tree.moves ≡ vm.old.tree.moves) }
 {
     vm.end_node(node)
 }
@@ -29,6 +33,8 @@ pub(crate) fn end_comment(vm: &mut Vm, comment: &Option<NodeId>) -> Result<(), A
     ensures ends { (n : _) → OnOk result (Ends n (λ q. times_comment q (stamp_of comment.now)) vm.old vm.new) }
     ensures calm { Calm vm.old → Calm vm.new }
     ensures led { Led vm.old.refs → Led vm.new.refs }
+    ensures unseats { OnOk result (Unseats vm.old.tree.forest vm.new.tree.forest (nest_comment (stamp_of comment.now))) }
+    ensures moves { OnOk result (vm.new.tree.moves ≡ vm.old.tree.moves) }
 {
     match comment {
         Some(node) => end_node(vm, *node),
@@ -41,6 +47,7 @@ pub(crate) fn end_block(vm: &mut Vm, id: BlockId) -> Result<(), AllocError>
     ensures ends { (n : _) → OnOk result (Ends n (λ q. hit q (block_id id.1)) vm.old vm.new) }
     ensures calm { Calm vm.old → Calm vm.new }
     ensures led { Led vm.old.refs → Led vm.new.refs }
+    ensures tree { OnOk result (vm.new.tree ≡ vm.old.tree) }
 {
     if !vm.scopes.live(id) {
         return Err(AllocError);
@@ -53,6 +60,7 @@ fn end_instance(vm: &mut Vm, id: Id<InstMark>) -> Result<(), AllocError>
     ensures ends { (n : _) → OnOk result (Ends n (λ q. hit q (instance_id id.1)) vm.old vm.new) }
     ensures calm { Calm vm.old → Calm vm.new }
     ensures led { Led vm.old.refs → Led vm.new.refs }
+    ensures tree { OnOk result (vm.new.tree ≡ vm.old.tree) }
 {
     if !vm.instances.live(id) {
         return Err(AllocError);
@@ -66,6 +74,7 @@ pub(crate) fn end_owner(vm: &mut Vm, owner: &Owner) -> Result<(), AllocError>
     ensures ends { (n : _) → OnOk result (Ends n (λ q. hit q (instance_id owner.now.id.1) + occurs q (refs_made owner.now.cells)) vm.old vm.new) }
     ensures calm { Calm vm.old → Calm vm.new }
     ensures led { Led vm.old.refs → Led vm.new.refs }
+    ensures tree { OnOk result (vm.new.tree ≡ vm.old.tree) }
 {
     end_references(vm, &owner.cells)?;
     end_instance(vm, owner.id)

@@ -90,7 +90,7 @@ module _ (a : App) (templates : List Body) (rises : NamesRise (manifest_view a.m
 
   -- the page that is updated stands in the state after it, once its log is written
   pub next_goes : (page' : Page) → Renews a [] (λ n run. along_root_code_as by_number a.manifest.limit run (seen_code n page.code)) mid (λ n. seen_code n page'.code) page'.vm
-      → ((n : Tables) → nest_of page'.vm.tree.forest ≡ nest (live_of (seen_code n page'.code))) → IsFlat page'.vm.tree → IsSound page'.vm.mods
+      → nest_of page'.vm.tree.forest ≡ nest (live_of (seen_code (tables_of (manifest_view a.manifest)) page'.code)) → IsFlat page'.vm.tree → IsSound page'.vm.mods
       → (before : List Ending) → Lists page before → (d : Text) → Logs a before page' d
       → (state : State) (turn : ℕ) (missing : List ℕ) (made : Turn) → turn ≡ s.turn → missing ≡ (applied (env_of a templates).app s (Some e)).missing
       → made.text ≡ written a templates page' s (Some e) d state (head_line turn (Some e)) (missing_lines missing)
@@ -104,7 +104,7 @@ module _ (a : App) (templates : List Body) (rises : NamesRise (manifest_view a.m
       let first : page.vm.tree.nodes.made ≡ s.numbers.next = ap (λ (ns : Numbers). ns.next) x.follows.numbers in
       let once = keys_are_once (env_of a templates).app s (state_of (tables_of (manifest_view a.manifest)) page.vm x.touched) (live_of (seen_code (tables_of (manifest_view a.manifest)) page.code)) x.follows in
       goes a templates page' s (Some e) (ended_lines (env_of a templates).app (state_of (tables_of (manifest_view a.manifest)) page.vm x.touched) (live_of (seen_code (tables_of (manifest_view a.manifest)) page.code)) l')
-      r.0 (moved_between (live_of (seen_code (tables_of (manifest_view a.manifest)) page.code)) l') r.2 r.1 (nested (tables_of (manifest_view a.manifest))) flat sound (stepped e x.reached r.2.is) (head_line turn (Some e)) (missing_lines missing) made
+      r.0 (moved_between (live_of (seen_code (tables_of (manifest_view a.manifest)) page.code)) l') r.2 r.1 nested flat sound (stepped e x.reached r.2.is) (head_line turn (Some e)) (missing_lines missing) made
       (ap (λ k. head_line k (Some e)) t) (ap missing_lines q) (w ∙ ap (λ z. written a templates page' s (Some e) z r.0 (head_line turn (Some e)) (missing_lines missing)) told)
       (record { evaluated = did'.evaluated; made = did'.made ∙ ap (λ k. page'.vm.tree.nodes.made - k) first; moved = did'.moved ∙ moves (tables_of (manifest_view a.manifest)) once })
 

@@ -50,6 +50,7 @@ pub(crate) fn givens_for(
 fn put(vm: &mut Vm, cell: RefId, value: Value) -> Result<(), AllocError>
     ensures step { OnOk result (Does (λ n. touch cell.1 (label cell.1) (labelled (view value))) vm.old vm.new) }
     ensures calm { Calm vm.old → Calm vm.new }
+    ensures tree { OnOk result (vm.new.tree ≡ vm.old.tree) }
 {
     if !vm.refs.room() {
         return Err(AllocError);
@@ -65,6 +66,7 @@ fn put(vm: &mut Vm, cell: RefId, value: Value) -> Result<(), AllocError>
 pub(crate) fn lay(vm: &mut Vm, givens: Vec<Given>) -> Result<(), AllocError>
     ensures step { OnOk result (Does (λ n. touch_all (map touch_of (reverse givens.items))) vm.old vm.new) }
     ensures calm { Calm vm.old → Calm vm.new }
+    ensures tree { OnOk result (vm.new.tree ≡ vm.old.tree) }
 {
     let mut waiting = givens;
     while let Some(given) = waiting.pop() {
@@ -77,6 +79,7 @@ pub(crate) fn lay(vm: &mut Vm, givens: Vec<Given>) -> Result<(), AllocError>
 pub(crate) fn begin_turn(vm: &mut Vm) -> Result<(), AllocError>
     ensures step { OnOk result (Does (λ n. begin) vm.old vm.new) }
     ensures calm { Calm vm.old → Calm vm.new }
+    ensures tree { OnOk result (vm.new.tree ≡ vm.old.tree) }
 {
     if !vm.refs.room() {
         return Err(AllocError);

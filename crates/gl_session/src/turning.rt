@@ -81,12 +81,12 @@ fn first_made(alloc: Global, app: &App, page: Page) -> Result<(Page, Turn), Allo
     Ok((page, Turn { text, work }))
 }
 
-/// A page that is updated, and whose nodes stand in the tree as they were rendered then. It answers how many items were moved, where no key of
-/// a list stood twice, and how many questions were answered.
+/// A page that is updated: where its nodes stood in the tree as they were rendered, they do so then. It answers how many items were moved,
+/// where no key of a list stood twice, and how many questions were answered.
 fn renew(alloc: Global, app: &App, page: &mut Page) -> Result<Moved, VmFault>
     requires calm { Calm page.old.vm }
     ensures ok { OnOk result (Renews app.now [] (λ n run. along_root_code_as by_number app.now.manifest.limit run (seen_code n page.old.code)) page.old.vm (λ n. seen_code n page.new.code) page.new.vm) }
-    ensures nodes { OnOk result ((n : _) → nest_of page.new.vm.tree.forest ≡ nest (live_of (seen_code n page.new.code))) }
+    ensures nodes { OnOk result ((n : _) → nest_of page.old.vm.tree.forest ≡ nest (live_of (seen_code n page.old.code)) → nest_of page.new.vm.tree.forest ≡ nest (live_of (seen_code n page.new.code))) }
     ensures fails { IfErr result (RenewFails {A = PlainCode} app.now [] (λ n run. along_root_code_as by_number app.now.manifest.limit run (seen_code n page.old.code)) page.old.vm) }
     ensures moved { IfOk result (λ m. (n : _) → KeysOnce (live_of (seen_code n page.old.code)) → m.items ≡ moved_between (live_of (seen_code n page.old.code)) (live_of (seen_code n page.new.code))) }
     ensures asked { IfOk result (λ m. Asks app.now [] (λ n run. along_asks_root by_number app.now.manifest.limit run (seen_code n page.old.code)) page.old.vm 0 m.asked) }

@@ -27,3 +27,7 @@ pub mod AskedItems
 pub mod AskedSync
 pub mod AskedStaying
 pub mod AskedLists
+pub mod Renewed
+pub mod RenewedRows
+pub mod Settling
+pub mod SyncNodes

@@ -126,3 +126,12 @@ kept_moved m0 m m' moves x y b d e f h more = λ n once.
     let same : moved_bodies (lives_of (b n)) (lives_of (d n)) ≡ moved_bodies (lives_of (x n).1.1) (lives_of (y n).1.1) = ap₂ (λ xs ys. moved_bodies (lives_of xs) (lives_of ys)) (sym (e n)) (sym (f n)) in
     let one = one_if moves in
     omega (arith, a, more, same)
+
+-- one that moved before
+pub moved_kept : (m0 m m' : Moved) (moves : Bool) (x y : Tables → Item) (b d : Tables → PlainCodes) → ((n : Tables) → (x n).1.1 ≡ b n) → ((n : Tables) → (y n).1.1 ≡ d n) → m.items ≡ m0.items + one_if moves → CodesMoved m m' b d
+    → KeptMoved m0 m' moves x y
+moved_kept m0 m m' moves x y b d e f more h = λ n once.
+    let a = h n (subst (λ cs. KeysOnceIn (lives_of cs)) (e n) once) in
+    let same : moved_bodies (lives_of (b n)) (lives_of (d n)) ≡ moved_bodies (lives_of (x n).1.1) (lives_of (y n).1.1) = ap₂ (λ xs ys. moved_bodies (lives_of xs) (lives_of ys)) (sym (e n)) (sym (f n)) in
+    let one = one_if moves in
+    omega (arith, a, more, same)

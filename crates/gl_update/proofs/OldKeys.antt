@@ -1,19 +1,22 @@
 -- The keys of the old items, and the plan over them.
-use Rattle.std.proofs.Common.{◌≡◌, ◌<◌, ◌≤◌, ℕ, ◌+◌, true, List, [], ◌∷◌, ◌++◌, map, reverse, drop, length, get_or, Option, Some, None, refl, sym, ◌∙◌, ap, ap₂}
-use Rattle.std.specs.Prelude.{filter_map}
+use Rattle.std.proofs.Common.{◌≡◌, ◌<◌, ◌≤◌, ℕ, suc, ◌+◌, Bool, true, false, List, [], ◌∷◌, ◌++◌, map, reverse, drop, length, get_or, append-nil, Option, Some, None, true≢false, refl, sym, ◌∙◌, ap, ap₂, subst, arith, ltb-true}
+use Rattle.std.specs.Prelude.{◌||◌, filter_map, nat_lt}
+use Rattle.std.proofs.Math.Bool.{or-false}
+use Rattle.std.proofs.lemmas.Bool.{ltb-false}
 use Rattle.std.proofs.lemmas.List.{drop_all, map-append, reverse-append, reverse-reverse}
+use Rattle.std.proofs.lemmas.List.Folds.{list_any-append}
 use Rattle.gl_base.proofs.Lists.{drop_item}
 use Rattle.gl_ast.specs.ExprCode.{owned, unowned, unowned-owned}
 use Rattle.gl_meaning.specs.Render.{Entry}
 use Rattle.gl_each.specs.Key.{Key as PlainKey, same_key, entry_keys}
 use Rattle.gl_each.specs.SameKeys.{same_key-Decides}
-use Rattle.gl_each.specs.Sync.{Step, retain, move, insert, AreSteps}
+use Rattle.gl_each.specs.Sync.{Step, retain, move, insert, is_passed, AreSteps}
 use Rattle.gl_each.specs.View.{key_view, seen_keys, step_view, seen_steps}
 use Rattle.gl_each.specs.declared.key.Key.{Key}
 use Rattle.gl_each.specs.declared.step.PlanStep.{PlanStep}
 use Rattle.gl_code.specs.declared.code.ItemCode.{ItemCode}
 use Rattle.gl_update.specs.ListItems.{there}
-use Rattle.gl_update.specs.OldItems.{raw_key, code_key, Plans, CodeKeys}
+use Rattle.gl_update.specs.OldItems.{raw_key, code_key, Plans, CodeKeys, Rising}
 
 -- the keys and the items agree from a place on, where they do at it and behind it
 pub keys_next : (ks : List Key) (xs : List ItemCode) (i : ℕ) (k : Key) (x : ItemCode) → i < length ks → i < length xs → k ≡ get_or ks i k → x ≡ get_or xs i x → same_key (key_view k) (raw_key x) ≡ true
@@ -50,6 +53,45 @@ plans_of old before (k ∷ ks) (move i ∷ ss) h = (h.0.0, plans_of old (before 
 plans_of old before (k ∷ ks) (insert ∷ ss) h = (h.0, plans_of old (before ++ []) ks ss h.1)
 plans_of old before [] (s ∷ ss) h = absurd h
 plans_of old before (k ∷ ks) [] h = absurd h
+
+-- The place is the one behind the greatest of those that steps keep: the places before are those of which a greater one is kept.
+abbrev pub Highest : List ℕ → ℕ → Type 0
+Highest before k = (j : ℕ) → (is_passed before j ≡ true → suc j < k) × (is_passed before j ≡ false → k ≤ suc j)
+
+pub highest_none : Highest [] 0
+highest_none j = (λ e. absurd (true≢false (sym e)), λ e. omega arith)
+
+one_more : (before : List ℕ) (i j : ℕ) → is_passed (before ++ i ∷ []) j ≡ (is_passed before j || nat_lt j i)
+one_more before i j = list_any-append (λ d. nat_lt j d) before (i ∷ []) ∙ ap (λ b. is_passed before j || b) (or-false (nat_lt j i))
+
+-- where one more place is kept
+highest_more : (before : List ℕ) (k i m : ℕ) → Highest before k → k ≤ m → i < m → ((j : ℕ) → k ≤ suc j → i ≤ j → m ≤ suc j) → Highest (before ++ i ∷ []) m
+highest_more before k i m t le lt least j = (
+  (λ e. passed (is_passed before j) (nat_lt j i) refl refl (sym (one_more before i j) ∙ e)),
+  (λ e. not_passed (is_passed before j) (nat_lt j i) refl refl (sym (one_more before i j) ∙ e)),
+) where
+  passed : (b c : Bool) → is_passed before j ≡ b → nat_lt j i ≡ c → (b || c) ≡ true → suc j < m
+  passed true c d e f = let h = (t j).0 d in omega (arith, h, le)
+  passed false true d e f = let h = ltb-true j i e in omega (arith, h, lt)
+  passed false false d e f = absurd (true≢false (sym f))
+
+  not_passed : (b c : Bool) → is_passed before j ≡ b → nat_lt j i ≡ c → (b || c) ≡ false → m ≤ suc j
+  not_passed true c d e f = absurd (true≢false f)
+  not_passed false true d e f = absurd (true≢false f)
+  not_passed false false d e f = least j ((t j).1 d) (ltb-false j i e)
+
+-- a plan comes to the old places in order
+pub rising_of : (old : List PlainKey) (before : List ℕ) (k : ℕ) (ks : List PlainKey) (ss : List Step) → Highest before k → AreSteps old before ks ss → Rising k ss
+rising_of old before k [] [] t h = tt
+rising_of old before k (x ∷ ks) (retain i ∷ ss) t h =
+    let le = (t i).1 h.0.1 in
+    (le, rising_of old (before ++ i ∷ []) (suc i) ks ss (highest_more before k i (suc i) t le (omega arith) (λ j a b. omega (arith, b))) h.1)
+rising_of old before k (x ∷ ks) (move i ∷ ss) t h =
+    let lt = (t i).0 h.0.1 in
+    (omega (arith, lt), rising_of old (before ++ i ∷ []) k ks ss (highest_more before k i k t (omega arith) (omega (arith, lt)) (λ j a b. a)) h.1)
+rising_of old before k (x ∷ ks) (insert ∷ ss) t h = rising_of old (before ++ []) k ks ss (subst (λ b. Highest b k) (sym (append-nil before)) t) h.1
+rising_of old before k [] (s ∷ ss) t h = absurd h
+rising_of old before k (x ∷ ks) [] t h = absurd h
 
 steps-reverse : (ss : List PlanStep) → seen_steps (reverse ss) ≡ reverse (seen_steps ss)
 steps-reverse [] = refl

@@ -1,6 +1,6 @@
 -- What is so of a fault is another thing that is so.
 use Rattle.std.proofs.Common.{◌≡◌, ◌≢◌, ℕ, Bool, true, false, List, ◌++◌, length, take, sym, ◌∙◌, ap, subst}
-use Rattle.std.specs.Prelude.{Result, Ok, Err, IfErr, OnOk}
+use Rattle.std.specs.Prelude.{Result, Ok, Err, IfErr, IfOk, OnOk}
 use Rattle.std.proofs.Math.Bool.{beq}
 use Rattle.std.proofs.Math.Seq.{take-append_seam}
 
@@ -12,6 +12,15 @@ if_err (Err e) g p = g e p
 pub on_ok_always : {T E P : Type 0} (r : Result T E) → P → OnOk r P
 on_ok_always (Ok x) p = p
 on_ok_always (Err e) p = tt
+
+-- two things that are so of an answer
+pub on_ok_two : {T E P Q R : Type 0} (r : Result T E) → (P → Q → R) → OnOk r P → OnOk r Q → OnOk r R
+on_ok_two (Ok x) g p q = g p q
+on_ok_two (Err e) g p q = tt
+
+pub if_ok_two : {T E Q : Type 0} {P R : T → Type 0} (r : Result T E) → ((x : T) → P x → Q → R x) → IfOk r P → OnOk r Q → IfOk r R
+if_ok_two (Ok x) g p q = g x p q
+if_ok_two (Err e) g p q = tt
 
 -- what was written to the whole of a vector
 pub written : {A : Type 0} (xs ys : List A) (n : ℕ) → n ≡ length xs → xs ≡ take n (xs ++ ys)

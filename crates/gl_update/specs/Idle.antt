@@ -4,13 +4,11 @@ use Rattle.std.specs.declared.rc.Rc.{Rc}
 use Rattle.std.specs.declared.alloc.Global.{Global}
 use Rattle.gl_meaning.specs.Scope.{Source}
 use Rattle.gl_plain.specs.Counts.{positions_in}
-use Rattle.gl_machine.specs.Code.{live_of, lives_of}
-use Rattle.gl_machine.specs.Shape.{nest}
+use Rattle.gl_machine.specs.Code.{lives_of}
 use Rattle.gl_guards.specs.Along.{enters_whole}
 use Rattle.gl_vm.specs.View.{Tables, Agrees, state_of}
 use Rattle.gl_vm.specs.declared.vm.Vm.{Vm}
-use Rattle.gl_code.specs.CodeView.{seen_code, seen_codes}
-use Rattle.gl_code.specs.Hung.{nest_of}
+use Rattle.gl_code.specs.CodeView.{seen_codes}
 use Rattle.gl_code.specs.declared.sight.Owner.{Owner}
 use Rattle.gl_code.specs.declared.code.Codes.{Codes}
 use Rattle.gl_code.specs.declared.code.Code.TheVariants.{Root}
@@ -26,14 +24,13 @@ pub record IsFresh (vm : Vm) (body : Codes) : Type 0 where
   pub agrees : Agrees touched vm
   pub fresh : enters_whole (state_of tables vm touched) (positions_in (lives_of (seen_codes tables body))) ≡ false
 
--- The body of a page is fresh, and its nodes stand as they were rendered.
+-- The body of a page is fresh.
 pub record IsIdle (limit : ℕ) (page : Page) : Type 0 where
   pub nests : 0 < limit
   pub owner : Rc Owner Global
   pub body : Codes
   pub root : page.code ≡ Root owner body
   pub fresh : IsFresh page.vm body
-  pub stands : (n : Tables) → nest_of page.vm.tree.forest ≡ nest (live_of (seen_code n page.code))
 
 -- Nothing but the count of questions is another.
 abbrev pub AsksAlone : Vm → Vm → Type 0

@@ -8,3 +8,4 @@ pub mod NextItem
 pub mod TakenLists
 pub mod Read
 pub mod Idle
+pub mod Standing

@@ -1,5 +1,5 @@
 -- Old items of a list that are taken by their keys.
-use Rattle.std.specs.Prelude.{◌≡◌, ◌≢◌, ℕ, List, [], ◌∷◌, reverse, set, Bool, true, false, Option, Some, None, slice_get}
+use Rattle.std.specs.Prelude.{◌≡◌, ◌≢◌, ◌<◌, ◌≤◌, ℕ, suc, List, [], ◌∷◌, reverse, set, Bool, true, false, Option, Some, None, slice_get}
 use Rattle.std.specs.declared.alloc.Global.{Global}
 use Rattle.std.specs.declared.boxed.Box.{Box}
 use Rattle.gl_ast.specs.ExprCode.{owned}
@@ -78,6 +78,14 @@ pub record IsReady (w : Work) : Type 0 where
   pub once : NoRepeat w.keys
   pub has : CodeKeys w.keys w.olds.items
   pub plans : Plans w.keys (entry_keys (seen_left w.waiting.items)) (reverse (seen_steps w.steps.items))
+
+-- So many old places were come to: a step that keeps an item in its place keeps none before the last of these, and a step that moves one takes
+-- one of them.
+abbrev pub Rising : ℕ → List Step → Type 0
+Rising k [] = Unit {0}
+Rising k (retain i ∷ ss) = (k ≤ suc i) × Rising (suc i) ss
+Rising k (move i ∷ ss) = (i < k) × Rising k ss
+Rising k (insert ∷ ss) = Rising k ss
 
 -- the item of an entry: the old one that was taken for it, or a new one
 abbrev pub OneItem : (Tables → Listing) → ℕ → Path → Entry → Option ItemCode → Renewal Item

@@ -13,6 +13,9 @@ ghost use Rattle.gl_update.specs.Counted.{CodeMoved, ItemsAlong, KeptMoved};
 ghost use Rattle.gl_update.specs.Questions.{Asks, AsksBody, AsksItems, AsksList};
 ghost use Rattle.gl_update.specs.ListItems.{Item, AlongItem, AlongItems, EntersList, GoesAlong, spot_key};
 ghost use Rattle.gl_code.specs.Renewing.{Renews, RenewFails};
+ghost use Rattle.gl_seats.specs.Parts.{code_nest, item_nest, items_nest};
+ghost use Rattle.gl_seats.specs.Seats.{NodesRenewed};
+ghost use Rattle.gl_nodes.specs.Flat.{stamp_of};
 
 use crate::codes::renew_codes;
 use crate::counting::Moved;
@@ -62,6 +65,7 @@ pub(crate) fn walk_item<A: AppendBlock>(
     ensures key { OnOk result ((n : _) → spot_key (seen_item_code n item.new) ≡ spot_key (seen_item_code n item.old)) }
     ensures trail { OnOk result (trail.new ≡ trail.old) }
     ensures calm { Calm vm.new }
+    ensures nodes { OnOk result (NodesRenewed vm.old.tree vm.new.tree moved.old.items moved.new.items (stamp_of parent.now) (λ n. item_nest n item.old) (λ n. item_nest n item.new)) }
 {
     moved.ask(1)?;
     let mark = moved.mark(vm);
@@ -111,6 +115,7 @@ fn walk_items<A: AppendBlock>(
     ensures asked { OnOk result (Asks app.now cells.now (AsksItems left (trail_view trail.old) (λ n. map (seen_item_code n) items.old.items)) vm.old moved.old.asked moved.new.asked) }
     ensures trail { OnOk result (trail.new ≡ trail.old) }
     ensures calm { Calm vm.new }
+    ensures nodes { OnOk result (NodesRenewed vm.old.tree vm.new.tree moved.old.items moved.new.items (stamp_of parent.now) (λ n. items_nest n items.old.items) (λ n. items_nest n items.new.items)) }
 {
     for item in items.iter_mut() {
         match walk_item::<A>(vm, alloc, app, cells, trail, left, item, parent, moved) {
@@ -160,6 +165,7 @@ fn walk_entered<A: AppendBlock>(
     ensures asked { OnOk result (Asks app.now cells.now (AsksItems left (items ∷ trail_view trail.old) (λ n. map (seen_item_code n) list.value.items.items)) vm.old moved.old.asked moved.new.asked) }
     ensures trail { OnOk result (trail.new ≡ trail.old) }
     ensures calm { Calm vm.new }
+    ensures nodes { IfOk result (λ r. NodesRenewed vm.old.tree vm.new.tree moved.old.items moved.new.items (stamp_of parent.now) (λ n. items_nest n list.value.items.items) (λ n. code_nest n r.value)) }
 {
     let mut list = list;
     trail.push(PathStep::Items)?;
@@ -203,6 +209,7 @@ pub(crate) fn walk_list<A: AppendBlock>(
     ensures asked { OnOk result (Asks app.now cells.now (AsksList left (items ∷ trail_view trail.old) (λ n. map (seen_item_code n) list.value.items.items)) vm.old moved.old.asked moved.new.asked) }
     ensures trail { OnOk result (trail.new ≡ trail.old) }
     ensures calm { Calm vm.new }
+    ensures nodes { IfOk result (λ r. NodesRenewed vm.old.tree vm.new.tree moved.old.items moved.new.items (stamp_of parent.now) (λ n. items_nest n list.value.items.items) (λ n. code_nest n r.value)) }
 {
     let asked = ask_items(vm, list, moved)?;
     let mark = moved.mark(vm);

@@ -12,6 +12,10 @@ ghost use Rattle.gl_update.specs.Counted.{CodeMoved, CodesMoved};
 ghost use Rattle.gl_update.specs.Questions.{Asks, AsksBody, AsksCode, AsksIn};
 ghost use Rattle.gl_update.specs.View.{trail_view};
 ghost use Rattle.gl_code.specs.Renewing.{Renews, RenewFails};
+ghost use Rattle.gl_seats.specs.Parts.{code_nest, codes_nest};
+ghost use Rattle.gl_seats.specs.Seats.{NodesRenewed};
+ghost use Rattle.gl_machine.specs.Shape.{end, tree as nested};
+ghost use Rattle.gl_nodes.specs.Flat.{stamp_of};
 
 use crate::branches::renew_branch;
 use crate::counting::Moved;
@@ -49,6 +53,7 @@ pub(crate) fn renew_codes<A: AppendBlock>(
     ensures asked { OnOk result (Asks app.now cells.now (AsksIn left (trail_view trail.old) (λ n. seen_codes n codes.old)) vm.old moved.old.asked moved.new.asked) }
     ensures trail { OnOk result (trail.new ≡ trail.old) }
     ensures calm { Calm vm.new }
+    ensures nodes { OnOk result (NodesRenewed vm.old.tree vm.new.tree moved.old.items moved.new.items (stamp_of parent.now) (λ n. codes_nest n codes.old) (λ n. codes_nest n codes.new)) }
 {
     for (place, code) in codes.list.iter_mut().enumerate() {
         trail.push(PathStep::At(place as u64))?;
@@ -82,6 +87,7 @@ pub(crate) fn renew_body<A: AppendBlock>(
     ensures asked { OnOk result (Asks app.now cells.now (AsksBody left (trail_view trail.old) (λ n. seen_codes n codes.old)) vm.old moved.old.asked moved.new.asked) }
     ensures trail { OnOk result (trail.new ≡ trail.old) }
     ensures calm { Calm vm.new }
+    ensures nodes { OnOk result (NodesRenewed vm.old.tree vm.new.tree moved.old.items moved.new.items (stamp_of parent.now) (λ n. codes_nest n codes.old) (λ n. codes_nest n codes.new)) }
 {
     moved.ask(1)?;
     let mark = moved.mark(vm);
@@ -119,6 +125,7 @@ pub(crate) fn renew_code<A: AppendBlock>(
     ensures asked { OnOk result (Asks app.now cells.now (AsksCode left (trail_view trail.old) (λ n. seen_code n code.old)) vm.old moved.old.asked moved.new.asked) }
     ensures trail { OnOk result (trail.new ≡ trail.old) }
     ensures calm { Calm vm.new }
+    ensures nodes { OnOk result (NodesRenewed vm.old.tree vm.new.tree moved.old.items moved.new.items (stamp_of parent.now) (λ n. code_nest n code.old) (λ n. code_nest n code.new)) }
 {
     match code {
         Code::Still { .. } => Ok(()),
@@ -197,6 +204,7 @@ fn renew_element<A: AppendBlock>(
     ensures asked { OnOk result ((made : _) → Asks app.now cells.now (AsksCode left (trail_view trail.old) (λ n. c.element_code node.1 made (map seen_attr_spot attrs.now.items) (map seen_mod_spot mods.now.items) (seen_codes n body.old))) vm.old moved.old.asked moved.new.asked) }
     ensures trail { OnOk result (trail.new ≡ trail.old) }
     ensures calm { Calm vm.new }
+    ensures nodes { OnOk result ((p : _) → NodesRenewed vm.old.tree vm.new.tree moved.old.items moved.new.items p (λ n. nested node.1 (codes_nest n body.old) end) (λ n. nested node.1 (codes_nest n body.new) end)) }
 {
     moved.ask(attrs.len())?;
     moved.ask(mods.len())?;
@@ -232,6 +240,7 @@ pub(crate) fn renew_below<A: AppendBlock>(
     ensures asked { OnOk result (Asks app.now cells.now (AsksIn left (path_step_view step ∷ trail_view trail.old) (λ n. seen_codes n body.old)) vm.old moved.old.asked moved.new.asked) }
     ensures trail { OnOk result (trail.new ≡ trail.old) }
     ensures calm { Calm vm.new }
+    ensures nodes { OnOk result (NodesRenewed vm.old.tree vm.new.tree moved.old.items moved.new.items (stamp_of parent.now) (λ n. codes_nest n body.old) (λ n. codes_nest n body.new)) }
 {
     trail.push(step)?;
     match renew_codes::<A>(vm, alloc, app, cells, trail, left, body, parent, moved) {
@@ -265,6 +274,7 @@ pub(crate) fn renew_side<A: AppendBlock>(
     ensures asked { OnOk result (Asks app.now cells.now (AsksBody left (path_step_view step ∷ trail_view trail.old) (λ n. seen_codes n body.old)) vm.old moved.old.asked moved.new.asked) }
     ensures trail { OnOk result (trail.new ≡ trail.old) }
     ensures calm { Calm vm.new }
+    ensures nodes { OnOk result (NodesRenewed vm.old.tree vm.new.tree moved.old.items moved.new.items (stamp_of parent.now) (λ n. codes_nest n body.old) (λ n. codes_nest n body.new)) }
 {
     moved.ask(1)?;
     let mark = moved.mark(vm);
@@ -304,6 +314,7 @@ fn renew_let<A: AppendBlock>(
     ensures asked { OnOk result (Asks app.now cells.now (AsksIn left (main ∷ trail_view trail.old) (λ n. seen_codes n body.old)) vm.old moved.old.asked moved.new.asked) }
     ensures trail { OnOk result (trail.new ≡ trail.old) }
     ensures calm { Calm vm.new }
+    ensures nodes { OnOk result (NodesRenewed vm.old.tree vm.new.tree moved.old.items moved.new.items (stamp_of parent.now) (λ n. codes_nest n body.old) (λ n. codes_nest n body.new)) }
 {
     let step = PathStep::Then;
     renew_below::<A>(
@@ -332,6 +343,7 @@ pub(crate) fn renew_else<A: AppendBlock>(
     ensures asked { OnOk result (Asks app.now cells.now (AsksBody left (otherwise ∷ trail_view trail.old) (λ n. seen_codes n body.old)) vm.old moved.old.asked moved.new.asked) }
     ensures trail { OnOk result (trail.new ≡ trail.old) }
     ensures calm { Calm vm.new }
+    ensures nodes { OnOk result (NodesRenewed vm.old.tree vm.new.tree moved.old.items moved.new.items (stamp_of parent.now) (λ n. codes_nest n body.old) (λ n. codes_nest n body.new)) }
 {
     let step = PathStep::Else;
     renew_side::<A>(
@@ -361,6 +373,7 @@ fn renew_yield<A: AppendBlock>(
     ensures asked { OnOk result (Asks app.now cells.now (AsksIn left (slot name.now ∷ trail_view trail.old) (λ n. seen_codes n body.old)) vm.old moved.old.asked moved.new.asked) }
     ensures trail { OnOk result (trail.new ≡ trail.old) }
     ensures calm { Calm vm.new }
+    ensures nodes { OnOk result (NodesRenewed vm.old.tree vm.new.tree moved.old.items moved.new.items (stamp_of parent.now) (λ n. codes_nest n body.old) (λ n. codes_nest n body.new)) }
 {
     let step = PathStep::Slot(name.copy()?);
     renew_below::<A>(
@@ -388,6 +401,7 @@ fn renew_component<A: AppendBlock>(
     ensures moved { OnOk result (CodesMoved moved.old moved.new (λ n. seen_codes n body.old) (λ n. seen_codes n body.new)) }
     ensures asked { OnOk result ((i : _) (made gm : _) (args : _) (k : _) (p : _) → i.path ≡ path_view path.now → Asks app.now cells.now (AsksCode left p (λ n. c.component_code i made gm args k (seen_codes n body.old))) vm.old moved.old.asked moved.new.asked) }
     ensures calm { Calm vm.new }
+    ensures nodes { OnOk result (NodesRenewed vm.old.tree vm.new.tree moved.old.items moved.new.items (stamp_of parent.now) (λ n. codes_nest n body.old) (λ n. codes_nest n body.new)) }
 {
     if left == 0 {
         return Err(VmFault::Memory);

@@ -7,6 +7,8 @@ ghost use Rattle.gl_machine.specs.Code.{lives_of};
 ghost use Rattle.gl_vm.specs.View.{Calm};
 ghost use Rattle.gl_vm.specs.Steps.{Does};
 ghost use Rattle.gl_code.specs.CodeView.{seen_codes};
+ghost use Rattle.gl_seats.specs.Parts.{body_nest};
+ghost use Rattle.gl_seats.specs.Seats.{Unseats};
 
 use gl_code::Codes;
 use gl_nodes::NodeId;
@@ -23,6 +25,8 @@ pub(crate) fn end_branch(
     requires calm { Calm vm.old }
     ensures step { OnOk result (Does (λ n. dropped_as by_number (λ q. times_in q (lives_of (seen_codes n codes.now)) + times_comment q (stamp_of comment.now))) vm.old vm.new) }
     ensures calm { Calm vm.new }
+    ensures unseats { OnOk result ((n : _) → Unseats vm.old.tree.forest vm.new.tree.forest (body_nest n codes.now comment.now)) }
+    ensures moves { OnOk result (vm.new.tree.moves ≡ vm.old.tree.moves) }
 {
     gl_ends::end_branch(vm, codes, comment)
 }

@@ -6,6 +6,8 @@ ghost use Rattle.gl_machine.specs.Code.{items_of};
 ghost use Rattle.gl_vm.specs.View.{Calm};
 ghost use Rattle.gl_vm.specs.Steps.{Does};
 ghost use Rattle.gl_code.specs.CodeView.{seen_item_code, all_items};
+ghost use Rattle.gl_seats.specs.Parts.{item_nest};
+ghost use Rattle.gl_seats.specs.Seats.{UnseatsEach};
 
 use gl_code::ItemCode;
 use gl_vm::Vm;
@@ -17,6 +19,8 @@ pub(crate) fn end_items(vm: &mut Vm, items: &[ItemCode]) -> Result<(), AllocErro
     requires calm { Calm vm.old }
     ensures step { OnOk result (Does (λ n. dropped_as by_number (λ q. times_items q (items_of (all_items (map (seen_item_code n) items.now))))) vm.old vm.new) }
     ensures calm { Calm vm.new }
+    ensures unseats { OnOk result ((n : _) → UnseatsEach vm.old.tree.forest vm.new.tree.forest (map (item_nest n) items.now)) }
+    ensures moves { OnOk result (vm.new.tree.moves ≡ vm.old.tree.moves) }
 {
     gl_ends::end_items(vm, items)
 }

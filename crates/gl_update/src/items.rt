@@ -13,8 +13,10 @@ ghost use Rattle.gl_code.specs.CodeView.{seen_listing, seen_item_spot, seen_item
 ghost use Rattle.gl_code.specs.Entries.{seen_entry, seen_left};
 ghost use Rattle.gl_update.specs.ListItems.{Item, spot_key, BodyItem, FreshItem, FreshItems};
 ghost use Rattle.gl_code.specs.Renewing.{Renews, RenewFails};
+ghost use Rattle.gl_seats.specs.Parts.{item_nest, items_nest};
+ghost use Rattle.gl_seats.specs.Seats.{SeatsBefore};
+ghost use Rattle.gl_nodes.specs.Flat.{stamp_of};
 
-use crate::seating::Seat;
 use crate::standing::seat_with_comment;
 use gl_code::{
     AppendBlock, Cells, Entry, ItemCode, ItemSpot, Listing, Sight, VmFault, below, counted,
@@ -22,6 +24,7 @@ use gl_code::{
 };
 use gl_meaning::{Path, PathStep};
 use gl_opc::App;
+use gl_seats::Seat;
 use gl_value::Value;
 use gl_vm::Vm;
 use std::alloc::{AllocError, Global};
@@ -68,6 +71,8 @@ fn item_body<A: AppendBlock>(
     ensures fails { IfErr result (RenewFails {A = Item} app.now cells.now (BodyItem (λ n. start (seen_sight n sight) pc (path_view path) left) (seen_item_spot spot)) vm.old) }
     ensures key { IfOk result (λ r. (n : _) → (seen_item_code n r).0 ≡ seen_item_spot spot) }
     ensures calm { Calm vm.new }
+    ensures seats { IfOk result (λ r. (n : _) → SeatsBefore vm.old.tree.forest vm.new.tree.forest (stamp_of seat.now.parent) (stamp_of seat.now.next) (item_nest n r)) }
+    ensures moves { OnOk result (vm.new.tree.moves ≡ vm.old.tree.moves) }
 {
     match A::append_block(vm, alloc, app, cells, sight, pc, path, left) {
         Ok(body) => {
@@ -96,6 +101,8 @@ pub(crate) fn fresh_item<A: AppendBlock>(
     ensures fails { IfErr result (RenewFails {A = Item} app.now cells.now (FreshItem (λ n. seen_listing n listing.now) left (path_view path) (seen_entry entry)) vm.old) }
     ensures key { IfOk result (λ r. (n : _) → spot_key (seen_item_code n r) ≡ entry_key (seen_entry entry)) }
     ensures calm { Calm vm.new }
+    ensures seats { IfOk result (λ r. (n : _) → SeatsBefore vm.old.tree.forest vm.new.tree.forest (stamp_of seat.now.parent) (stamp_of seat.now.next) (item_nest n r)) }
+    ensures moves { OnOk result (vm.new.tree.moves ≡ vm.old.tree.moves) }
 {
     let value = vm.item(entry.value)?;
     let index = vm.item(counted(entry.index))?;
@@ -140,6 +147,8 @@ pub(crate) fn fresh_items<A: AppendBlock>(
     ensures ok { IfOk result (λ r. Renews app.now cells.now (FreshItems (λ n. seen_listing n listing.now) left (path_view base.now) (seen_left entries.items)) vm.old (λ n. all_items (map (seen_item_code n) r.items)) vm.new) }
     ensures fails { IfErr result (RenewFails {A = ItemCodes} app.now cells.now (FreshItems (λ n. seen_listing n listing.now) left (path_view base.now) (seen_left entries.items)) vm.old) }
     ensures calm { Calm vm.new }
+    ensures seats { IfOk result (λ r. (n : _) → SeatsBefore vm.old.tree.forest vm.new.tree.forest (stamp_of seat.now.parent) (stamp_of seat.now.next) (items_nest n r.items)) }
+    ensures moves { OnOk result (vm.new.tree.moves ≡ vm.old.tree.moves) }
 {
     let mut waiting = entries;
     let mut done = Vec::new(alloc);

@@ -16,12 +16,10 @@ mod old_items;
 mod pages;
 mod positions;
 mod reading;
-mod seating;
 mod standing;
 mod staying;
 mod syncing;
 mod taken;
-mod tops;
 mod trail;
 
 pub use counting::Moved;

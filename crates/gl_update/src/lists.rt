@@ -14,6 +14,8 @@ ghost use Rattle.gl_update.specs.Questions.{Asks, AsksCode, AsksListed, AsksReli
 ghost use Rattle.gl_update.specs.View.{trail_view};
 ghost use Rattle.gl_update.specs.ListItems.{ListsFresh, ListsNone, Relists};
 ghost use Rattle.gl_code.specs.Renewing.{Renews, RenewFails};
+ghost use Rattle.gl_seats.specs.Parts.{code_nest, body_nest, items_nest};
+ghost use Rattle.gl_seats.specs.Seats.{NodesRenewed, Replaces};
 
 use crate::along::walk_list;
 use crate::codes::renew_else;
@@ -22,7 +24,7 @@ use crate::ending::end_branch;
 use crate::ending_items::end_items;
 use crate::items::fresh_items;
 use crate::reading::{Read, read_listed};
-use crate::standing::{behind, behind_items, seat_with_comment};
+use crate::standing::seat_with_comment;
 use crate::staying::stay_list;
 use crate::syncing::sync_list;
 use crate::taken::{
@@ -34,6 +36,7 @@ use gl_code::{AppendBlock, Cells, Code, Codes, Entry, ItemCode, Listing, Spot, V
 use gl_meaning::PathStep;
 use gl_nodes::NodeId;
 use gl_opc::App;
+use gl_seats::{behind, behind_items};
 use gl_vm::Vm;
 use std::alloc::Global;
 
@@ -58,6 +61,7 @@ pub(crate) fn renew_list<A: AppendBlock>(
     ensures asked { OnOk result (Asks app.now cells.now (AsksCode left (trail_view trail.old) (λ n. seen_code n code.old)) vm.old moved.old.asked moved.new.asked) }
     ensures trail { OnOk result (trail.new ≡ trail.old) }
     ensures calm { Calm vm.new }
+    ensures nodes { OnOk result (NodesRenewed vm.old.tree vm.new.tree moved.old.items moved.new.items (stamp_of parent.now) (λ n. code_nest n code.old) (λ n. code_nest n code.new)) }
 {
     moved.ask(1)?;
     match take_list(alloc, code)? {
@@ -105,6 +109,7 @@ fn renew_listed<A: AppendBlock>(
     ensures asked { OnOk result (Asks app.now cells.now (AsksListed (λ n. seen_listing n list.value.listing) (seen_spot list.value.spot) left (trail_view trail.old) (λ n. map (seen_item_code n) list.value.items.items)) vm.old moved.old.asked moved.new.asked) }
     ensures trail { OnOk result (trail.new ≡ trail.old) }
     ensures calm { Calm vm.new }
+    ensures nodes { IfOk result (λ r. NodesRenewed vm.old.tree vm.new.tree moved.old.items moved.new.items (stamp_of parent.now) (λ n. items_nest n list.value.items.items) (λ n. code_nest n r.value)) }
 {
     let asked = ask_list(vm, list)?;
     let stale = asked.1;
@@ -137,6 +142,7 @@ fn relist<A: AppendBlock>(
     ensures asked { OnOk result (Asks app.now cells.now (AsksRelist (λ n. seen_listing n list.value.listing) (seen_spot list.value.spot) left (trail_view trail.old) (λ n. map (seen_item_code n) list.value.items.items)) vm.old moved.old.asked moved.new.asked) }
     ensures trail { OnOk result (trail.new ≡ trail.old) }
     ensures calm { Calm vm.new }
+    ensures nodes { IfOk result (λ r. NodesRenewed vm.old.tree vm.new.tree moved.old.items moved.new.items (stamp_of parent.now) (λ n. items_nest n list.value.items.items) (λ n. code_nest n r.value)) }
 {
     let read = read_listed(vm, alloc, list)?;
     match read {
@@ -173,6 +179,8 @@ fn end_list<A: AppendBlock>(
     ensures fails { IfErr result (RenewFails {A = PlainCode} app.now cells.now (ListsNone (λ n. seen_listing n list.value.listing) (seen_spot list.value.spot) left (trail_view trail.now) (λ n q. times_items q (lives_in (all_items (map (seen_item_code n) list.value.items.items))))) vm.old) }
     ensures none { IfOk result (λ r. (n : _) → IsUnlisted (live_of (seen_code n r.value))) }
     ensures calm { Calm vm.new }
+    ensures nodes { IfOk result (λ r. (n : _) → Replaces vm.old.tree.forest vm.new.tree.forest (stamp_of parent.now) (items_nest n list.value.items.items) (code_nest n r.value)) }
+    ensures moves { OnOk result (vm.new.tree.moves ≡ vm.old.tree.moves) }
 {
     drop(ready);
     let list = Box::into_inner(list);
@@ -212,10 +220,12 @@ fn unlist<A: AppendBlock>(
     ensures fails { IfErr result (RenewFails {A = PlainCode} app.now cells.now (ListsNone (λ n. seen_listing n listing) (seen_spot spot) left (trail_view trail.now) (λ n q. times_items q (lives_in (all_items (map (seen_item_code n) items.now.items))))) vm.old) }
     ensures none { IfOk result (λ r. (n : _) → IsUnlisted (live_of (seen_code n r))) }
     ensures calm { Calm vm.new }
+    ensures nodes { IfOk result (λ r. (n : _) → Replaces vm.old.tree.forest vm.new.tree.forest (stamp_of parent.now) (items_nest n items.now.items) (code_nest n r)) }
+    ensures moves { OnOk result (vm.new.tree.moves ≡ vm.old.tree.moves) }
 {
     let sight = listing.sight.as_ref().copy()?;
     let path = trail.below(alloc, PathStep::Else)?;
-    let seat = behind_items(vm, parent, items.as_slice())?;
+    let seat = behind_items(&vm.tree, parent, items.as_slice())?;
     end_items(vm, items.as_slice())?;
     match A::append_block(vm, alloc, app, cells, sight, listing.other, path, left) {
         Ok(codes) => {
@@ -247,6 +257,7 @@ fn renew_unlisted<A: AppendBlock>(
     ensures asked { OnOk result (Asks app.now cells.now (AsksUnlisted (seen_spot list.value.spot) left (trail_view trail.old) (λ n. seen_codes n list.value.body)) vm.old moved.old.asked moved.new.asked) }
     ensures trail { OnOk result (trail.new ≡ trail.old) }
     ensures calm { Calm vm.new }
+    ensures nodes { IfOk result (λ r. NodesRenewed vm.old.tree vm.new.tree moved.old.items moved.new.items (stamp_of parent.now) (λ n. body_nest n list.value.body list.value.comment) (λ n. code_nest n r.value)) }
 {
     let read = read_unlisted(vm, alloc, list)?;
     if read.1.entries.is_empty() {
@@ -288,6 +299,8 @@ fn begin_list<A: AppendBlock>(
     ensures fails { IfErr result (RenewFails {A = PlainCode} app.now cells.now (ListsFresh (λ n. seen_listing n list.value.listing) (seen_spot list.value.spot) left (trail_view trail.now) (seen_left ready.value.entries.items) (λ n q. times_in q (lives_of (seen_codes n list.value.body)) + times_comment q (stamp_of list.value.comment))) vm.old) }
     ensures some { IfOk result (λ r. (n : _) → IsListed (live_of (seen_code n r.value))) }
     ensures calm { Calm vm.new }
+    ensures nodes { IfOk result (λ r. (n : _) → Replaces vm.old.tree.forest vm.new.tree.forest (stamp_of parent.now) (body_nest n list.value.body list.value.comment) (code_nest n r.value)) }
+    ensures moves { OnOk result (vm.new.tree.moves ≡ vm.old.tree.moves) }
 {
     let list = Box::into_inner(list);
     let ready = Box::into_inner(ready);
@@ -331,9 +344,11 @@ fn list_items<A: AppendBlock>(
     ensures fails { IfErr result (RenewFails {A = PlainCode} app.now cells.now (ListsFresh (λ n. seen_listing n listing) (seen_spot spot) left (trail_view trail.now) (seen_left entries.items) (λ n q. times_in q (lives_of (seen_codes n body.now)) + times_comment q (stamp_of comment.now))) vm.old) }
     ensures some { IfOk result (λ r. (n : _) → IsListed (live_of (seen_code n r))) }
     ensures calm { Calm vm.new }
+    ensures nodes { IfOk result (λ r. (n : _) → Replaces vm.old.tree.forest vm.new.tree.forest (stamp_of parent.now) (body_nest n body.now comment.now) (code_nest n r)) }
+    ensures moves { OnOk result (vm.new.tree.moves ≡ vm.old.tree.moves) }
 {
     let base = trail.below(alloc, PathStep::Items)?;
-    let seat = behind(vm, parent, body, comment)?;
+    let seat = behind(&vm.tree, parent, body, comment)?;
     end_branch(vm, body, comment)?;
     match fresh_items::<A>(vm, alloc, app, cells, left, &listing, &base, entries, &seat) {
         Ok(items) => Ok(Code::listed(listing, spot, items)),

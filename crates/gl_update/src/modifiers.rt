@@ -69,6 +69,7 @@ fn renew_mod(vm: &mut Vm, alloc: Global, spot: &ModSpot) -> Result<(), AllocErro
     requires calm { Calm vm.old }
     ensures step { OnOk result (Does (λ n. r.renew_mods (seen_mod_spot spot.now ∷ [])) vm.old vm.new) }
     ensures calm { Calm vm.new }
+    ensures tree { OnOk result (vm.new.tree ≡ vm.old.tree) }
 {
     if !is_stale(vm, spot.spot.id)? {
         return Ok(());
@@ -88,6 +89,7 @@ pub(crate) fn renew_mods(vm: &mut Vm, alloc: Global, mods: &[ModSpot]) -> Result
     requires calm { Calm vm.old }
     ensures step { OnOk result (Does (λ n. r.renew_mods (map seen_mod_spot mods.now)) vm.old vm.new) }
     ensures calm { Calm vm.new }
+    ensures tree { OnOk result (vm.new.tree ≡ vm.old.tree) }
 {
     for spot in mods {
         renew_mod(vm, alloc, spot)?;

@@ -4,7 +4,7 @@ ghost use Rattle.gl_plain.specs.Ids.{node as node_id};
 ghost use Rattle.gl_plain.specs.State.{text_content, content, put_thing};
 ghost use Rattle.gl_plain.specs.Renew as r;
 ghost use Rattle.gl_vm.specs.View.{Calm};
-ghost use Rattle.gl_vm.specs.Steps.{Does, put_attr};
+ghost use Rattle.gl_vm.specs.Steps.{Does, put_attr, Rooted};
 ghost use Rattle.gl_code.specs.CodeView.{seen_attr_spot};
 
 use crate::asks::{has_once, is_text};
@@ -21,6 +21,7 @@ use std::alloc::{AllocError, Global};
 fn put_text(vm: &mut Vm, node: NodeId, text: &Text) -> Result<(), AllocError>
     ensures step { OnOk result (Does (λ n. put_thing (node_id node.1) (content (text_content text.now))) vm.old vm.new) }
     ensures calm { Calm vm.old → Calm vm.new }
+    ensures roots { OnOk result (Rooted vm.old.tree vm.new.tree) }
 {
     if !is_text(&vm.tree, node) {
         return Err(AllocError);
@@ -39,6 +40,7 @@ pub(crate) fn renew_text(
     requires calm { Calm vm.old }
     ensures step { OnOk result (Does (λ n. r.renew_text node.1 id.1) vm.old vm.new) }
     ensures calm { Calm vm.new }
+    ensures roots { OnOk result (Rooted vm.old.tree vm.new.tree) }
 {
     if !is_stale(vm, id)? {
         return Ok(());
@@ -58,6 +60,7 @@ fn put_attribute(
 ) -> Result<(), AllocError>
     ensures step { OnOk result (Does (λ n. put_attr node.1 name.now value.now) vm.old vm.new) }
     ensures calm { Calm vm.old → Calm vm.new }
+    ensures roots { OnOk result (Rooted vm.old.tree vm.new.tree) }
 {
     if !has_once(&vm.tree, node, name) {
         return Err(AllocError);
@@ -73,6 +76,7 @@ fn renew_attr(vm: &mut Vm, alloc: Global, node: NodeId, attr: &AttrSpot) -> Resu
     requires calm { Calm vm.old }
     ensures step { OnOk result (Does (λ n. r.renew_attrs node.1 (seen_attr_spot attr.now ∷ [])) vm.old vm.new) }
     ensures calm { Calm vm.new }
+    ensures roots { OnOk result (Rooted vm.old.tree vm.new.tree) }
 {
     if !is_stale(vm, attr.spot.id)? {
         return Ok(());
@@ -93,6 +97,7 @@ pub(crate) fn renew_attrs(
     requires calm { Calm vm.old }
     ensures step { OnOk result (Does (λ n. r.renew_attrs node.1 (map seen_attr_spot attrs.now)) vm.old vm.new) }
     ensures calm { Calm vm.new }
+    ensures roots { OnOk result (Rooted vm.old.tree vm.new.tree) }
 {
     for attr in attrs {
         renew_attr(vm, alloc, node, attr)?;

@@ -9,7 +9,7 @@ ghost use Rattle.gl_each.specs.View.{key_view, seen_keys, seen_steps, step_view}
 ghost use Rattle.gl_kept.specs.Between.{moves_between};
 ghost use Rattle.gl_code.specs.Entries.{seen_left};
 ghost use Rattle.gl_update.specs.ListItems.{there};
-ghost use Rattle.gl_update.specs.OldItems.{raw_key, plain_key, code_key, Plans, TakenAt, TakenBy, IsReady, is_move, unboxed};
+ghost use Rattle.gl_update.specs.OldItems.{raw_key, plain_key, code_key, Plans, TakenAt, TakenBy, IsReady, is_move, unboxed, Rising};
 ghost use Rattle.gl_update.specs.NextItem.{Follows};
 
 use gl_code::{Entry, ItemCode};
@@ -116,6 +116,7 @@ fn steps_for(old: &Keys, new: &Keys) -> Result<Vec<PlanStep>, AllocError>
     requires { NoRepeat old.now }
     ensures plans { IfOk result (λ ss. Plans old.now new.now (reverse (seen_steps ss.items))) }
     ensures moves { IfOk result (λ ss. count_moves (reverse (seen_steps ss.items)) ≡ moves_between old.now new.now) }
+    ensures rising { IfOk result (λ ss. Rising 0 (reverse (seen_steps ss.items))) }
 {
     let plan = plan(old, new)?;
     let mut steps = plan.steps.into_vec();
@@ -149,6 +150,7 @@ impl Work {
     ) -> Result<Work, AllocError>
         requires keys { new.now ≡ entry_keys (seen_left waiting.items) }
         ensures ready { IfOk result (λ w. IsReady w) }
+        ensures rising { IfOk result (λ w. Rising 0 (reverse (seen_steps w.steps.items))) }
         ensures waiting { IfOk result (λ w. w.waiting ≡ waiting) }
         ensures keys { IfOk result (λ w. w.keys ≡ map code_key items.items) }
         ensures moves { IfOk result (λ w. count_moves (reverse (seen_steps w.steps.items)) ≡ moves_between w.keys new.now) }

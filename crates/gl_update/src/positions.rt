@@ -25,6 +25,7 @@ pub(crate) fn reread(vm: &mut Vm, id: RefId) -> Result<bool, AllocError>
     ensures step { OnOk result (Does (λ n. r.reread id.1) vm.old vm.new) }
     ensures stale { IfOk result (λ b. (n : _) (touched : _) → Agrees touched vm.old → r.is_stale (state_of n vm.old touched) id.1 ≡ b) }
     ensures calm { Calm vm.new }
+    ensures tree { OnOk result (vm.new.tree ≡ vm.old.tree) }
 {
     if is_stale(vm, id)? {
         vm.evaluate(id)?;
@@ -65,6 +66,7 @@ pub(crate) fn condition(vm: &mut Vm, unless: bool, id: RefId) -> Result<bool, Al
     ensures step { OnOk result (Does (λ n. r.reread id.1) vm.old vm.new) }
     ensures shows { IfOk result (λ b. (n : _) (touched : _) → takes_first unless (first_value (spot_pairs (state_of n vm.new touched) id.1)) ≡ b) }
     ensures calm { Calm vm.new }
+    ensures tree { OnOk result (vm.new.tree ≡ vm.old.tree) }
 {
     reread(vm, id)?;
     let value = shown(vm, id)?;

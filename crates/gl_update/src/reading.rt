@@ -108,6 +108,7 @@ pub(crate) fn read_listed(vm: &mut Vm, alloc: Global, list: Box<Listed>) -> Resu
     ensures is { IfOk result (IsOf list) }
     ensures gives { IfOk result (λ x. (n : _) (touched : _) → Gives (first_value (spot_pairs (state_of n vm.new touched) list.value.spot.id.1)) list x) }
     ensures calm { Calm vm.new }
+    ensures tree { OnOk result (vm.new.tree ≡ vm.old.tree) }
 {
     let value = value_now(vm, list.spot.id)?;
     same_or_other(alloc, list, value)

@@ -11,7 +11,7 @@ ghost use Rattle.gl_machine.specs.Code as c;
 ghost use Rattle.gl_machine.specs.Code.{Code as PlainCode, ItemCodes, items_of};
 ghost use Rattle.gl_vm.specs.Labels.{label, labelled};
 ghost use Rattle.gl_vm.specs.View.{Calm};
-ghost use Rattle.gl_vm.specs.Steps.{Does};
+ghost use Rattle.gl_vm.specs.Steps.{Does, Rooted};
 ghost use Rattle.gl_code.specs.CodeView.{seen_code, seen_listing, seen_spot, seen_item_code, all_items};
 ghost use Rattle.gl_code.specs.declared.code.Listing.{Listing as ListingCode};
 ghost use Rattle.gl_update.specs.View.{trail_view};
@@ -21,6 +21,9 @@ ghost use Rattle.gl_update.specs.ListItems.{SyncItems, Syncs};
 ghost use Rattle.gl_update.specs.OldItems.{code_key};
 ghost use Rattle.gl_update.specs.Read.{entries_now};
 ghost use Rattle.gl_code.specs.Renewing.{Renews, RenewFails};
+ghost use Rattle.gl_seats.specs.Parts.{code_nest, items_nest};
+ghost use Rattle.gl_seats.specs.Seats.{NodesRenewed};
+ghost use Rattle.gl_nodes.specs.Flat.{stamp_of};
 
 use crate::along::{walk_item, with_items};
 use crate::counting::Moved;
@@ -41,6 +44,7 @@ use std::alloc::{AllocError, Global};
 fn give_at(vm: &mut Vm, spot: &ItemSpot, values: &List, index: usize) -> Result<(), AllocError>
     ensures step { OnOk result ((x : _) → slice_get values.now index ≡ Some x → Does (λ n st. r.give spot.now.index.1 (label spot.now.index.1) (labelled (count_value index)) (r.give spot.now.value.1 (label spot.now.value.1) (labelled x) st)) vm.old vm.new) }
     ensures calm { Calm vm.old → Calm vm.new }
+    ensures tree { OnOk result (vm.new.tree ≡ vm.old.tree) }
 {
     match values.get(index) {
         Some(value) => {
@@ -57,6 +61,7 @@ fn end_none(vm: &mut Vm, alloc: Global) -> Result<(), AllocError>
     requires calm { Calm vm.old }
     ensures step { OnOk result (Does (λ n. dropped_as by_number (λ q. times_items q (items_of (all_items [])))) vm.old vm.new) }
     ensures calm { Calm vm.new }
+    ensures roots { OnOk result (Rooted vm.old.tree vm.new.tree) }
 {
     let none = Vec::new(alloc);
     end_items(vm, none.as_slice())
@@ -84,6 +89,7 @@ fn stay_items<A: AppendBlock>(
     ensures asked { OnOk result ((k : _) → entry_keys (entries_now k values.now) ≡ map code_key items.old.items → (z : ListingCode) → Asks app.now cells.now (AsksStaying (λ n. seen_listing n z) left (trail_view trail.old) (entries_now k values.now) (λ n. map (seen_item_code n) items.old.items)) vm.old moved.old.asked moved.new.asked) }
     ensures trail { OnOk result (trail.new ≡ trail.old) }
     ensures calm { Calm vm.new }
+    ensures nodes { OnOk result (NodesRenewed vm.old.tree vm.new.tree moved.old.items moved.new.items (stamp_of parent.now) (λ n. items_nest n items.old.items) (λ n. items_nest n items.new.items)) }
 {
     let mut index: usize = 0;
     for kept in items.iter_mut() {
@@ -162,6 +168,7 @@ pub(crate) fn stay_list<A: AppendBlock>(
     ensures asked { OnOk result (Asks app.now cells.now (AsksSync (λ n. seen_listing n list.value.listing) left (p.items ∷ trail_view trail.old) (entries_now list.value.listing.key values) (λ n. map (seen_item_code n) list.value.items.items)) vm.old moved.old.asked moved.new.asked) }
     ensures trail { OnOk result (trail.new ≡ trail.old) }
     ensures calm { Calm vm.new }
+    ensures nodes { IfOk result (λ r. NodesRenewed vm.old.tree vm.new.tree moved.old.items moved.new.items (stamp_of parent.now) (λ n. items_nest n list.value.items.items) (λ n. code_nest n r.value)) }
 {
     let mut begun = begin_stay(trail, list, values, moved)?;
     let mark = moved.mark(vm);

@@ -23,16 +23,19 @@ ghost use Rattle.gl_update.specs.ListItems.{Item, spot_key, there, FreshItem, Ke
 ghost use Rattle.gl_guards.specs.AlongAsks.{stay_count};
 ghost use Rattle.gl_update.specs.Questions.{Asks, AsksKept, AsksOne, AsksStaying, AsksSync, old_items};
 ghost use Rattle.gl_update.specs.Counted.{CodeMoved, HasKey, ItemMoved, ItemsMoved, KeptMoved, one_if};
-ghost use Rattle.gl_update.specs.OldItems.{IsReady, OneItem, unboxed};
+ghost use Rattle.gl_update.specs.OldItems.{IsReady, OneItem, Rising, unboxed};
 ghost use Rattle.gl_code.specs.Renewing.{Renews, RenewFails};
+ghost use Rattle.gl_seats.specs.Parts.{code_nest, item_nest, items_nest};
+ghost use Rattle.gl_seats.specs.Seats.{NodesRenewed, SeatsBefore, UnseatsEach};
+ghost use Rattle.gl_update.specs.Standing.{Places, Settles, ItemKept, OneKept, NodesSynced};
+ghost use Rattle.gl_nodes.specs.Flat.{stamp_of};
 
 use crate::codes::renew_body;
 use crate::counting::Moved;
 use crate::ending_items::end_items;
 use crate::items::{add, fresh_item, item_path};
 use crate::old_items::{Next, Work};
-use crate::seating::Seat;
-use crate::standing::settle_item;
+use crate::standing::{place_item, settle_item};
 use crate::taken::{Begun, Listed, Ready, begin_sync, end_sync, lost_sync};
 use crate::trail::Trail;
 use gl_code::{AppendBlock, Cells, Code, Entry, ItemCode, Listing, VmFault, counted};
@@ -40,6 +43,7 @@ use gl_meaning::{Path, PathStep};
 use gl_nodes::NodeId;
 use gl_opc::App;
 use gl_refs::RefId;
+use gl_seats::Seat;
 use gl_value::Value;
 use gl_vm::Vm;
 use std::alloc::{AllocError, Global};
@@ -50,6 +54,7 @@ use std::mem;
 pub(crate) fn give(vm: &mut Vm, id: RefId, value: Value) -> Result<(), AllocError>
     ensures step { OnOk result (Does (λ n. r.give id.1 (label id.1) (labelled (view value))) vm.old vm.new) }
     ensures calm { Calm vm.old → Calm vm.new }
+    ensures tree { OnOk result (vm.new.tree ≡ vm.old.tree) }
 {
     if !vm.refs.room() {
         return Err(AllocError);
@@ -76,6 +81,7 @@ fn begin_item(
     ensures view { OnOk result (trail_view trail.new ≡ item (plain (view entry.value.key)) entry.value.occurrence ∷ trail_view trail.old) }
     ensures room { OnOk result (length trail.old.path.steps < 2 ^ 64) }
     ensures calm { Calm vm.old → Calm vm.new }
+    ensures tree { OnOk result (vm.new.tree ≡ vm.old.tree) }
 {
     let entry = Box::into_inner(entry);
     give(vm, old.spot.value, entry.value)?;
@@ -87,13 +93,13 @@ fn begin_item(
     Ok(old)
 }
 
-// An item that was walked along is settled.
+// An old item that is to move does so, before it is walked along.
 #[inline(never)]
-fn settled(
+fn placed(
     vm: &mut Vm,
     moves: bool,
     item: Box<ItemCode>,
-    seat: &mut Seat,
+    seat: &Seat,
     moved: &mut Moved,
 ) -> Result<Box<ItemCode>, AllocError>
     ensures item { IfOk result (λ r. r ≡ item) }
@@ -101,8 +107,24 @@ fn settled(
     ensures moved { OnOk result (moved.new.items ≡ moved.old.items + one_if moves) }
     ensures asked { moved.new.asked ≡ moved.old.asked }
     ensures calm { Calm vm.old → Calm vm.new }
+    ensures places { OnOk result ((n : _) → Places vm.old.tree vm.new.tree moves seat.now (item_nest n item.value)) }
 {
-    settle_item(vm, moves, &item.body, &item.comment, seat, moved)?;
+    place_item(vm, moves, &item.body, &item.comment, seat, moved)?;
+    Ok(item)
+}
+
+// An item that was walked along is settled.
+#[inline(never)]
+fn settled(
+    vm: &Vm,
+    moves: bool,
+    item: Box<ItemCode>,
+    seat: &mut Seat,
+) -> Result<Box<ItemCode>, AllocError>
+    ensures item { IfOk result (λ r. r ≡ item) }
+    ensures settles { OnOk result ((n : _) → Settles vm.now.tree moves seat.old seat.new (item_nest n item.value)) }
+{
+    settle_item(vm, moves, &item.body, &item.comment, seat)?;
     Ok(item)
 }
 
@@ -115,8 +137,8 @@ fn lost_item(item: Box<ItemCode>, fault: VmFault) -> VmFault
     fault
 }
 
-// An old item is given the value and the index of an entry, and what was rendered in it is walked along. The trail is that of
-// the items of the list.
+// An old item moves where it is to, is given the value and the index of an entry, and what was rendered in it is walked along. The trail is
+// that of the items of the list.
 #[cycle(renewing)]
 #[inline(never)]
 fn kept_item<A: AppendBlock>(
@@ -140,7 +162,9 @@ fn kept_item<A: AppendBlock>(
     ensures key { IfOk result (λ r. (n : _) → spot_key (seen_item_code n r.value) ≡ spot_key (seen_item_code n old.value)) }
     ensures trail { OnOk result (trail.new ≡ trail.old) }
     ensures calm { Calm vm.new }
+    ensures nodes { IfOk result (λ r. ItemKept vm.old.tree vm.new.tree moved.old.items moved.new.items moves seat.old seat.new (λ n. item_nest n old.value) (λ n. item_nest n r.value)) }
 {
+    let old = placed(vm, moves, old, seat, moved)?;
     let mut kept = begin_item(vm, trail, old, entry)?;
     match renew_body::<A>(
         vm,
@@ -155,7 +179,7 @@ fn kept_item<A: AppendBlock>(
     ) {
         Ok(()) => {
             trail.pop(alloc);
-            Ok(settled(vm, moves, kept, seat, moved)?)
+            Ok(settled(vm, moves, kept, seat)?)
         }
         Err(fault) => Err(lost_item(kept, fault)),
     }
@@ -186,6 +210,8 @@ fn new_item<A: AppendBlock>(
     ensures fails { IfErr result (RenewFails {A = Item} app.now cells.now (FreshItem (λ n. seen_listing n listing.now) left (item (plain (view entry.value.key)) entry.value.occurrence ∷ path_view base.now) (seen_entry entry.value)) vm.old) }
     ensures key { IfOk result (λ r. (n : _) → spot_key (seen_item_code n r.value) ≡ entry_key (seen_entry entry.value)) }
     ensures calm { Calm vm.new }
+    ensures seats { IfOk result (λ r. (n : _) → SeatsBefore vm.old.tree.forest vm.new.tree.forest (stamp_of seat.now.parent) (stamp_of seat.now.next) (item_nest n r.value)) }
+    ensures moves { OnOk result (vm.new.tree.moves ≡ vm.old.tree.moves) }
 {
     let entry = Box::into_inner(entry);
     let path = item_path(alloc, base, &entry.key, entry.occurrence)?;
@@ -220,6 +246,7 @@ fn entry_item<A: AppendBlock>(
     ensures key { IfOk result (λ r. (n : _) → HasKey n (unboxed next.old) (entry_key (seen_entry next.entry.value)) r.value) }
     ensures trail { OnOk result (trail.new ≡ trail.old) }
     ensures calm { Calm vm.new }
+    ensures nodes { IfOk result (λ r. OneKept vm.old.tree vm.new.tree moved.old.items moved.new.items next.moves seat.old seat.new (unboxed next.old) r.value) }
 {
     let Next { entry, old, moves } = next;
     match old {
@@ -244,6 +271,8 @@ fn end_left(vm: &mut Vm, alloc: Global, work: &mut Work) -> Result<(), AllocErro
     requires calm { Calm vm.old }
     ensures step { OnOk result (Does (λ n. dropped_as by_number (λ q. times_items q (items_of (all_items (map (seen_item_code n) (there work.old.olds.items)))))) vm.old vm.new) }
     ensures calm { Calm vm.new }
+    ensures unseats { OnOk result ((n : _) → UnseatsEach vm.old.tree.forest vm.new.tree.forest (map (item_nest n) (there work.old.olds.items))) }
+    ensures moves { OnOk result (vm.new.tree.moves ≡ vm.old.tree.moves) }
 {
     let untaken = mem::replace(&mut work.olds, Vec::new(alloc));
     let olds = Work::left(alloc, untaken)?;
@@ -284,6 +313,7 @@ fn sync_items<A: AppendBlock>(
     requires calm { Calm vm.old }
     requires base { path_view begun.old.base ≡ trail_view trail.old }
     requires ready { IsReady begun.old.work }
+    requires rising { Rising 0 (reverse (seen_steps begun.old.work.steps.items)) }
     ensures ok { IfOk result (λ r. Renews app.now cells.now (SyncItems (λ n. seen_listing n begun.old.listing) left (trail_view trail.old) (seen_left begun.old.work.waiting.items) (λ n. map (seen_item_code n) (there begun.old.work.olds.items))) vm.old (λ n. all_items (map (seen_item_code n) r.items)) vm.new) }
     ensures fails { IfErr result (RenewFails {A = ItemCodes} app.now cells.now (SyncItems (λ n. seen_listing n begun.old.listing) left (trail_view trail.old) (seen_left begun.old.work.waiting.items) (λ n. map (seen_item_code n) (there begun.old.work.olds.items))) vm.old) }
     ensures moved { IfOk result (λ r. ItemsMoved moved.old moved.new (count_moves (reverse (seen_steps begun.old.work.steps.items))) (there begun.old.work.olds.items) r.items) }
@@ -294,6 +324,7 @@ fn sync_items<A: AppendBlock>(
     ensures spot { OnOk result (begun.new.spot ≡ begun.old.spot) }
     ensures trail { OnOk result (trail.new ≡ trail.old) }
     ensures calm { Calm vm.new }
+    ensures nodes { IfOk result (λ r. NodesSynced vm.old.tree vm.new.tree moved.old.items moved.new.items begun.old.seat (there begun.old.work.olds.items) r.items) }
 {
     let mut done = Vec::new(alloc);
     while let Some(next) = begun.work.next(alloc)? {
@@ -342,6 +373,7 @@ pub(crate) fn sync_list<A: AppendBlock>(
     ensures asked { OnOk result (Asks app.now cells.now (AsksSync (λ n. seen_listing n list.value.listing) left (items ∷ trail_view trail.old) (seen_left ready.value.entries.items) (λ n. map (seen_item_code n) list.value.items.items)) vm.old moved.old.asked moved.new.asked) }
     ensures trail { OnOk result (trail.new ≡ trail.old) }
     ensures calm { Calm vm.new }
+    ensures nodes { IfOk result (λ r. NodesRenewed vm.old.tree vm.new.tree moved.old.items moved.new.items (stamp_of parent.now) (λ n. items_nest n list.value.items.items) (λ n. code_nest n r.value)) }
 {
     let mut begun = begin_sync(alloc, trail, list, ready, parent, moved)?;
     let mark = moved.mark(vm);

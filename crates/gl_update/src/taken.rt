@@ -20,8 +20,10 @@ ghost use Rattle.gl_vm.specs.Steps.{Does};
 ghost use Rattle.gl_code.specs.CodeView.{seen_code, seen_codes, seen_listing, seen_spot, seen_item_code, all_items};
 ghost use Rattle.gl_code.specs.Entries.{seen_left};
 ghost use Rattle.gl_update.specs.ListItems.{there};
-ghost use Rattle.gl_update.specs.OldItems.{code_key, IsReady};
+ghost use Rattle.gl_update.specs.OldItems.{code_key, IsReady, Rising};
 ghost use Rattle.gl_update.specs.TakenLists.{TakenOut};
+ghost use Rattle.gl_seats.specs.Parts.{items_nest};
+ghost use Rattle.gl_seats.specs.Seats.{IsBefore};
 ghost use Rattle.gl_meaning.specs.Path as p;
 ghost use Rattle.gl_meaning.specs.View.{path_view};
 ghost use Rattle.gl_update.specs.View.{trail_view};
@@ -29,8 +31,6 @@ ghost use Rattle.gl_update.specs.View.{trail_view};
 use crate::counting::Moved;
 use crate::old_items::Work;
 use crate::positions::{reread, shown};
-use crate::seating::Seat;
-use crate::standing::before_items;
 use crate::trail::Trail;
 use gl_asks::{enters_items, is_stale};
 use gl_code::{Code, Codes, Entry, ItemCode, Listing, Spot, VmFault, keyed_items_of};
@@ -38,6 +38,7 @@ use gl_each::Keys;
 use gl_meaning::Path;
 use gl_nodes::NodeId;
 use gl_refs::{Ids, RefId};
+use gl_seats::{Seat, before_items};
 use gl_value::{Text, Value};
 use gl_vm::Vm;
 use std::alloc::{AllocError, Global};
@@ -172,6 +173,7 @@ pub(crate) fn value_now(vm: &mut Vm, id: RefId) -> Result<Value, AllocError>
     ensures step { OnOk result (Does (λ n. r.reread id.1) vm.old vm.new) }
     ensures value { IfOk result (λ v. (n : _) (touched : _) → first_value (spot_pairs (state_of n vm.new touched) id.1) ≡ labelled (view v)) }
     ensures calm { Calm vm.new }
+    ensures tree { OnOk result (vm.new.tree ≡ vm.old.tree) }
 {
     reread(vm, id)?;
     shown(vm, id)
@@ -190,6 +192,7 @@ pub(crate) fn read_list(
     ensures entries { IfOk result (λ x. (n : _) (touched : _) → seen_left x.value.entries.items ≡ entries key.now 0 [] (values_listed (first_value (spot_pairs (state_of n vm.new touched) id.1)))) }
     ensures keys { IfOk result (λ x. x.value.keys ≡ entry_keys (seen_left x.value.entries.items)) }
     ensures calm { Calm vm.new }
+    ensures tree { OnOk result (vm.new.tree ≡ vm.old.tree) }
 {
     let value = value_now(vm, id)?;
     let read = keyed_items_of(alloc, value, key)?;
@@ -204,6 +207,7 @@ pub(crate) fn ask_list(vm: &mut Vm, list: Box<Listed>) -> Result<(Box<Listed>, b
     ensures exact { IfOk result (λ x. (n : _) (touched : _) → Agrees touched vm.old → r.is_stale (state_of n vm.old touched) list.value.spot.id.1 ≡ x.1) }
     ensures still { Does (λ n st. st) vm.old vm.new }
     ensures calm { Calm vm.new }
+    ensures tree { OnOk result (vm.new.tree ≡ vm.old.tree) }
 {
     let stale = is_stale(vm, list.spot.id)?;
     Ok((list, stale))
@@ -223,6 +227,7 @@ pub(crate) fn ask_items(
     ensures counted { OnOk result (moved.new.asked ≡ moved.old.asked + 1) }
     ensures still { Does (λ n st. st) vm.old vm.new }
     ensures calm { Calm vm.new }
+    ensures tree { OnOk result (vm.new.tree ≡ vm.old.tree) }
 {
     moved.ask(1)?;
     let enters = enters_items(vm, &list.items)?;
@@ -242,6 +247,7 @@ pub(crate) fn read_unlisted(
     ensures entries { IfOk result (λ x. (n : _) (touched : _) → seen_left x.1.value.entries.items ≡ entries list.value.listing.key 0 [] (values_listed (first_value (spot_pairs (state_of n vm.new touched) list.value.spot.id.1)))) }
     ensures keys { IfOk result (λ x. x.1.value.keys ≡ entry_keys (seen_left x.1.value.entries.items)) }
     ensures calm { Calm vm.new }
+    ensures tree { OnOk result (vm.new.tree ≡ vm.old.tree) }
 {
     let ready = read_list(vm, alloc, list.listing.key.as_text(), list.spot.id)?;
     Ok((list, ready))
@@ -285,6 +291,9 @@ pub(crate) fn begin_sync(
     ensures listing { IfOk result (λ b. b.value.listing ≡ list.value.listing) }
     ensures spot { IfOk result (λ b. b.value.spot ≡ list.value.spot) }
     ensures ready { IfOk result (λ b. IsReady b.value.work) }
+    ensures rising { IfOk result (λ b. Rising 0 (reverse (seen_steps b.value.work.steps.items))) }
+    ensures parent { IfOk result (λ b. b.value.seat.parent ≡ parent.now) }
+    ensures before { IfOk result (λ b. (n : _) → IsBefore (items_nest n list.value.items.items) (stamp_of b.value.seat.next)) }
     ensures waiting { IfOk result (λ b. b.value.work.waiting ≡ ready.value.entries) }
     ensures keys { IfOk result (λ b. b.value.work.keys ≡ map code_key list.value.items.items) }
     ensures moves { IfOk result (λ b. count_moves (reverse (seen_steps b.value.work.steps.items)) ≡ moves_between b.value.work.keys ready.value.keys) }

@@ -69,10 +69,9 @@ use Rattle.gl_update.specs.declared.taken.Unlisted.{Unlisted}
 use Rattle.gl_update.proofs.SyncItems.{given_item, All, sync_begin, sync_next, sync_fails, sync_end, work_next, kept_renews, kept_fails, list_syncs, list_sync_fails, item_is}
 use Rattle.gl_code.specs.declared.code.ItemCode.{ItemCode}
 use Rattle.gl_update.proofs.ListUpdates.{unlisted_stays, unlisted_stays_fails, unlisted_lists, unlisted_lists_fails, Unlisting, gone, Updating, listed_reads, listed_reads_fails, listed_goes, listed_goes_fails, listed_ends, listed_ends_fails, listed_syncs, listed_syncs_fails, Relisting}
-use Rattle.gl_update.proofs.Still.{renews_on}
 use Rattle.gl_each.specs.Key.{entry_key, entry_keys}
 use Rattle.gl_update.specs.Counted.{CodeMoved, CodesMoved, HasKey, IsListed, IsUnlisted, ItemMoved, ItemsAlong, KeptMoved}
-use Rattle.gl_update.proofs.MovedCodes.{none_moved, code_moved, code_counted, body_counted, arm_moved, walked_begin, walked_next, walked_end, same_moved, flip_moved, stays_moved, ended_moved, begun_moved, kept_moved}
+use Rattle.gl_update.proofs.MovedCodes.{none_moved, code_moved, code_counted, body_counted, arm_moved, walked_begin, walked_next, walked_end, same_moved, flip_moved, stays_moved, ended_moved, begun_moved, kept_moved, moved_kept}
 use Rattle.gl_update.proofs.AlongCounts.{along_begin, along_next, along_end, list_along, list_stays}
 use Rattle.gl_update.proofs.AlongItems.{along_renews, along_fails, items_begin, items_next, items_fail, items_end, list_goes, list_goes_fails, list_entered, list_fails, list_passed}
 use Rattle.gl_guards.specs.AlongAsks.{stay_count}
@@ -83,6 +82,18 @@ use Rattle.gl_update.proofs.AskedLists.{listed_asks, listed_asks_along, listed_c
 use Rattle.gl_update.proofs.AskedStaying.{all_stay, stays_all_asked, stays_ask, stays_asked}
 use Rattle.gl_update.proofs.AskedSync.{AsksOf, asks_together, kept_asks, olds_there, settled_at, stays_one, sync_all_asked, sync_asked, sync_asks}
 use Rattle.gl_update.proofs.SyncCounts.{syncing_begin, syncing_next, syncing_end, list_moved}
+use Rattle.gl_machine.specs.Shape.{Nest, end, tree as nested, joined, leaf, nest_comment}
+use Rattle.gl_seats.specs.Parts.{code_nest, codes_nest, body_nest, item_nest, items_nest}
+use Rattle.gl_seats.specs.Seats.{Replaces, NodesRenewed}
+use Rattle.gl_update.proofs.Results.{on_ok_two, if_ok_two}
+use Rattle.gl_code.proofs.Rooting.{roots_refl, roots_same}
+use Rattle.gl_update.proofs.Renewed.{refs_rooted, nodes_after, nodes_arm, nodes_beside, nodes_counted, nodes_element, nodes_item, nodes_made, nodes_replaced, nodes_same, nodes_within}
+use Rattle.gl_seats.specs.Seats.{IsBefore}
+use Rattle.gl_update.specs.Counted.{one_if}
+use Rattle.gl_update.specs.Standing.{Settles, OneKept}
+use Rattle.gl_code.proofs.Doing.{does_then}
+use Rattle.gl_update.proofs.SyncNodes.{nodes_begin, nodes_next, nodes_end, list_synced}
+use Rattle.gl_update.proofs.RenewedRows.{row_begin, row_next, row_end, body_renewed, items_renewed}
 use Rattle.gl_update.proofs.+renewing.Goals as goal
 
 pub codes::renew_below-returns-in-Ok-clause-ok : goal.codes::renew_below-returns-in-Ok-clause-ok
@@ -130,6 +141,16 @@ pub codes::renew_element-returns-in_ok-renew_mods-in-Ok-clause-moved : goal.code
 codes::renew_element-returns-in_ok-renew_mods-in-Ok-clause-moved g t c =
     body_counted c.args.moved.now c.ask-2.new.self c.renew_codes.new.moved c.renew_codes.new.moved (λ n. seen_codes n c.args.body.now) (λ n. seen_codes n c.renew_codes.new.codes) (c.ask-2.ensures.items ∙ c.ask.ensures.items) refl c.in-Ok.ensures.moved
 
+pub codes::renew_element-returns-in_ok-renew_mods-in-Ok-clause-nodes : goal.codes::renew_element-returns-in_ok-renew_mods-in-Ok-clause-nodes
+codes::renew_element-returns-in_ok-renew_mods-in-Ok-clause-nodes g t c =
+    λ p.
+    let x : Tables → Nest ℕ = λ n. codes_nest n c.args.body.now in
+    let y : Tables → Nest ℕ = λ n. codes_nest n c.renew_codes.new.codes in
+    nodes_within c.args.vm.now.tree c.renew_attrs.new.vm.tree c.renew_codes.new.vm.tree c.renew_mods.new.vm.tree c.args.moved.now.items c.ask-2.new.self.items c.renew_codes.new.moved.items c.renew_codes.new.moved.items p (λ n. nested c.args.node.1 (x n) end) (λ n. nested c.args.node.1 (y n) end)
+    c.in_ok-renew_attrs.ensures.roots (c.ask-2.ensures.items ∙ c.ask.ensures.items)
+    (nodes_element c.renew_attrs.new.vm.tree c.renew_codes.new.vm.tree c.ask-2.new.self.items c.renew_codes.new.moved.items p c.args.node.1 x y c.in-Ok.ensures.nodes)
+    (roots_same c.renew_codes.new.vm.tree c.renew_mods.new.vm.tree c.in_ok-renew_mods-in-Ok.ensures.tree) refl
+
 pub codes::renew_body-returns-in-Ok-clause-ok : goal.codes::renew_body-returns-in-Ok-clause-ok
 codes::renew_body-returns-in-Ok-clause-ok g t c =
     region_entered few c.args.app.now c.args.cells.now p.Codes (λ n. positions_in (lives_of (seen_codes n c.args.codes.now))) (λ n. seen_codes n c.args.codes.now) (Below c.args.app.now c.args.cells.now c.args.left (trail_view c.args.trail.now) (trail_view c.args.trail.now) c.args.codes.now)
@@ -143,6 +164,11 @@ codes::renew_body-returns-in-Err-clause-fails g t c =
 pub codes::renew_body-returns-in-Ok-clause-moved : goal.codes::renew_body-returns-in-Ok-clause-moved
 codes::renew_body-returns-in-Ok-clause-moved g t c =
     body_counted c.args.moved.now c.ask.new.self c.renew_codes.new.moved c.close.new.self (λ n. seen_codes n c.args.codes.now) (λ n. seen_codes n c.renew_codes.new.codes) c.ask.ensures.items c.close.ensures.items c.in-Ok.ensures.moved
+
+pub codes::renew_body-returns-in-Ok-clause-nodes : goal.codes::renew_body-returns-in-Ok-clause-nodes
+codes::renew_body-returns-in-Ok-clause-nodes g t c =
+    nodes_within c.args.vm.now.tree c.enters_body.new.vm.tree c.renew_codes.new.vm.tree c.renew_codes.new.vm.tree c.args.moved.now.items c.ask.new.self.items c.renew_codes.new.moved.items c.close.new.self.items (stamp_of c.args.parent.now) (λ n. codes_nest n c.args.codes.now) (λ n. codes_nest n c.renew_codes.new.codes)
+    (refs_rooted c.args.vm.now c.enters_body.new.vm _ c.enters_body.ensures.counted.rest) c.ask.ensures.items c.in-Ok.ensures.nodes (roots_refl c.renew_codes.new.vm.tree) c.close.ensures.items
 
 pub codes::renew_body-returns-in-Ok-clause-asked : goal.codes::renew_body-returns-in-Ok-clause-asked
 codes::renew_body-returns-in-Ok-clause-asked g t c =
@@ -159,6 +185,10 @@ codes::renew_body-returns-else-branch-clause-ok g t c =
 pub codes::renew_body-returns-else-branch-clause-moved : goal.codes::renew_body-returns-else-branch-clause-moved
 codes::renew_body-returns-else-branch-clause-moved g t c =
     body_counted c.args.moved.now c.ask.new.self c.ask.new.self c.ask.new.self (λ n. seen_codes n c.args.codes.now) (λ n. seen_codes n c.args.codes.now) c.ask.ensures.items refl (stays_moved c.ask.new.self (λ n. seen_codes n c.args.codes.now))
+
+pub codes::renew_body-returns-else-branch-clause-nodes : goal.codes::renew_body-returns-else-branch-clause-nodes
+codes::renew_body-returns-else-branch-clause-nodes g t c =
+    nodes_same c.args.vm.now.tree c.enters_body.new.vm.tree c.args.moved.now.items c.ask.new.self.items (stamp_of c.args.parent.now) (λ n. codes_nest n c.args.codes.now) (refs_rooted c.args.vm.now c.enters_body.new.vm _ c.enters_body.ensures.counted.rest) c.ask.ensures.items
 
 pub codes::renew_body-returns-else-branch-clause-asked : goal.codes::renew_body-returns-else-branch-clause-asked
 codes::renew_body-returns-else-branch-clause-asked g t c =
@@ -180,6 +210,11 @@ pub codes::renew_side-returns-in-Ok-clause-moved : goal.codes::renew_side-return
 codes::renew_side-returns-in-Ok-clause-moved g t c =
     body_counted c.args.moved.now c.ask.new.self c.renew_below.new.moved c.close.new.self (λ n. seen_codes n c.args.body.now) (λ n. seen_codes n c.renew_below.new.body) c.ask.ensures.items c.close.ensures.items c.in-Ok.ensures.moved
 
+pub codes::renew_side-returns-in-Ok-clause-nodes : goal.codes::renew_side-returns-in-Ok-clause-nodes
+codes::renew_side-returns-in-Ok-clause-nodes g t c =
+    nodes_within c.args.vm.now.tree c.enters_body.new.vm.tree c.renew_below.new.vm.tree c.renew_below.new.vm.tree c.args.moved.now.items c.ask.new.self.items c.renew_below.new.moved.items c.close.new.self.items (stamp_of c.args.parent.now) (λ n. codes_nest n c.args.body.now) (λ n. codes_nest n c.renew_below.new.body)
+    (refs_rooted c.args.vm.now c.enters_body.new.vm _ c.enters_body.ensures.counted.rest) c.ask.ensures.items c.in-Ok.ensures.nodes (roots_refl c.renew_below.new.vm.tree) c.close.ensures.items
+
 pub codes::renew_side-returns-in-Ok-clause-asked : goal.codes::renew_side-returns-in-Ok-clause-asked
 codes::renew_side-returns-in-Ok-clause-asked g t c =
     let p = path_step_view c.args.step ∷ trail_view c.args.trail.now in
@@ -195,6 +230,10 @@ codes::renew_side-returns-else-branch-clause-ok g t c =
 pub codes::renew_side-returns-else-branch-clause-moved : goal.codes::renew_side-returns-else-branch-clause-moved
 codes::renew_side-returns-else-branch-clause-moved g t c =
     body_counted c.args.moved.now c.ask.new.self c.ask.new.self c.ask.new.self (λ n. seen_codes n c.args.body.now) (λ n. seen_codes n c.args.body.now) c.ask.ensures.items refl (stays_moved c.ask.new.self (λ n. seen_codes n c.args.body.now))
+
+pub codes::renew_side-returns-else-branch-clause-nodes : goal.codes::renew_side-returns-else-branch-clause-nodes
+codes::renew_side-returns-else-branch-clause-nodes g t c =
+    nodes_same c.args.vm.now.tree c.enters_body.new.vm.tree c.args.moved.now.items c.ask.new.self.items (stamp_of c.args.parent.now) (λ n. codes_nest n c.args.body.now) (refs_rooted c.args.vm.now c.enters_body.new.vm _ c.enters_body.ensures.counted.rest) c.ask.ensures.items
 
 pub codes::renew_side-returns-else-branch-clause-asked : goal.codes::renew_side-returns-else-branch-clause-asked
 codes::renew_side-returns-else-branch-clause-asked g t c =
@@ -226,6 +265,13 @@ along::walk_list-returns-in-Ok-clause-moved g t c =
     code_counted c.args.moved.now c.ask_items.new.moved c.walk_entered.new.moved c.close.new.self (λ n. listed_code (seen_listing n l.listing) (seen_spot l.spot) (all_items (map (seen_item_code n) l.items.items))) (λ n. seen_code n c.in-Ok.code.value) c.ask_items.ensures.moved c.close.ensures.items
     (subst (λ (b : Box Listed Global). CodeMoved c.ask_items.new.moved c.walk_entered.new.moved (λ n. listed_code (seen_listing n b.value.listing) (seen_spot b.value.spot) (all_items (map (seen_item_code n) b.value.items.items))) (λ n. seen_code n c.in-Ok.code.value)) c.in_ok-asked.ensures.list c.in-Ok.ensures.moved)
 
+pub along::walk_list-returns-in-Ok-clause-nodes : goal.along::walk_list-returns-in-Ok-clause-nodes
+along::walk_list-returns-in-Ok-clause-nodes g t c =
+    nodes_within c.args.vm.now.tree c.ask_items.new.vm.tree c.walk_entered.new.vm.tree c.walk_entered.new.vm.tree c.args.moved.now.items c.ask_items.new.moved.items c.walk_entered.new.moved.items c.close.new.self.items (stamp_of c.args.parent.now) (λ n. items_nest n c.args.list.value.items.items) (λ n. code_nest n c.in-Ok.code.value)
+    (roots_same c.args.vm.now.tree c.ask_items.new.vm.tree c.in_ok-asked.ensures.tree) c.ask_items.ensures.moved
+    (subst (λ (b : Box Listed Global). NodesRenewed c.ask_items.new.vm.tree c.walk_entered.new.vm.tree c.ask_items.new.moved.items c.walk_entered.new.moved.items (stamp_of c.args.parent.now) (λ n. items_nest n b.value.items.items) (λ n. code_nest n c.in-Ok.code.value)) c.in_ok-asked.ensures.list c.in-Ok.ensures.nodes)
+    (roots_refl c.walk_entered.new.vm.tree) c.close.ensures.items
+
 pub along::walk_list-returns-in-Ok-clause-asked : goal.along::walk_list-returns-in-Ok-clause-asked
 along::walk_list-returns-in-Ok-clause-asked g t c =
     let z : Tables → Listing = λ n. seen_listing n c.args.list.value.listing in
@@ -253,6 +299,14 @@ along::walk_list-returns-in_ok-with_items-clause-moved g t c =
     λ n. c.in_ok-with_items.ensures n ∙ ap (λ (b : Box Listed Global). listed_code (seen_listing n b.value.listing) (seen_spot b.value.spot) (all_items (map (seen_item_code n) b.value.items.items))) c.in_ok-asked.ensures.list in
     code_counted c.args.moved.now c.args.moved.now c.args.moved.now c.ask_items.new.moved (λ n. listed_code (seen_listing n l.listing) (seen_spot l.spot) (all_items (map (seen_item_code n) l.items.items))) (λ n. seen_code n c.in_ok-with_items.field-0.value) refl c.ask_items.ensures.moved
     (list_stays c.args.moved.now (λ n. seen_listing n l.listing) (seen_spot l.spot) l.items.items (λ n. seen_code n c.in_ok-with_items.field-0.value) made)
+
+pub along::walk_list-returns-in_ok-with_items-clause-nodes : goal.along::walk_list-returns-in_ok-with_items-clause-nodes
+along::walk_list-returns-in_ok-with_items-clause-nodes g t c =
+    let l = c.args.list.value in
+    let made : (n : Tables) → seen_code n c.in_ok-with_items.field-0.value ≡ listed_code (seen_listing n l.listing) (seen_spot l.spot) (all_items (map (seen_item_code n) l.items.items)) =
+    λ n. c.in_ok-with_items.ensures n ∙ ap (λ (b : Box Listed Global). listed_code (seen_listing n b.value.listing) (seen_spot b.value.spot) (all_items (map (seen_item_code n) b.value.items.items))) c.in_ok-asked.ensures.list in
+    nodes_made c.args.vm.now.tree c.ask_items.new.vm.tree c.args.moved.now.items c.ask_items.new.moved.items (stamp_of c.args.parent.now) (λ n. items_nest n l.items.items) c.in_ok-with_items.field-0.value (λ n. listed_code (seen_listing n l.listing) (seen_spot l.spot) (all_items (map (seen_item_code n) l.items.items))) made
+    (nodes_same c.args.vm.now.tree c.ask_items.new.vm.tree c.args.moved.now.items c.ask_items.new.moved.items (stamp_of c.args.parent.now) (λ n. items_nest n l.items.items) (roots_same c.args.vm.now.tree c.ask_items.new.vm.tree c.in_ok-asked.ensures.tree) c.ask_items.ensures.moved)
 
 pub along::walk_list-returns-in_ok-with_items-clause-asked : goal.along::walk_list-returns-in_ok-with_items-clause-asked
 along::walk_list-returns-in_ok-with_items-clause-asked g t c =
@@ -288,6 +342,7 @@ codes::renew_codes-loop-place-init g t c = record {
   walks = walks_begin c.args.app.now c.args.cells.now c.args.left (trail_view c.args.trail.now) c.args.codes.now c.deref_mut-code-items.result.now c.args.vm.now c.deref_mut-code-items.ensures.value;
   moved = walked_begin c.args.moved.now c.args.codes.now.list.items c.deref_mut-code-items.result.now;
   asks = asks_begin c.args.app.now c.args.cells.now c.args.left (trail_view c.args.trail.now) c.args.codes.now c.deref_mut-code-items.result.now c.args.vm.now c.args.moved.now.asked c.deref_mut-code-items.ensures.value;
+  nodes = row_begin code_nest c.args.vm.now.tree c.args.moved.now.items (stamp_of c.args.parent.now) c.args.codes.now.list.items c.deref_mut-code-items.result.now;
 }
 
 pub codes::renew_codes-loop-place-preserved : goal.codes::renew_codes-loop-place-preserved
@@ -313,6 +368,12 @@ codes::renew_codes-loop-place-preserved g t c = record {
       (c.in_ok-push.ensures.view ∙ ap (λ x. at c.loop-place.place ∷ trail_view x) c.loop-place.invariant.trail) c.args.codes.now c.args.vm.now c.loop-place.vm c.renew_code.new.vm c.args.moved.now.asked c.loop-place.moved.asked c.renew_code.new.moved.asked c.loop-place.invariant.asks
       (subst (λ z. Asks c.args.app.now c.args.cells.now (AsksCode c.args.left (trail_view c.push.new.self) (λ n. seen_code n z)) c.loop-place.vm c.loop-place.moved.asked c.renew_code.new.moved.asked) (sym c.code-item.is) c.in-Ok.ensures.asked)
       (subst (λ z. Renews c.args.app.now c.args.cells.now (One c.args.app.now c.args.cells.now c.args.left (trail_view c.args.trail.now) (trail_view c.push.new.self) z) c.loop-place.vm (λ n. seen_code n c.renew_code.new.code) c.renew_code.new.vm) (sym c.code-item.is) c.in-Ok.ensures.ok);
+  nodes = row_next code_nest c.args.vm.now.tree c.loop-place.vm.tree c.renew_code.new.vm.tree c.args.moved.now.items c.loop-place.moved.items c.renew_code.new.moved.items (stamp_of c.args.parent.now) c.args.codes.now.list.items c.loop-place.code-items c.loop-place.place c.code-item.result c.renew_code.new.code
+      (let lt = c.loop-place-test.true in let e = c.loop-place.invariant.unvisited.0 in omega (arith, lt, e))
+      (c.loop-place.invariant.unvisited.0 ∙ ap length c.deref_mut-code-items.ensures.value)
+      (c.code-item.is ∙ (c.loop-place.invariant.unvisited.1 c.loop-place.place c.code-item.result (omega arith) ∙ ap (λ xs. get_or xs c.loop-place.place c.code-item.result) c.deref_mut-code-items.ensures.value))
+      c.loop-place.invariant.nodes
+      (subst (λ z. NodesRenewed c.loop-place.vm.tree c.renew_code.new.vm.tree c.loop-place.moved.items c.renew_code.new.moved.items (stamp_of c.args.parent.now) (λ n. code_nest n z) (λ n. code_nest n c.renew_code.new.code)) (sym c.code-item.is) c.in-Ok.ensures.nodes);
 }
 
 pub codes::renew_codes-returns-in-Err-clause-fails : goal.codes::renew_codes-returns-in-Err-clause-fails
@@ -337,6 +398,16 @@ codes::renew_codes-returns-clause-moved g t c =
     (c.args.codes.now.list.ok.0 ∙ (ap length (sym c.deref_mut-code-items.ensures.value) ∙ sym c.loop-place.invariant.unvisited.0)))
     c.loop-place.invariant.moved
 
+pub codes::renew_codes-returns-clause-nodes : goal.codes::renew_codes-returns-clause-nodes
+codes::renew_codes-returns-clause-nodes g t c =
+    body_renewed c.args.vm.now.tree c.loop-place.vm.tree c.args.moved.now.items c.loop-place.moved.items (stamp_of c.args.parent.now) c.args.codes.now _
+    (row_end code_nest c.args.vm.now.tree c.loop-place.vm.tree c.args.moved.now.items c.loop-place.moved.items (stamp_of c.args.parent.now) c.args.codes.now.list.items _ c.loop-place.code-items c.loop-place.place
+    (c.loop-place.invariant.unvisited.0 ∙ ap length c.deref_mut-code-items.ensures.value)
+    (let le = c.loop-place-test.false in let e = c.loop-place.invariant.unvisited.0 in omega (arith, le, e))
+    (written c.loop-place.code-items (drop (length c.loop-place.code-items) c.args.codes.now.list.items) c.args.codes.now.list.len
+    (c.args.codes.now.list.ok.0 ∙ (ap length (sym c.deref_mut-code-items.ensures.value) ∙ sym c.loop-place.invariant.unvisited.0)))
+    c.loop-place.invariant.nodes)
+
 pub codes::renew_codes-returns-clause-asked : goal.codes::renew_codes-returns-clause-asked
 codes::renew_codes-returns-clause-asked g t c =
     asks_end c.args.app.now c.args.cells.now c.args.left (trail_view c.args.trail.now) c.args.codes.now c.args.vm.now c.loop-place.vm c.args.moved.now.asked c.loop-place.moved.asked c.loop-place.code-items c.loop-place.place
@@ -351,6 +422,17 @@ branches::renew_branch-returns-then-shows-main-clause-moved g t c =
     (λ r. same_moved c.args.moved.now c.renew_side.new.moved z z (seen_spot c.args.spot.now) c.args.main.now (stamp_of c.args.comment.now) (stamp_of c.args.comment.now) xs ys (body_counted c.args.moved.now c.ask.new.self c.renew_side.new.moved c.renew_side.new.moved xs ys c.ask.ensures.items refl r))
     c.renew_side.ensures.moved
 
+pub branches::renew_branch-returns-then-shows-main-clause-nodes : goal.branches::renew_branch-returns-then-shows-main-clause-nodes
+branches::renew_branch-returns-then-shows-main-clause-nodes g t c =
+    let k : Tables → Nest ℕ = λ n. nest_comment (stamp_of c.args.comment.now) in
+    let x : Tables → Nest ℕ = λ n. codes_nest n c.args.body.now in
+    let y : Tables → Nest ℕ = λ n. codes_nest n c.renew_side.new.body in
+    on_ok_weaker c.renew_side.result
+    (λ r. nodes_after c.args.vm.now.tree c.condition.new.vm.tree c.renew_side.new.vm.tree c.args.moved.now.items c.ask.new.self.items c.renew_side.new.moved.items (stamp_of c.args.parent.now) (λ n. joined (x n) (k n)) (λ n. joined (y n) (k n))
+    (roots_same c.args.vm.now.tree c.condition.new.vm.tree c.in_ok-shows.ensures.tree) c.ask.ensures.items
+    (nodes_beside c.condition.new.vm.tree c.renew_side.new.vm.tree c.ask.new.self.items c.renew_side.new.moved.items (stamp_of c.args.parent.now) x y k r))
+    c.renew_side.ensures.nodes
+
 pub branches::renew_branch-returns-else-shows-main-clause-moved : goal.branches::renew_branch-returns-else-shows-main-clause-moved
 branches::renew_branch-returns-else-shows-main-clause-moved g t c =
     let z : Tables → p.Choice = λ n. seen_choice n c.args.choice.now in
@@ -361,6 +443,16 @@ branches::renew_branch-returns-else-shows-main-clause-moved g t c =
     on_ok_always c.flip.result
     (code_counted c.args.moved.now c.ask.new.self c.ask.new.self c.ask.new.self was is c.ask.ensures.items refl
     (flip_moved c.ask.new.self z z s c.in_ok-shows.shows c.args.main.now (stamp_of c.args.comment.now) (stamp_of c.flip.new.comment) (λ n. seen_codes n c.args.body.now) (λ n. seen_codes n c.flip.new.body) ne))
+
+pub branches::renew_branch-returns-else-shows-main-clause-nodes : goal.branches::renew_branch-returns-else-shows-main-clause-nodes
+branches::renew_branch-returns-else-shows-main-clause-nodes g t c =
+    let x : Tables → Nest ℕ = λ n. body_nest n c.args.body.now c.args.comment.now in
+    let y : Tables → Nest ℕ = λ n. body_nest n c.flip.new.body c.flip.new.comment in
+    on_ok_two c.flip.result
+    (λ r s. nodes_after c.args.vm.now.tree c.condition.new.vm.tree c.flip.new.vm.tree c.args.moved.now.items c.ask.new.self.items c.ask.new.self.items (stamp_of c.args.parent.now) x y
+    (roots_same c.args.vm.now.tree c.condition.new.vm.tree c.in_ok-shows.ensures.tree) c.ask.ensures.items
+    (nodes_replaced c.condition.new.vm.tree c.flip.new.vm.tree c.ask.new.self.items c.ask.new.self.items (stamp_of c.args.parent.now) x y r s refl))
+    c.flip.ensures.nodes c.flip.ensures.moves
 
 pub branches::renew_branch-returns-then-shows-main-clause-ok : goal.branches::renew_branch-returns-then-shows-main-clause-ok
 branches::renew_branch-returns-then-shows-main-clause-ok g t c =
@@ -521,11 +613,23 @@ codes::renew_code-returns-in-Still-clause-moved g t c =
     arm_moved c.args.moved.now c.args.moved.now c.args.code.now c.args.code.now k k (λ n. ap (seen_code n) c.in-Still.is ∙ still_is n c.in-Still.node) (λ n. ap (seen_code n) c.in-Still.is ∙ still_is n c.in-Still.node)
     (none_moved c.args.moved.now k k (λ n. refl))
 
+pub codes::renew_code-returns-in-Still-clause-nodes : goal.codes::renew_code-returns-in-Still-clause-nodes
+codes::renew_code-returns-in-Still-clause-nodes g t c =
+    let k : Tables → p.Code = λ n. p.still_code c.in-Still.node.1 in
+    nodes_arm c.args.vm.now.tree c.args.vm.now.tree c.args.moved.now.items c.args.moved.now.items (stamp_of c.args.parent.now) c.args.code.now c.args.code.now k k (λ n. ap (seen_code n) c.in-Still.is ∙ still_is n c.in-Still.node) (λ n. ap (seen_code n) c.in-Still.is ∙ still_is n c.in-Still.node)
+    (nodes_same c.args.vm.now.tree c.args.vm.now.tree c.args.moved.now.items c.args.moved.now.items (stamp_of c.args.parent.now) (λ n. leaf c.in-Still.node.1) (roots_refl c.args.vm.now.tree) refl)
+
 pub codes::renew_code-returns-in_ok-renew_text-in-Put-clause-moved : goal.codes::renew_code-returns-in_ok-renew_text-in-Put-clause-moved
 codes::renew_code-returns-in_ok-renew_text-in-Put-clause-moved g t c =
     let k : Tables → p.Code = λ n. p.put_code c.in-Put.node.1 (seen_spot c.in-Put.spot) in
     arm_moved c.args.moved.now c.ask.new.self c.args.code.now _ k k (λ n. ap (seen_code n) c.in-Put.is ∙ put_is n c.in-Put.node c.in-Put.spot) (λ n. search (rules, the_lemmas))
     (code_counted c.args.moved.now c.ask.new.self c.ask.new.self c.ask.new.self k k c.ask.ensures.items refl (none_moved c.ask.new.self k k (λ n. refl)))
+
+pub codes::renew_code-returns-in_ok-renew_text-in-Put-clause-nodes : goal.codes::renew_code-returns-in_ok-renew_text-in-Put-clause-nodes
+codes::renew_code-returns-in_ok-renew_text-in-Put-clause-nodes g t c =
+    let k : Tables → p.Code = λ n. p.put_code c.in-Put.node.1 (seen_spot c.in-Put.spot) in
+    nodes_arm c.args.vm.now.tree c.renew_text.new.vm.tree c.args.moved.now.items c.ask.new.self.items (stamp_of c.args.parent.now) c.args.code.now _ k k (λ n. ap (seen_code n) c.in-Put.is ∙ put_is n c.in-Put.node c.in-Put.spot) (λ n. search (rules, the_lemmas))
+    (nodes_same c.args.vm.now.tree c.renew_text.new.vm.tree c.args.moved.now.items c.ask.new.self.items (stamp_of c.args.parent.now) (λ n. leaf c.in-Put.node.1) c.in_ok-renew_text-in-Put.ensures.roots c.ask.ensures.items)
 
 pub codes::renew_code-returns-in-Let-clause-moved : goal.codes::renew_code-returns-in-Let-clause-moved
 codes::renew_code-returns-in-Let-clause-moved g t c =
@@ -534,6 +638,17 @@ codes::renew_code-returns-in-Let-clause-moved g t c =
     subst (λ z. OnOk c.renew_let.result (CodesMoved c.args.moved.now c.renew_let.new.moved (λ n. seen_codes n z) (λ n. seen_codes n c.renew_let.new.body))) c.in-Let.body-is c.renew_let.ensures.moved in
     on_ok_weaker c.renew_let.result
     (λ r. arm_moved c.args.moved.now c.renew_let.new.moved c.args.code.now _ (λ n. k n (seen_codes n c.in-Let.body)) (λ n. k n (seen_codes n c.renew_let.new.body)) (λ n. ap (seen_code n) c.in-Let.is ∙ let_is n c.in-Let.made c.in-Let.params c.in-Let.body) (λ n. search (rules, the_lemmas)) r)
+    held
+
+pub codes::renew_code-returns-in-Let-clause-nodes : goal.codes::renew_code-returns-in-Let-clause-nodes
+codes::renew_code-returns-in-Let-clause-nodes g t c =
+    let k : Tables → p.Codes → p.Code = λ n cs. p.let_code (refs_made c.in-Let.made) (stamps c.in-Let.params) cs in
+    let b = c.args.moved.now.items in
+    let a = c.renew_let.new.moved.items in
+    let held : OnOk c.renew_let.result (NodesRenewed c.args.vm.now.tree c.renew_let.new.vm.tree b a (stamp_of c.args.parent.now) (λ n. codes_nest n c.in-Let.body) (λ n. codes_nest n c.renew_let.new.body)) =
+    subst (λ z. OnOk c.renew_let.result (NodesRenewed c.args.vm.now.tree c.renew_let.new.vm.tree b a (stamp_of c.args.parent.now) (λ n. codes_nest n z) (λ n. codes_nest n c.renew_let.new.body))) c.in-Let.body-is c.renew_let.ensures.nodes in
+    on_ok_weaker c.renew_let.result
+    (λ r. nodes_arm c.args.vm.now.tree c.renew_let.new.vm.tree b a (stamp_of c.args.parent.now) c.args.code.now _ (λ n. k n (seen_codes n c.in-Let.body)) (λ n. k n (seen_codes n c.renew_let.new.body)) (λ n. ap (seen_code n) c.in-Let.is ∙ let_is n c.in-Let.made c.in-Let.params c.in-Let.body) (λ n. search (rules, the_lemmas)) r)
     held
 
 pub codes::renew_code-returns-in-Yield-clause-moved : goal.codes::renew_code-returns-in-Yield-clause-moved
@@ -547,6 +662,17 @@ codes::renew_code-returns-in-Yield-clause-moved g t c =
     (λ r. arm_moved m m2 c.args.code.now _ (λ n. k n (seen_codes n c.in-Yield.body)) (λ n. k n (seen_codes n c.renew_yield.new.body)) (λ n. ap (seen_code n) c.in-Yield.is ∙ yield_is n c.in-Yield.name c.in-Yield.made c.in-Yield.params c.in-Yield.body) (λ n. search (rules, the_lemmas)) r)
     held
 
+pub codes::renew_code-returns-in-Yield-clause-nodes : goal.codes::renew_code-returns-in-Yield-clause-nodes
+codes::renew_code-returns-in-Yield-clause-nodes g t c =
+    let k : Tables → p.Codes → p.Code = λ n cs. p.yield_code c.in-Yield.name (refs_made c.in-Yield.made) (stamps c.in-Yield.params) cs in
+    let b = c.args.moved.now.items in
+    let a = c.renew_yield.new.moved.items in
+    let held : OnOk c.renew_yield.result (NodesRenewed c.args.vm.now.tree c.renew_yield.new.vm.tree b a (stamp_of c.args.parent.now) (λ n. codes_nest n c.in-Yield.body) (λ n. codes_nest n c.renew_yield.new.body)) =
+    subst (λ z. OnOk c.renew_yield.result (NodesRenewed c.args.vm.now.tree c.renew_yield.new.vm.tree b a (stamp_of c.args.parent.now) (λ n. codes_nest n z) (λ n. codes_nest n c.renew_yield.new.body))) c.in-Yield.body-is c.renew_yield.ensures.nodes in
+    on_ok_weaker c.renew_yield.result
+    (λ r. nodes_arm c.args.vm.now.tree c.renew_yield.new.vm.tree b a (stamp_of c.args.parent.now) c.args.code.now _ (λ n. k n (seen_codes n c.in-Yield.body)) (λ n. k n (seen_codes n c.renew_yield.new.body)) (λ n. ap (seen_code n) c.in-Yield.is ∙ yield_is n c.in-Yield.name c.in-Yield.made c.in-Yield.params c.in-Yield.body) (λ n. search (rules, the_lemmas)) r)
+    held
+
 pub codes::renew_code-returns-in-Component-clause-moved : goal.codes::renew_code-returns-in-Component-clause-moved
 codes::renew_code-returns-in-Component-clause-moved g t c =
     let k : Tables → p.Codes → p.Code = λ m cs. p.component_code (seen_owner m c.in-Component.owner.value) (ids.instance_id (seen_owner m c.in-Component.owner.value).id ∷ ((ids.block_id c.in-Component.block.1 ∷ refs_made c.in-Component.made) ++ refs_made c.in-Component.owner.value.cells)) (ids.block_id c.in-Component.block.1 ∷ refs_made c.in-Component.made) (name_stamps c.in-Component.args.value) (Some c.in-Component.block.1) cs in
@@ -556,6 +682,17 @@ codes::renew_code-returns-in-Component-clause-moved g t c =
     subst (λ z. OnOk c.renew_component.result (CodesMoved m m2 (λ n. seen_codes n z) (λ n. seen_codes n c.renew_component.new.body))) c.in-Component.body-is c.renew_component.ensures.moved in
     on_ok_weaker c.renew_component.result
     (λ r. arm_moved m m2 c.args.code.now _ (λ n. k n (seen_codes n c.in-Component.body)) (λ n. k n (seen_codes n c.renew_component.new.body)) (λ n. ap (seen_code n) c.in-Component.is ∙ component_is n c.in-Component.owner c.in-Component.block c.in-Component.made c.in-Component.args c.in-Component.body) (λ n. search (rules, the_lemmas)) r)
+    held
+
+pub codes::renew_code-returns-in-Component-clause-nodes : goal.codes::renew_code-returns-in-Component-clause-nodes
+codes::renew_code-returns-in-Component-clause-nodes g t c =
+    let k : Tables → p.Codes → p.Code = λ m cs. p.component_code (seen_owner m c.in-Component.owner.value) (ids.instance_id (seen_owner m c.in-Component.owner.value).id ∷ ((ids.block_id c.in-Component.block.1 ∷ refs_made c.in-Component.made) ++ refs_made c.in-Component.owner.value.cells)) (ids.block_id c.in-Component.block.1 ∷ refs_made c.in-Component.made) (name_stamps c.in-Component.args.value) (Some c.in-Component.block.1) cs in
+    let b = c.args.moved.now.items in
+    let a = c.renew_component.new.moved.items in
+    let held : OnOk c.renew_component.result (NodesRenewed c.args.vm.now.tree c.renew_component.new.vm.tree b a (stamp_of c.args.parent.now) (λ n. codes_nest n c.in-Component.body) (λ n. codes_nest n c.renew_component.new.body)) =
+    subst (λ z. OnOk c.renew_component.result (NodesRenewed c.args.vm.now.tree c.renew_component.new.vm.tree b a (stamp_of c.args.parent.now) (λ n. codes_nest n z) (λ n. codes_nest n c.renew_component.new.body))) c.in-Component.body-is c.renew_component.ensures.nodes in
+    on_ok_weaker c.renew_component.result
+    (λ r. nodes_arm c.args.vm.now.tree c.renew_component.new.vm.tree b a (stamp_of c.args.parent.now) c.args.code.now _ (λ n. k n (seen_codes n c.in-Component.body)) (λ n. k n (seen_codes n c.renew_component.new.body)) (λ n. ap (seen_code n) c.in-Component.is ∙ component_is n c.in-Component.owner c.in-Component.block c.in-Component.made c.in-Component.args c.in-Component.body) (λ n. search (rules, the_lemmas)) r)
     held
 
 pub codes::renew_code-returns-in-Element-clause-moved : goal.codes::renew_code-returns-in-Element-clause-moved
@@ -569,6 +706,15 @@ codes::renew_code-returns-in-Element-clause-moved g t c =
     (λ r. arm_moved m m2 c.args.code.now _ (λ n. k n (seen_codes n c.in-Element.body)) (λ n. k n (seen_codes n c.renew_element.new.body)) (λ n. ap (seen_code n) c.in-Element.is ∙ element_is n c.in-Element.node c.in-Element.made c.in-Element.attrs c.in-Element.mods c.in-Element.body) (λ n. search (rules, the_lemmas)) r)
     held
 
+pub codes::renew_code-returns-in-Element-clause-nodes : goal.codes::renew_code-returns-in-Element-clause-nodes
+codes::renew_code-returns-in-Element-clause-nodes g t c =
+    let k : Tables → p.Codes → p.Code = λ n cs. p.element_code c.in-Element.node.1 (refs_made c.in-Element.made) (map seen_attr_spot c.in-Element.attrs.items) (map seen_mod_spot c.in-Element.mods.items) cs in
+    let b = c.args.moved.now.items in
+    let a = c.renew_element.new.moved.items in
+    on_ok_weaker c.renew_element.result
+    (λ r. nodes_arm c.args.vm.now.tree c.renew_element.new.vm.tree b a (stamp_of c.args.parent.now) c.args.code.now _ (λ n. k n (seen_codes n c.in-Element.body)) (λ n. k n (seen_codes n c.renew_element.new.body)) (λ n. ap (seen_code n) c.in-Element.is ∙ element_is n c.in-Element.node c.in-Element.made c.in-Element.attrs c.in-Element.mods c.in-Element.body) (λ n. search (rules, the_lemmas)) (r (stamp_of c.args.parent.now)))
+    (moved2 (λ (y : Id) (z : Codes). OnOk c.renew_element.result ((q : Option ℕ) → NodesRenewed c.args.vm.now.tree c.renew_element.new.vm.tree b a q (λ n. nested y.1 (codes_nest n z) end) (λ n. nested y.1 (codes_nest n c.renew_element.new.body) end))) c.in-Element.node-is c.in-Element.body-is c.renew_element.ensures.nodes)
+
 pub codes::renew_code-returns-in-Branch-clause-moved : goal.codes::renew_code-returns-in-Branch-clause-moved
 codes::renew_code-returns-in-Branch-clause-moved g t c =
     let m = c.args.moved.now in
@@ -577,6 +723,15 @@ codes::renew_code-returns-in-Branch-clause-moved g t c =
     (λ r. arm_moved m m2 c.args.code.now _ (λ n. p.branch_code (seen_choice n c.in-Branch.choice) (seen_spot c.in-Branch.spot) c.in-Branch.main (stamp_of c.in-Branch.comment) (seen_codes n c.in-Branch.body))
     (λ n. p.branch_code (seen_choice n c.in-Branch.choice) (seen_spot c.in-Branch.spot) c.renew_branch.new.main (stamp_of c.renew_branch.new.comment) (seen_codes n c.renew_branch.new.body)) (λ n. ap (seen_code n) c.in-Branch.is ∙ branch_is n c.in-Branch.choice c.in-Branch.spot c.in-Branch.main c.in-Branch.comment c.in-Branch.body) (λ n. search (rules, the_lemmas)) r)
     (moved5 (λ (z : Choice) (x : Spot) (u : Bool) (k : Option Id) (b : Codes). OnOk c.renew_branch.result (CodeMoved m m2 (λ n. p.branch_code (seen_choice n z) (seen_spot x) u (stamp_of k) (seen_codes n b)) (λ n. p.branch_code (seen_choice n z) (seen_spot x) c.renew_branch.new.main (stamp_of c.renew_branch.new.comment) (seen_codes n c.renew_branch.new.body)))) c.in-Branch.choice-is c.in-Branch.spot-is c.in-Branch.main-is c.in-Branch.comment-is c.in-Branch.body-is c.renew_branch.ensures.moved)
+
+pub codes::renew_code-returns-in-Branch-clause-nodes : goal.codes::renew_code-returns-in-Branch-clause-nodes
+codes::renew_code-returns-in-Branch-clause-nodes g t c =
+    let b = c.args.moved.now.items in
+    let a = c.renew_branch.new.moved.items in
+    on_ok_weaker c.renew_branch.result
+    (λ r. nodes_arm c.args.vm.now.tree c.renew_branch.new.vm.tree b a (stamp_of c.args.parent.now) c.args.code.now _ (λ n. p.branch_code (seen_choice n c.in-Branch.choice) (seen_spot c.in-Branch.spot) c.in-Branch.main (stamp_of c.in-Branch.comment) (seen_codes n c.in-Branch.body))
+    (λ n. p.branch_code (seen_choice n c.in-Branch.choice) (seen_spot c.in-Branch.spot) c.renew_branch.new.main (stamp_of c.renew_branch.new.comment) (seen_codes n c.renew_branch.new.body)) (λ n. ap (seen_code n) c.in-Branch.is ∙ branch_is n c.in-Branch.choice c.in-Branch.spot c.in-Branch.main c.in-Branch.comment c.in-Branch.body) (λ n. search (rules, the_lemmas)) r)
+    (moved2 (λ (k : Option Id) (z : Codes). OnOk c.renew_branch.result (NodesRenewed c.args.vm.now.tree c.renew_branch.new.vm.tree b a (stamp_of c.args.parent.now) (λ n. body_nest n z k) (λ n. body_nest n c.renew_branch.new.body c.renew_branch.new.comment))) c.in-Branch.comment-is c.in-Branch.body-is c.renew_branch.ensures.nodes)
 
 pub codes::renew_code-returns-in-Still-clause-asked : goal.codes::renew_code-returns-in-Still-clause-asked
 codes::renew_code-returns-in-Still-clause-asked g t c =
@@ -640,6 +795,15 @@ lists::renew_list-returns-in-Ok-clause-moved g t c =
     (arm_moved c.ask.new.self c.renew_listed.new.moved c.args.code.now c.put_list.new.code (λ n. listed_code (seen_listing n l) (seen_spot s) (all_items (map (seen_item_code n) xs.items))) (λ n. seen_code n c.in-Ok.new.value)
     (subst (TakenOut c.args.code.now) c.in-Items.is c.in_ok-list.ensures) (λ n. ap (seen_code n) c.put_list.ensures) c.in-Ok.ensures.moved)
 
+pub lists::renew_list-returns-in-Ok-clause-nodes : goal.lists::renew_list-returns-in-Ok-clause-nodes
+lists::renew_list-returns-in-Ok-clause-nodes g t c =
+    let l = c.in-Items.list.value.listing in
+    let s = c.in-Items.list.value.spot in
+    let xs = c.in-Items.list.value.items in
+    nodes_counted c.args.vm.now.tree c.renew_listed.new.vm.tree c.args.moved.now.items c.ask.new.self.items c.renew_listed.new.moved.items c.renew_listed.new.moved.items (stamp_of c.args.parent.now) (λ n. code_nest n c.args.code.now) (λ n. code_nest n c.put_list.new.code) c.ask.ensures.items refl
+    (nodes_arm c.args.vm.now.tree c.renew_listed.new.vm.tree c.ask.new.self.items c.renew_listed.new.moved.items (stamp_of c.args.parent.now) c.args.code.now c.put_list.new.code (λ n. listed_code (seen_listing n l) (seen_spot s) (all_items (map (seen_item_code n) xs.items))) (λ n. seen_code n c.in-Ok.new.value)
+    (subst (TakenOut c.args.code.now) c.in-Items.is c.in_ok-list.ensures) (λ n. ap (seen_code n) c.put_list.ensures) c.in-Ok.ensures.nodes)
+
 pub lists::renew_list-returns-in-Ok-renew_unlisted-clause-moved : goal.lists::renew_list-returns-in-Ok-renew_unlisted-clause-moved
 lists::renew_list-returns-in-Ok-renew_unlisted-clause-moved g t c =
     let l = c.in-Other.list.value.listing in
@@ -649,6 +813,17 @@ lists::renew_list-returns-in-Ok-renew_unlisted-clause-moved g t c =
     code_counted c.args.moved.now c.ask.new.self c.renew_unlisted.new.moved c.renew_unlisted.new.moved (λ n. seen_code n c.args.code.now) (λ n. seen_code n c.put_list-in-Ok-renew_unlisted.new.code) c.ask.ensures.items refl
     (arm_moved c.ask.new.self c.renew_unlisted.new.moved c.args.code.now c.put_list-in-Ok-renew_unlisted.new.code (λ n. unlisted_code (seen_listing n l) (seen_spot s) (stamp_of k) (seen_codes n b)) (λ n. seen_code n c.in-Ok-renew_unlisted.new.value)
     (subst (TakenOut c.args.code.now) c.in-Other.is c.in_ok-list.ensures) (λ n. ap (seen_code n) c.put_list-in-Ok-renew_unlisted.ensures) c.in-Ok-renew_unlisted.ensures.moved)
+
+pub lists::renew_list-returns-in-Ok-renew_unlisted-clause-nodes : goal.lists::renew_list-returns-in-Ok-renew_unlisted-clause-nodes
+lists::renew_list-returns-in-Ok-renew_unlisted-clause-nodes g t c =
+    let l = c.in-Other.list.value.listing in
+    let s = c.in-Other.list.value.spot in
+    let k = c.in-Other.list.value.comment in
+    let b = c.in-Other.list.value.body in
+    let new = c.renew_unlisted.new in
+    nodes_counted c.args.vm.now.tree new.vm.tree c.args.moved.now.items c.ask.new.self.items new.moved.items new.moved.items (stamp_of c.args.parent.now) (λ n. code_nest n c.args.code.now) (λ n. code_nest n c.put_list-in-Ok-renew_unlisted.new.code) c.ask.ensures.items refl
+    (nodes_arm c.args.vm.now.tree new.vm.tree c.ask.new.self.items new.moved.items (stamp_of c.args.parent.now) c.args.code.now c.put_list-in-Ok-renew_unlisted.new.code (λ n. unlisted_code (seen_listing n l) (seen_spot s) (stamp_of k) (seen_codes n b)) (λ n. seen_code n c.in-Ok-renew_unlisted.new.value)
+    (subst (TakenOut c.args.code.now) c.in-Other.is c.in_ok-list.ensures) (λ n. ap (seen_code n) c.put_list-in-Ok-renew_unlisted.ensures) c.in-Ok-renew_unlisted.ensures.nodes)
 
 pub lists::renew_list-returns-in-Ok-clause-ok : goal.lists::renew_list-returns-in-Ok-clause-ok
 lists::renew_list-returns-in-Ok-clause-ok g t c =
@@ -751,6 +926,17 @@ lists::relist-returns-then-is_empty-clause-moved g t c =
     IfOk-weaker c.end_list.result (λ r. (n : Tables) → IsUnlisted (live_of (seen_code n r.value))) (λ r. CodeMoved c.args.moved.now c.args.moved.now (λ n. listed_code (z n) s (all_items (xs n))) (λ n. seen_code n r.value))
     (λ r h. ended_moved c.args.moved.now z s xs (λ n. seen_code n r.value) h) c.end_list.ensures.none
 
+pub lists::relist-returns-then-is_empty-clause-nodes : goal.lists::relist-returns-then-is_empty-clause-nodes
+lists::relist-returns-then-is_empty-clause-nodes g t c =
+    let is : IsOf c.args.list (r.Other c.in-Other.list c.in-Other.ready) = subst (IsOf c.args.list) c.in-Other.is c.in_ok-read.ensures.is in
+    let x : Tables → Nest ℕ = λ n. items_nest n c.args.list.value.items.items in
+    let b = c.args.moved.now.items in
+    if_ok_two c.end_list.result
+    (λ r h m. nodes_after c.args.vm.now.tree c.read_listed.new.vm.tree c.end_list.new.vm.tree b b b (stamp_of c.args.parent.now) x (λ n. code_nest n r.value) (roots_same c.args.vm.now.tree c.read_listed.new.vm.tree c.in_ok-read.ensures.tree) refl
+    (nodes_replaced c.read_listed.new.vm.tree c.end_list.new.vm.tree b b (stamp_of c.args.parent.now) x (λ n. code_nest n r.value) h m refl))
+    (subst (λ (l : Box Listed Global). IfOk c.end_list.result (λ r. (n : Tables) → Replaces c.read_listed.new.vm.tree.forest c.end_list.new.vm.tree.forest (stamp_of c.args.parent.now) (items_nest n l.value.items.items) (code_nest n r.value))) is.0 c.end_list.ensures.nodes)
+    c.end_list.ensures.moves
+
 pub lists::relist-returns-then-is_empty-clause-asked : goal.lists::relist-returns-then-is_empty-clause-asked
 lists::relist-returns-then-is_empty-clause-asked g t c =
     let z : Tables → Listing = λ n. seen_listing n c.args.list.value.listing in
@@ -808,6 +994,16 @@ pub lists::relist-returns-else-is_empty-clause-moved : goal.lists::relist-return
 lists::relist-returns-else-is_empty-clause-moved g t c =
     let is : IsOf c.args.list (r.Other c.in-Other.list c.in-Other.ready) = subst (IsOf c.args.list) c.in-Other.is c.in_ok-read.ensures.is in
     subst (λ (b : Box Listed Global). IfOk c.sync_list.result (λ r. CodeMoved c.args.moved.now c.sync_list.new.moved (λ n. listed_code (seen_listing n b.value.listing) (seen_spot b.value.spot) (all_items (map (seen_item_code n) b.value.items.items))) (λ n. seen_code n r.value))) is.0 c.sync_list.ensures.moved
+
+pub lists::relist-returns-else-is_empty-clause-nodes : goal.lists::relist-returns-else-is_empty-clause-nodes
+lists::relist-returns-else-is_empty-clause-nodes g t c =
+    let is : IsOf c.args.list (r.Other c.in-Other.list c.in-Other.ready) = subst (IsOf c.args.list) c.in-Other.is c.in_ok-read.ensures.is in
+    let x : Tables → Nest ℕ = λ n. items_nest n c.args.list.value.items.items in
+    let b = c.args.moved.now.items in
+    let a = c.sync_list.new.moved.items in
+    IfOk-weaker c.sync_list.result (λ r. NodesRenewed c.read_listed.new.vm.tree c.sync_list.new.vm.tree b a (stamp_of c.args.parent.now) x (λ n. code_nest n r.value)) (λ r. NodesRenewed c.args.vm.now.tree c.sync_list.new.vm.tree b a (stamp_of c.args.parent.now) x (λ n. code_nest n r.value))
+    (λ r h. nodes_after c.args.vm.now.tree c.read_listed.new.vm.tree c.sync_list.new.vm.tree b b a (stamp_of c.args.parent.now) x (λ n. code_nest n r.value) (roots_same c.args.vm.now.tree c.read_listed.new.vm.tree c.in_ok-read.ensures.tree) refl h)
+    (subst (λ (l : Box Listed Global). IfOk c.sync_list.result (λ r. NodesRenewed c.read_listed.new.vm.tree c.sync_list.new.vm.tree b a (stamp_of c.args.parent.now) (λ n. items_nest n l.value.items.items) (λ n. code_nest n r.value))) is.0 c.sync_list.ensures.nodes)
 
 pub lists::relist-returns-else-is_empty-clause-asked : goal.lists::relist-returns-else-is_empty-clause-asked
 lists::relist-returns-else-is_empty-clause-asked g t c =
@@ -867,6 +1063,16 @@ lists::relist-returns-in-Same-clause-moved g t c =
     let is : IsOf c.args.list (r.Same c.in-Same.list c.in-Same.values) = subst (IsOf c.args.list) c.in-Same.is c.in_ok-read.ensures.is in
     subst (λ (b : Box Listed Global). IfOk c.stay_list.result (λ r. CodeMoved c.args.moved.now c.stay_list.new.moved (λ n. listed_code (seen_listing n b.value.listing) (seen_spot b.value.spot) (all_items (map (seen_item_code n) b.value.items.items))) (λ n. seen_code n r.value))) is.0 c.stay_list.ensures.moved
 
+pub lists::relist-returns-in-Same-clause-nodes : goal.lists::relist-returns-in-Same-clause-nodes
+lists::relist-returns-in-Same-clause-nodes g t c =
+    let is : IsOf c.args.list (r.Same c.in-Same.list c.in-Same.values) = subst (IsOf c.args.list) c.in-Same.is c.in_ok-read.ensures.is in
+    let x : Tables → Nest ℕ = λ n. items_nest n c.args.list.value.items.items in
+    let b = c.args.moved.now.items in
+    let a = c.stay_list.new.moved.items in
+    IfOk-weaker c.stay_list.result (λ r. NodesRenewed c.read_listed.new.vm.tree c.stay_list.new.vm.tree b a (stamp_of c.args.parent.now) x (λ n. code_nest n r.value)) (λ r. NodesRenewed c.args.vm.now.tree c.stay_list.new.vm.tree b a (stamp_of c.args.parent.now) x (λ n. code_nest n r.value))
+    (λ r h. nodes_after c.args.vm.now.tree c.read_listed.new.vm.tree c.stay_list.new.vm.tree b b a (stamp_of c.args.parent.now) x (λ n. code_nest n r.value) (roots_same c.args.vm.now.tree c.read_listed.new.vm.tree c.in_ok-read.ensures.tree) refl h)
+    (subst (λ (l : Box Listed Global). IfOk c.stay_list.result (λ r. NodesRenewed c.read_listed.new.vm.tree c.stay_list.new.vm.tree b a (stamp_of c.args.parent.now) (λ n. items_nest n l.value.items.items) (λ n. code_nest n r.value))) is.0 c.stay_list.ensures.nodes)
+
 pub lists::relist-returns-in-Same-clause-asked : goal.lists::relist-returns-in-Same-clause-asked
 lists::relist-returns-in-Same-clause-asked g t c =
     let z : Tables → Listing = λ n. seen_listing n c.args.list.value.listing in
@@ -912,6 +1118,15 @@ pub lists::renew_listed-returns-then-stale-clause-moved : goal.lists::renew_list
 lists::renew_listed-returns-then-stale-clause-moved g t c =
     subst (λ (b : Box Listed Global). IfOk c.relist.result (λ r. CodeMoved c.args.moved.now c.relist.new.moved (λ n. listed_code (seen_listing n b.value.listing) (seen_spot b.value.spot) (all_items (map (seen_item_code n) b.value.items.items))) (λ n. seen_code n r.value))) c.in_ok-asked.ensures.list c.relist.ensures.moved
 
+pub lists::renew_listed-returns-then-stale-clause-nodes : goal.lists::renew_listed-returns-then-stale-clause-nodes
+lists::renew_listed-returns-then-stale-clause-nodes g t c =
+    let x : Tables → Nest ℕ = λ n. items_nest n c.args.list.value.items.items in
+    let b = c.args.moved.now.items in
+    let a = c.relist.new.moved.items in
+    IfOk-weaker c.relist.result (λ r. NodesRenewed c.ask_list.new.vm.tree c.relist.new.vm.tree b a (stamp_of c.args.parent.now) x (λ n. code_nest n r.value)) (λ r. NodesRenewed c.args.vm.now.tree c.relist.new.vm.tree b a (stamp_of c.args.parent.now) x (λ n. code_nest n r.value))
+    (λ r h. nodes_after c.args.vm.now.tree c.ask_list.new.vm.tree c.relist.new.vm.tree b b a (stamp_of c.args.parent.now) x (λ n. code_nest n r.value) (roots_same c.args.vm.now.tree c.ask_list.new.vm.tree c.in_ok-asked.ensures.tree) refl h)
+    (subst (λ (l : Box Listed Global). IfOk c.relist.result (λ r. NodesRenewed c.ask_list.new.vm.tree c.relist.new.vm.tree b a (stamp_of c.args.parent.now) (λ n. items_nest n l.value.items.items) (λ n. code_nest n r.value))) c.in_ok-asked.ensures.list c.relist.ensures.nodes)
+
 pub lists::renew_listed-returns-then-stale-clause-asked : goal.lists::renew_listed-returns-then-stale-clause-asked
 lists::renew_listed-returns-then-stale-clause-asked g t c =
     let z : Tables → Listing = λ n. seen_listing n c.args.list.value.listing in
@@ -949,6 +1164,15 @@ lists::renew_listed-returns-else-stale-clause-fails g t c =
 pub lists::renew_listed-returns-else-stale-clause-moved : goal.lists::renew_listed-returns-else-stale-clause-moved
 lists::renew_listed-returns-else-stale-clause-moved g t c =
     subst (λ (b : Box Listed Global). IfOk c.walk_list.result (λ r. CodeMoved c.args.moved.now c.walk_list.new.moved (λ n. listed_code (seen_listing n b.value.listing) (seen_spot b.value.spot) (all_items (map (seen_item_code n) b.value.items.items))) (λ n. seen_code n r.value))) c.in_ok-asked.ensures.list c.walk_list.ensures.moved
+
+pub lists::renew_listed-returns-else-stale-clause-nodes : goal.lists::renew_listed-returns-else-stale-clause-nodes
+lists::renew_listed-returns-else-stale-clause-nodes g t c =
+    let x : Tables → Nest ℕ = λ n. items_nest n c.args.list.value.items.items in
+    let b = c.args.moved.now.items in
+    let a = c.walk_list.new.moved.items in
+    IfOk-weaker c.walk_list.result (λ r. NodesRenewed c.ask_list.new.vm.tree c.walk_list.new.vm.tree b a (stamp_of c.args.parent.now) x (λ n. code_nest n r.value)) (λ r. NodesRenewed c.args.vm.now.tree c.walk_list.new.vm.tree b a (stamp_of c.args.parent.now) x (λ n. code_nest n r.value))
+    (λ r h. nodes_after c.args.vm.now.tree c.ask_list.new.vm.tree c.walk_list.new.vm.tree b b a (stamp_of c.args.parent.now) x (λ n. code_nest n r.value) (roots_same c.args.vm.now.tree c.ask_list.new.vm.tree c.in_ok-asked.ensures.tree) refl h)
+    (subst (λ (l : Box Listed Global). IfOk c.walk_list.result (λ r. NodesRenewed c.ask_list.new.vm.tree c.walk_list.new.vm.tree b a (stamp_of c.args.parent.now) (λ n. items_nest n l.value.items.items) (λ n. code_nest n r.value))) c.in_ok-asked.ensures.list c.walk_list.ensures.nodes)
 
 pub lists::renew_listed-returns-else-stale-clause-asked : goal.lists::renew_listed-returns-else-stale-clause-asked
 lists::renew_listed-returns-else-stale-clause-asked g t c =
@@ -989,6 +1213,15 @@ along::walk_entered-returns-in_ok-with_items-in-Ok-clause-moved g t c =
     list_along c.args.moved.now c.walk_items.new.moved (λ n. seen_listing n l.listing) (seen_spot l.spot) l.items.items c.walk_items.new.items.items (λ n. seen_code n c.in_ok-with_items-in-Ok.field-0.value)
     (subst (λ (x : Listed). ItemsAlong c.args.moved.now c.walk_items.new.moved x.items.items c.walk_items.new.items.items) d c.in-Ok.ensures.moved) made
 
+pub along::walk_entered-returns-in_ok-with_items-in-Ok-clause-nodes : goal.along::walk_entered-returns-in_ok-with_items-in-Ok-clause-nodes
+along::walk_entered-returns-in_ok-with_items-in-Ok-clause-nodes g t c =
+    let l = c.args.list.value in
+    let d : c.deref_mut.result.now ≡ l = c.deref_mut.ensures.value in
+    let made : (n : Tables) → seen_code n c.in_ok-with_items-in-Ok.field-0.value ≡ listed_code (seen_listing n l.listing) (seen_spot l.spot) (all_items (map (seen_item_code n) c.walk_items.new.items.items)) =
+    λ n. c.in_ok-with_items-in-Ok.ensures n ∙ ap (λ (x : Listed). listed_code (seen_listing n x.listing) (seen_spot x.spot) (all_items (map (seen_item_code n) c.walk_items.new.items.items))) d in
+    nodes_made c.args.vm.now.tree c.walk_items.new.vm.tree c.args.moved.now.items c.walk_items.new.moved.items (stamp_of c.args.parent.now) (λ n. items_nest n l.items.items) c.in_ok-with_items-in-Ok.field-0.value (λ n. listed_code (seen_listing n l.listing) (seen_spot l.spot) (all_items (map (seen_item_code n) c.walk_items.new.items.items))) made
+    (subst (λ (x : Listed). NodesRenewed c.args.vm.now.tree c.walk_items.new.vm.tree c.args.moved.now.items c.walk_items.new.moved.items (stamp_of c.args.parent.now) (λ n. items_nest n x.items.items) (λ n. items_nest n c.walk_items.new.items.items)) d c.in-Ok.ensures.nodes)
+
 pub along::walk_entered-returns-in_ok-with_items-in-Ok-clause-asked : goal.along::walk_entered-returns-in_ok-with_items-in-Ok-clause-asked
 along::walk_entered-returns-in_ok-with_items-in-Ok-clause-asked g t c =
     let d : c.deref_mut.result.now ≡ c.args.list.value = c.deref_mut.ensures.value in
@@ -1023,6 +1256,15 @@ along::walk_item-returns-in-Ok-clause-moved g t c =
     kept_moved c.args.moved.now c.renew_codes.new.moved c.close.new.self false (λ n. seen_item_code n x) (λ n. seen_item_code n y) (λ n. seen_codes n x.body) (λ n. seen_codes n c.renew_codes.new.codes)
     (λ n. ap (λ (z : Item). z.1.1) (item_is n x)) (λ n. ap (λ (z : Item). z.1.1) (item_is n y)) (body_counted c.args.moved.now c.ask.new.self c.renew_codes.new.moved c.renew_codes.new.moved (λ n. seen_codes n x.body) (λ n. seen_codes n c.renew_codes.new.codes) c.ask.ensures.items refl c.in-Ok.ensures.moved)
     (let e = c.close.ensures.items in omega (arith, e))
+
+pub along::walk_item-returns-in-Ok-clause-nodes : goal.along::walk_item-returns-in-Ok-clause-nodes
+along::walk_item-returns-in-Ok-clause-nodes g t c =
+    let x = c.args.item.now in
+    let y : ItemCode = record { spot = x.spot; comment = x.comment; body = c.renew_codes.new.codes } in
+    let m = c.args.moved.now.items in
+    nodes_within c.args.vm.now.tree c.enters_body.new.vm.tree c.renew_codes.new.vm.tree c.renew_codes.new.vm.tree m c.ask.new.self.items c.renew_codes.new.moved.items c.close.new.self.items (stamp_of c.args.parent.now) (λ n. item_nest n x) (λ n. item_nest n y)
+    (refs_rooted c.args.vm.now c.enters_body.new.vm _ c.enters_body.ensures.counted.rest) c.ask.ensures.items
+    (nodes_item c.enters_body.new.vm.tree c.renew_codes.new.vm.tree c.ask.new.self.items c.renew_codes.new.moved.items (stamp_of c.args.parent.now) x y refl c.in-Ok.ensures.nodes) (roots_refl c.renew_codes.new.vm.tree) c.close.ensures.items
 
 pub along::walk_item-returns-in-Ok-clause-asked : goal.along::walk_item-returns-in-Ok-clause-asked
 along::walk_item-returns-in-Ok-clause-asked g t c =
@@ -1060,6 +1302,10 @@ along::walk_item-returns-else-branch-clause-moved g t c =
     kept_moved m m c.ask.new.self false (λ n. seen_item_code n x) (λ n. seen_item_code n x) (λ n. seen_codes n x.body) (λ n. seen_codes n x.body)
     (λ n. ap (λ (z : Item). z.1.1) (item_is n x)) (λ n. ap (λ (z : Item). z.1.1) (item_is n x)) (stays_moved m (λ n. seen_codes n x.body)) (let e = c.ask.ensures.items in omega (arith, e))
 
+pub along::walk_item-returns-else-branch-clause-nodes : goal.along::walk_item-returns-else-branch-clause-nodes
+along::walk_item-returns-else-branch-clause-nodes g t c =
+    nodes_same c.args.vm.now.tree c.enters_body.new.vm.tree c.args.moved.now.items c.ask.new.self.items (stamp_of c.args.parent.now) (λ n. item_nest n c.args.item.now) (refs_rooted c.args.vm.now c.enters_body.new.vm _ c.enters_body.ensures.counted.rest) c.ask.ensures.items
+
 pub along::walk_item-returns-else-branch-clause-asked : goal.along::walk_item-returns-else-branch-clause-asked
 along::walk_item-returns-else-branch-clause-asked g t c =
     let x = c.args.item.now in
@@ -1078,6 +1324,7 @@ along::walk_items-loop-item-init g t c = record {
   walks = items_begin c.args.app.now c.args.cells.now c.args.left (trail_view c.args.trail.now) c.args.items.now.items c.deref_mut-item-items.result.now c.args.vm.now c.deref_mut-item-items.ensures.value;
   moved = along_begin c.args.moved.now c.args.items.now.items c.deref_mut-item-items.result.now;
   asks = items_asked c.args.app.now c.args.cells.now c.args.left (trail_view c.args.trail.now) c.args.items.now.items c.deref_mut-item-items.result.now c.args.vm.now c.args.moved.now.asked c.deref_mut-item-items.ensures.value;
+  nodes = row_begin item_nest c.args.vm.now.tree c.args.moved.now.items (stamp_of c.args.parent.now) c.args.items.now.items c.deref_mut-item-items.result.now;
 }
 
 pub along::walk_items-loop-item-preserved : goal.along::walk_items-loop-item-preserved
@@ -1102,6 +1349,10 @@ along::walk_items-loop-item-preserved g t c = record {
       (subst (λ z. Asks c.args.app.now c.args.cells.now (AsksItem c.args.app.now c.args.cells.now c.args.left (trail_view c.loop-item.trail) z) c.loop-item.vm c.loop-item.moved.asked c.walk_item.new.moved.asked) (sym c.item-item.is) c.in-Ok.ensures.asked))
       (subst (λ w. Renews c.args.app.now c.args.cells.now (AlongItem c.args.left (trail_view w) (λ n. seen_item_code n c.item-item.result)) c.loop-item.vm (λ n. seen_item_code n c.walk_item.new.item) c.walk_item.new.vm) c.loop-item.invariant.trail
       (subst (λ z. Renews c.args.app.now c.args.cells.now (AlongItem c.args.left (trail_view c.loop-item.trail) (λ n. seen_item_code n z)) c.loop-item.vm (λ n. seen_item_code n c.walk_item.new.item) c.walk_item.new.vm) (sym c.item-item.is) c.in-Ok.ensures.ok));
+  nodes = row_next item_nest c.args.vm.now.tree c.loop-item.vm.tree c.walk_item.new.vm.tree c.args.moved.now.items c.loop-item.moved.items c.walk_item.new.moved.items (stamp_of c.args.parent.now) c.args.items.now.items c.loop-item.item-items c.loop-item.item-index c.item-item.result c.walk_item.new.item (let lt = c.loop-item-test.true in let e = c.loop-item.invariant.unvisited.0 in omega (arith, lt, e))
+      (c.loop-item.invariant.unvisited.0 ∙ ap length c.deref_mut-item-items.ensures.value)
+      (c.item-item.is ∙ (c.loop-item.invariant.unvisited.1 c.loop-item.item-index c.item-item.result (omega arith) ∙ ap (λ xs. get_or xs c.loop-item.item-index c.item-item.result) c.deref_mut-item-items.ensures.value)) c.loop-item.invariant.nodes
+      (subst (λ z. NodesRenewed c.loop-item.vm.tree c.walk_item.new.vm.tree c.loop-item.moved.items c.walk_item.new.moved.items (stamp_of c.args.parent.now) (λ n. item_nest n z) (λ n. item_nest n c.walk_item.new.item)) (sym c.item-item.is) c.in-Ok.ensures.nodes);
 }
 
 pub along::walk_items-returns-in-Err-clause-fails : goal.along::walk_items-returns-in-Err-clause-fails
@@ -1121,6 +1372,13 @@ along::walk_items-returns-clause-moved g t c =
     along_end c.args.moved.now c.loop-item.moved c.args.items.now.items _ c.loop-item.item-items c.loop-item.item-index (c.loop-item.invariant.unvisited.0 ∙ ap length c.deref_mut-item-items.ensures.value) (let le = c.loop-item-test.false in let e = c.loop-item.invariant.unvisited.0 in omega (arith, le, e))
     (written c.loop-item.item-items (drop (length c.loop-item.item-items) c.args.items.now.items) c.args.items.now.len
     (c.args.items.now.ok.0 ∙ (ap length (sym c.deref_mut-item-items.ensures.value) ∙ sym c.loop-item.invariant.unvisited.0))) c.loop-item.invariant.moved
+
+pub along::walk_items-returns-clause-nodes : goal.along::walk_items-returns-clause-nodes
+along::walk_items-returns-clause-nodes g t c =
+    items_renewed c.args.vm.now.tree c.loop-item.vm.tree c.args.moved.now.items c.loop-item.moved.items (stamp_of c.args.parent.now) c.args.items.now.items _
+    (row_end item_nest c.args.vm.now.tree c.loop-item.vm.tree c.args.moved.now.items c.loop-item.moved.items (stamp_of c.args.parent.now) c.args.items.now.items _ c.loop-item.item-items c.loop-item.item-index (c.loop-item.invariant.unvisited.0 ∙ ap length c.deref_mut-item-items.ensures.value) (let le = c.loop-item-test.false in let e = c.loop-item.invariant.unvisited.0 in omega (arith, le, e))
+    (written c.loop-item.item-items (drop (length c.loop-item.item-items) c.args.items.now.items) c.args.items.now.len
+    (c.args.items.now.ok.0 ∙ (ap length (sym c.deref_mut-item-items.ensures.value) ∙ sym c.loop-item.invariant.unvisited.0))) c.loop-item.invariant.nodes)
 
 pub along::walk_items-returns-clause-asked : goal.along::walk_items-returns-clause-asked
 along::walk_items-returns-clause-asked g t c =
@@ -1143,6 +1401,23 @@ lists::renew_unlisted-returns-in_ok-without_items-in-Ok-clause-moved g t c =
     code_moved c.args.moved.now c.renew_else.new.moved old (λ n. seen_code n c.in_ok-without_items-in-Ok.field-0.value) old (λ n. unlisted_code (z n) s k (seen_codes n c.renew_else.new.body)) (λ n. refl) mid
     (subst (λ (x : Unlisted). CodesMoved c.args.moved.now c.renew_else.new.moved (λ n. seen_codes n x.body) (λ n. seen_codes n c.renew_else.new.body)) d c.in-Ok.ensures.moved)
 
+pub lists::renew_unlisted-returns-in_ok-without_items-in-Ok-clause-nodes : goal.lists::renew_unlisted-returns-in_ok-without_items-in-Ok-clause-nodes
+lists::renew_unlisted-returns-in_ok-without_items-in-Ok-clause-nodes g t c =
+    let l = c.args.list.value in
+    let d : c.deref_mut.result.now ≡ l = c.deref_mut.ensures.value ∙ (ap (λ (b : Box Unlisted Global). b.value) c.first_of-list.ensures ∙ ap (λ (b : Box Unlisted Global). b.value) c.in_ok-read.ensures.list) in
+    let mid : (n : Tables) → seen_code n c.in_ok-without_items-in-Ok.field-0.value ≡ unlisted_code (seen_listing n l.listing) (seen_spot l.spot) (stamp_of l.comment) (seen_codes n c.renew_else.new.body) =
+    λ n. c.in_ok-without_items-in-Ok.ensures n ∙ ap (λ (x : Unlisted). unlisted_code (seen_listing n x.listing) (seen_spot x.spot) (stamp_of x.comment) (seen_codes n c.renew_else.new.body)) d in
+    let b = c.args.moved.now.items in
+    let a = c.renew_else.new.moved.items in
+    let new = c.renew_else.new.vm.tree in
+    let x : Tables → Nest ℕ = λ n. codes_nest n l.body in
+    let y : Tables → Nest ℕ = λ n. codes_nest n c.renew_else.new.body in
+    let k : Tables → Nest ℕ = λ n. nest_comment (stamp_of l.comment) in
+    nodes_made c.args.vm.now.tree new b a (stamp_of c.args.parent.now) (λ n. body_nest n l.body l.comment) c.in_ok-without_items-in-Ok.field-0.value (λ n. unlisted_code (seen_listing n l.listing) (seen_spot l.spot) (stamp_of l.comment) (seen_codes n c.renew_else.new.body)) mid
+    (nodes_after c.args.vm.now.tree c.read_unlisted.new.vm.tree new b b a (stamp_of c.args.parent.now) (λ n. joined (x n) (k n)) (λ n. joined (y n) (k n)) (roots_same c.args.vm.now.tree c.read_unlisted.new.vm.tree c.in_ok-read.ensures.tree) refl
+    (nodes_beside c.read_unlisted.new.vm.tree new b a (stamp_of c.args.parent.now) x y k
+    (subst (λ (z : Unlisted). NodesRenewed c.read_unlisted.new.vm.tree new b a (stamp_of c.args.parent.now) (λ n. codes_nest n z.body) y) d c.in-Ok.ensures.nodes)))
+
 pub lists::renew_unlisted-returns-else-is_empty-clause-moved : goal.lists::renew_unlisted-returns-else-is_empty-clause-moved
 lists::renew_unlisted-returns-else-is_empty-clause-moved g t c =
     let z : Tables → Listing = λ n. seen_listing n c.args.list.value.listing in
@@ -1154,6 +1429,16 @@ lists::renew_unlisted-returns-else-is_empty-clause-moved g t c =
     let l : vec_len es ≡ length es.items = search rules in
     IfOk-weaker c.begin_list.result (λ r. (n : Tables) → IsListed (live_of (seen_code n r.value))) (λ r. CodeMoved c.args.moved.now c.args.moved.now (λ n. unlisted_code (z n) s k (cs n)) (λ n. seen_code n r.value))
     (λ r h. begun_moved c.args.moved.now z s k cs (λ n. seen_code n r.value) h) c.begin_list.ensures.some
+
+pub lists::renew_unlisted-returns-else-is_empty-clause-nodes : goal.lists::renew_unlisted-returns-else-is_empty-clause-nodes
+lists::renew_unlisted-returns-else-is_empty-clause-nodes g t c =
+    let x : Tables → Nest ℕ = λ n. body_nest n c.args.list.value.body c.args.list.value.comment in
+    let b = c.args.moved.now.items in
+    if_ok_two c.begin_list.result
+    (λ r h m. nodes_after c.args.vm.now.tree c.read_unlisted.new.vm.tree c.begin_list.new.vm.tree b b b (stamp_of c.args.parent.now) x (λ n. code_nest n r.value) (roots_same c.args.vm.now.tree c.read_unlisted.new.vm.tree c.in_ok-read.ensures.tree) refl
+    (nodes_replaced c.read_unlisted.new.vm.tree c.begin_list.new.vm.tree b b (stamp_of c.args.parent.now) x (λ n. code_nest n r.value) h m refl))
+    (subst (λ (l : Box Unlisted Global). IfOk c.begin_list.result (λ r. (n : Tables) → Replaces c.read_unlisted.new.vm.tree.forest c.begin_list.new.vm.tree.forest (stamp_of c.args.parent.now) (body_nest n l.value.body l.value.comment) (code_nest n r.value))) c.in_ok-read.ensures.list c.begin_list.ensures.nodes)
+    c.begin_list.ensures.moves
 
 pub lists::renew_unlisted-returns-in_ok-without_items-in-Ok-clause-ok : goal.lists::renew_unlisted-returns-in_ok-without_items-in-Ok-clause-ok
 lists::renew_unlisted-returns-in_ok-without_items-in-Ok-clause-ok g t c =
@@ -1260,17 +1545,18 @@ syncing::kept_item-returns-in_ok-settled-in-Ok-clause-ok g t c =
     let o = c.args.old.value in
     let q : Path = item (plain (view e.key)) e.occurrence ∷ trail_view c.args.trail.now in
     let x : ItemCode = c.deref_mut.result.now in
-    let is : x ≡ o = c.deref_mut.ensures.value ∙ ap (λ (b : Box ItemCode Global). b.value) c.in_ok-kept.ensures.item in
-    let given : Does (given_item x.spot e) c.args.vm.now c.begin_item.new.vm = subst (λ (y : ItemCode). Does (given_item y.spot e) c.args.vm.now c.begin_item.new.vm) (sym is) c.in_ok-kept.ensures.step in
+    let is : x ≡ o = c.deref_mut.ensures.value ∙ ap (λ (b : Box ItemCode Global). b.value) (c.in_ok-kept.ensures.item ∙ c.in_ok-old.ensures.item) in
+    let given : Does (given_item x.spot e) c.args.vm.now c.begin_item.new.vm =
+    does_then (λ n st. st) (given_item x.spot e) c.args.vm.now c.placed.new.vm c.begin_item.new.vm c.in_ok-old.ensures.step
+    (subst (λ (y : ItemCode). Does (given_item y.spot e) c.placed.new.vm c.begin_item.new.vm) (ap (λ (b : Box ItemCode Global). b.value) c.in_ok-old.ensures.item ∙ sym is) c.in_ok-kept.ensures.step) in
     let y : ItemCode = record { spot = x.spot; comment = x.comment; body = c.renew_body.new.codes } in
     let r : ItemCode = c.in_ok-settled-in-Ok.field-0.value in
-    let new : (n : Tables) → seen_item_code n r ≡ (seen_item_spot x.spot, (stamp_of x.comment, seen_codes n c.renew_body.new.codes)) = λ n. ap (λ (b : Box ItemCode Global). seen_item_code n b.value) c.in_ok-settled-in-Ok.ensures.item ∙ item_is n y in
-    subst (λ (w : ItemCode). Renews c.args.app.now c.args.cells.now (KeptItem c.args.left q (seen_entry e) (λ n. seen_item_code n w)) c.args.vm.now (λ n. seen_item_code n r) c.settled.new.vm) is
+    let same : r ≡ y = ap (λ (b : Box ItemCode Global). b.value) c.in_ok-settled-in-Ok.ensures.item in
+    let new : (n : Tables) → seen_item_code n r ≡ (seen_item_spot x.spot, (stamp_of x.comment, seen_codes n c.renew_body.new.codes)) = λ n. ap (seen_item_code n) same ∙ item_is n y in
+    subst (λ (w : ItemCode). Renews c.args.app.now c.args.cells.now (KeptItem c.args.left q (seen_entry e) (λ n. seen_item_code n w)) c.args.vm.now (λ n. seen_item_code n r) c.renew_body.new.vm) is
     (kept_renews c.args.app.now c.args.cells.now c.args.left q e x.spot x.comment x.body (λ n. seen_item_code n x) c.args.vm.now c.begin_item.new.vm
-    (λ n. item_is n x) given c.renew_body.new.codes (λ n. seen_item_code n r) c.settled.new.vm new
-    (renews_on c.args.app.now c.args.cells.now (λ n run. along_body_as by_number run c.args.left q (seen_codes n x.body)) (λ n. seen_codes n c.renew_body.new.codes) c.begin_item.new.vm c.renew_body.new.vm c.settled.new.vm
-    (subst (λ w. Renews c.args.app.now c.args.cells.now (λ n run. along_body_as by_number run c.args.left w (seen_codes n x.body)) c.begin_item.new.vm (λ n. seen_codes n c.renew_body.new.codes) c.renew_body.new.vm) c.in_ok-kept.ensures.view c.in-Ok.ensures.ok)
-    c.in_ok-settled-in-Ok.ensures.step))
+    (λ n. item_is n x) given c.renew_body.new.codes (λ n. seen_item_code n r) c.renew_body.new.vm new
+    (subst (λ w. Renews c.args.app.now c.args.cells.now (λ n run. along_body_as by_number run c.args.left w (seen_codes n x.body)) c.begin_item.new.vm (λ n. seen_codes n c.renew_body.new.codes) c.renew_body.new.vm) c.in_ok-kept.ensures.view c.in-Ok.ensures.ok))
 
 pub syncing::kept_item-returns-in-Err-clause-fails : goal.syncing::kept_item-returns-in-Err-clause-fails
 syncing::kept_item-returns-in-Err-clause-fails g t c =
@@ -1278,8 +1564,10 @@ syncing::kept_item-returns-in-Err-clause-fails g t c =
     let o = c.args.old.value in
     let q : Path = item (plain (view e.key)) e.occurrence ∷ trail_view c.args.trail.now in
     let x : ItemCode = c.deref_mut.result.now in
-    let is : x ≡ o = c.deref_mut.ensures.value ∙ ap (λ (b : Box ItemCode Global). b.value) c.in_ok-kept.ensures.item in
-    let given : Does (given_item x.spot e) c.args.vm.now c.begin_item.new.vm = subst (λ (y : ItemCode). Does (given_item y.spot e) c.args.vm.now c.begin_item.new.vm) (sym is) c.in_ok-kept.ensures.step in
+    let is : x ≡ o = c.deref_mut.ensures.value ∙ ap (λ (b : Box ItemCode Global). b.value) (c.in_ok-kept.ensures.item ∙ c.in_ok-old.ensures.item) in
+    let given : Does (given_item x.spot e) c.args.vm.now c.begin_item.new.vm =
+    does_then (λ n st. st) (given_item x.spot e) c.args.vm.now c.placed.new.vm c.begin_item.new.vm c.in_ok-old.ensures.step
+    (subst (λ (y : ItemCode). Does (given_item y.spot e) c.placed.new.vm c.begin_item.new.vm) (ap (λ (b : Box ItemCode Global). b.value) c.in_ok-old.ensures.item ∙ sym is) c.in_ok-kept.ensures.step) in
     subst (RenewFails {A = Item} c.args.app.now c.args.cells.now (KeptItem c.args.left q (seen_entry e) (λ n. seen_item_code n o)) c.args.vm.now) (sym c.lost_item.ensures)
     (subst (λ (w : ItemCode). RenewFails {A = Item} c.args.app.now c.args.cells.now (KeptItem c.args.left q (seen_entry e) (λ n. seen_item_code n w)) c.args.vm.now c.in-Err.fault) is
     (kept_fails c.args.app.now c.args.cells.now c.args.left q e x.spot x.comment x.body (λ n. seen_item_code n x) c.args.vm.now c.begin_item.new.vm
@@ -1292,13 +1580,13 @@ syncing::kept_item-returns-in_ok-settled-in-Ok-clause-moved g t c =
     let o = c.args.old.value in
     let q : Path = item (plain (view e.key)) e.occurrence ∷ trail_view c.args.trail.now in
     let x : ItemCode = c.deref_mut.result.now in
-    let is : x ≡ o = c.deref_mut.ensures.value ∙ ap (λ (b : Box ItemCode Global). b.value) c.in_ok-kept.ensures.item in
-    let given : Does (given_item x.spot e) c.args.vm.now c.begin_item.new.vm = subst (λ (y : ItemCode). Does (given_item y.spot e) c.args.vm.now c.begin_item.new.vm) (sym is) c.in_ok-kept.ensures.step in
+    let is : x ≡ o = c.deref_mut.ensures.value ∙ ap (λ (b : Box ItemCode Global). b.value) (c.in_ok-kept.ensures.item ∙ c.in_ok-old.ensures.item) in
     let y : ItemCode = record { spot = x.spot; comment = x.comment; body = c.renew_body.new.codes } in
     let r : ItemCode = c.in_ok-settled-in-Ok.field-0.value in
-    let new : (n : Tables) → seen_item_code n r ≡ (seen_item_spot x.spot, (stamp_of x.comment, seen_codes n c.renew_body.new.codes)) = λ n. ap (λ (b : Box ItemCode Global). seen_item_code n b.value) c.in_ok-settled-in-Ok.ensures.item ∙ item_is n y in
-    kept_moved c.args.moved.now c.renew_body.new.moved c.settled.new.moved c.args.moves (λ n. seen_item_code n o) (λ n. seen_item_code n r) (λ n. seen_codes n x.body) (λ n. seen_codes n c.renew_body.new.codes)
-    (λ n. ap (λ (z : Item). z.1.1) (ap (seen_item_code n) (sym is) ∙ item_is n x)) (λ n. ap (λ (z : Item). z.1.1) (new n)) c.in-Ok.ensures.moved c.in_ok-settled-in-Ok.ensures.moved
+    let same : r ≡ y = ap (λ (b : Box ItemCode Global). b.value) c.in_ok-settled-in-Ok.ensures.item in
+    let new : (n : Tables) → seen_item_code n r ≡ (seen_item_spot x.spot, (stamp_of x.comment, seen_codes n c.renew_body.new.codes)) = λ n. ap (seen_item_code n) same ∙ item_is n y in
+    moved_kept c.args.moved.now c.placed.new.moved c.renew_body.new.moved c.args.moves (λ n. seen_item_code n o) (λ n. seen_item_code n r) (λ n. seen_codes n x.body) (λ n. seen_codes n c.renew_body.new.codes)
+    (λ n. ap (λ (z : Item). z.1.1) (ap (seen_item_code n) (sym is) ∙ item_is n x)) (λ n. ap (λ (z : Item). z.1.1) (new n)) c.in_ok-old.ensures.moved c.in-Ok.ensures.moved
 
 pub syncing::kept_item-returns-in_ok-settled-in-Ok-clause-asked : goal.syncing::kept_item-returns-in_ok-settled-in-Ok-clause-asked
 syncing::kept_item-returns-in_ok-settled-in-Ok-clause-asked g t c =
@@ -1306,12 +1594,14 @@ syncing::kept_item-returns-in_ok-settled-in-Ok-clause-asked g t c =
     let o = c.args.old.value in
     let q : Path = item (plain (view e.key)) e.occurrence ∷ trail_view c.args.trail.now in
     let x : ItemCode = c.deref_mut.result.now in
-    let is : x ≡ o = c.deref_mut.ensures.value ∙ ap (λ (b : Box ItemCode Global). b.value) c.in_ok-kept.ensures.item in
-    let given : Does (given_item x.spot e) c.args.vm.now c.begin_item.new.vm = subst (λ (y : ItemCode). Does (given_item y.spot e) c.args.vm.now c.begin_item.new.vm) (sym is) c.in_ok-kept.ensures.step in
-    subst (λ k. Asks c.args.app.now c.args.cells.now (AsksKept c.args.left q (seen_entry e) (λ n. seen_item_code n o)) c.args.vm.now c.args.moved.now.asked k) (sym c.settled.ensures.asked)
-    (subst (λ (w : ItemCode). Asks c.args.app.now c.args.cells.now (AsksKept c.args.left q (seen_entry e) (λ n. seen_item_code n w)) c.args.vm.now c.args.moved.now.asked c.renew_body.new.moved.asked) is
-    (kept_asks c.args.app.now c.args.cells.now c.args.left q e x.spot x.comment x.body (λ n. seen_item_code n x) c.args.vm.now c.begin_item.new.vm (λ n. item_is n x) given c.args.moved.now.asked c.renew_body.new.moved.asked
-    (subst (λ w. Asks c.args.app.now c.args.cells.now (AsksBody c.args.left w (λ n. seen_codes n x.body)) c.begin_item.new.vm c.args.moved.now.asked c.renew_body.new.moved.asked) c.in_ok-kept.ensures.view c.in-Ok.ensures.asked)))
+    let is : x ≡ o = c.deref_mut.ensures.value ∙ ap (λ (b : Box ItemCode Global). b.value) (c.in_ok-kept.ensures.item ∙ c.in_ok-old.ensures.item) in
+    let given : Does (given_item x.spot e) c.args.vm.now c.begin_item.new.vm =
+    does_then (λ n st. st) (given_item x.spot e) c.args.vm.now c.placed.new.vm c.begin_item.new.vm c.in_ok-old.ensures.step
+    (subst (λ (y : ItemCode). Does (given_item y.spot e) c.placed.new.vm c.begin_item.new.vm) (ap (λ (b : Box ItemCode Global). b.value) c.in_ok-old.ensures.item ∙ sym is) c.in_ok-kept.ensures.step) in
+    subst (λ k. Asks c.args.app.now c.args.cells.now (AsksKept c.args.left q (seen_entry e) (λ n. seen_item_code n o)) c.args.vm.now k c.renew_body.new.moved.asked) c.placed.ensures.asked
+    (subst (λ (w : ItemCode). Asks c.args.app.now c.args.cells.now (AsksKept c.args.left q (seen_entry e) (λ n. seen_item_code n w)) c.args.vm.now c.placed.new.moved.asked c.renew_body.new.moved.asked) is
+    (kept_asks c.args.app.now c.args.cells.now c.args.left q e x.spot x.comment x.body (λ n. seen_item_code n x) c.args.vm.now c.begin_item.new.vm (λ n. item_is n x) given c.placed.new.moved.asked c.renew_body.new.moved.asked
+    (subst (λ w. Asks c.args.app.now c.args.cells.now (AsksBody c.args.left w (λ n. seen_codes n x.body)) c.begin_item.new.vm c.placed.new.moved.asked c.renew_body.new.moved.asked) c.in_ok-kept.ensures.view c.in-Ok.ensures.asked)))
 
 pub syncing::kept_item-returns-in_ok-settled-in-Ok-clause-key : goal.syncing::kept_item-returns-in_ok-settled-in-Ok-clause-key
 syncing::kept_item-returns-in_ok-settled-in-Ok-clause-key g t c = λ n.
@@ -1319,12 +1609,37 @@ syncing::kept_item-returns-in_ok-settled-in-Ok-clause-key g t c = λ n.
     let o = c.args.old.value in
     let q : Path = item (plain (view e.key)) e.occurrence ∷ trail_view c.args.trail.now in
     let x : ItemCode = c.deref_mut.result.now in
-    let is : x ≡ o = c.deref_mut.ensures.value ∙ ap (λ (b : Box ItemCode Global). b.value) c.in_ok-kept.ensures.item in
-    let given : Does (given_item x.spot e) c.args.vm.now c.begin_item.new.vm = subst (λ (y : ItemCode). Does (given_item y.spot e) c.args.vm.now c.begin_item.new.vm) (sym is) c.in_ok-kept.ensures.step in
+    let is : x ≡ o = c.deref_mut.ensures.value ∙ ap (λ (b : Box ItemCode Global). b.value) (c.in_ok-kept.ensures.item ∙ c.in_ok-old.ensures.item) in
     let y : ItemCode = record { spot = x.spot; comment = x.comment; body = c.renew_body.new.codes } in
     let r : ItemCode = c.in_ok-settled-in-Ok.field-0.value in
-    let new : (n : Tables) → seen_item_code n r ≡ (seen_item_spot x.spot, (stamp_of x.comment, seen_codes n c.renew_body.new.codes)) = λ n. ap (λ (b : Box ItemCode Global). seen_item_code n b.value) c.in_ok-settled-in-Ok.ensures.item ∙ item_is n y in
+    let same : r ≡ y = ap (λ (b : Box ItemCode Global). b.value) c.in_ok-settled-in-Ok.ensures.item in
+    let new : (n : Tables) → seen_item_code n r ≡ (seen_item_spot x.spot, (stamp_of x.comment, seen_codes n c.renew_body.new.codes)) = λ n. ap (seen_item_code n) same ∙ item_is n y in
     ap spot_key (new n) ∙ sym (ap spot_key (ap (seen_item_code n) (sym is) ∙ item_is n x))
+
+pub syncing::kept_item-returns-in_ok-settled-in-Ok-clause-nodes : goal.syncing::kept_item-returns-in_ok-settled-in-Ok-clause-nodes
+syncing::kept_item-returns-in_ok-settled-in-Ok-clause-nodes g t c =
+    let e = c.args.entry.value in
+    let o = c.args.old.value in
+    let q : Path = item (plain (view e.key)) e.occurrence ∷ trail_view c.args.trail.now in
+    let x : ItemCode = c.deref_mut.result.now in
+    let is : x ≡ o = c.deref_mut.ensures.value ∙ ap (λ (b : Box ItemCode Global). b.value) (c.in_ok-kept.ensures.item ∙ c.in_ok-old.ensures.item) in
+    let y : ItemCode = record { spot = x.spot; comment = x.comment; body = c.renew_body.new.codes } in
+    let r : ItemCode = c.in_ok-settled-in-Ok.field-0.value in
+    let same : r ≡ y = ap (λ (b : Box ItemCode Global). b.value) c.in_ok-settled-in-Ok.ensures.item in
+    let new : (n : Tables) → seen_item_code n r ≡ (seen_item_spot x.spot, (stamp_of x.comment, seen_codes n c.renew_body.new.codes)) = λ n. ap (seen_item_code n) same ∙ item_is n y in
+    let p = stamp_of c.args.seat.now.parent in
+    let was = c.placed.new.vm.tree in
+    let now = c.renew_body.new.vm.tree in
+    record {
+      mid = was;
+      places = c.in_ok-old.ensures.places;
+      renewed = subst (λ (z : ItemCode). NodesRenewed was now (c.args.moved.now.items + one_if c.args.moves) c.renew_body.new.moved.items p (λ n. item_nest n o) (λ n. item_nest n z)) (sym same)
+          (subst (λ (z : ItemCode). NodesRenewed was now (c.args.moved.now.items + one_if c.args.moves) c.renew_body.new.moved.items p (λ n. item_nest n z) (λ n. item_nest n y)) is
+          (nodes_item was now (c.args.moved.now.items + one_if c.args.moves) c.renew_body.new.moved.items p x y refl
+          (nodes_after was c.begin_item.new.vm.tree now (c.args.moved.now.items + one_if c.args.moves) c.placed.new.moved.items c.renew_body.new.moved.items p (λ n. codes_nest n x.body) (λ n. codes_nest n c.renew_body.new.codes)
+          (roots_same was c.begin_item.new.vm.tree c.in_ok-kept.ensures.tree) c.in_ok-old.ensures.moved c.in-Ok.ensures.nodes)));
+      settles = λ n. subst (λ (z : ItemCode). Settles now c.args.moves c.args.seat.now c.settled.new.seat (item_nest n z)) (sym same) (c.in_ok-settled-in-Ok.ensures.settles n);
+    }
 
 pub syncing::entry_item-returns-in-Some-clause-ok : goal.syncing::entry_item-returns-in-Some-clause-ok
 syncing::entry_item-returns-in-Some-clause-ok g t c =
@@ -1380,6 +1695,15 @@ syncing::entry_item-returns-in-None-clause-asked g t c =
     subst (λ o. OnOk c.new_item.result (Asks c.args.app.now c.args.cells.now (AsksOne c.args.left (item (plain (view e.key)) e.occurrence ∷ trail_view c.args.trail.now) (seen_entry e) (unboxed o)) c.args.vm.now c.args.moved.now.asked c.args.moved.now.asked)) (sym c.in-None.is)
     (on_ok_always c.new_item.result (asks_just c.args.app.now c.args.cells.now 0 c.args.vm.now c.args.moved.now.asked c.args.moved.now.asked (omega arith)))
 
+pub syncing::entry_item-returns-in-Some-clause-nodes : goal.syncing::entry_item-returns-in-Some-clause-nodes
+syncing::entry_item-returns-in-Some-clause-nodes g t c =
+    subst (λ o. IfOk c.kept_item.result (λ r. OneKept c.args.vm.now.tree c.kept_item.new.vm.tree c.args.moved.now.items c.kept_item.new.moved.items c.args.next.moves c.args.seat.now c.kept_item.new.seat (unboxed o) r.value)) (sym c.in-Some.is) c.kept_item.ensures.nodes
+
+pub syncing::entry_item-returns-in-None-clause-nodes : goal.syncing::entry_item-returns-in-None-clause-nodes
+syncing::entry_item-returns-in-None-clause-nodes g t c =
+    subst (λ o. IfOk c.new_item.result (λ r. OneKept c.args.vm.now.tree c.new_item.new.vm.tree c.args.moved.now.items c.args.moved.now.items c.args.next.moves c.args.seat.now c.args.seat.now (unboxed o) r.value)) (sym c.in-None.is)
+    (if_ok_two c.new_item.result (λ r s m. record { seats = s; moves = m; counts = refl; same = refl }) c.new_item.ensures.seats c.new_item.ensures.moves)
+
 -- the items
 
 pub syncing::sync_items-loop-done-init : goal.syncing::sync_items-loop-done-init
@@ -1394,6 +1718,7 @@ syncing::sync_items-loop-done-init g t c = record {
   moved = syncing_begin c.args.moved.now c.args.begun.now.work c.new-done.result.items c.new-done.ensures.items;
   asks = sync_asked c.args.app.now c.args.cells.now c.args.left c.args.begun.now.listing (trail_view c.args.trail.now) (seen_left c.args.begun.now.work.waiting.items) c.args.begun.now.work.olds.items c.args.vm.now c.args.moved.now.asked;
   stayed = λ n run. refl;
+  nodes = nodes_begin c.args.vm.now.tree c.args.moved.now.items c.args.begun.now.seat c.args.begun.now.work c.new-done.result.items c.new-done.ensures.items c.requires.rising;
 }
 
 pub syncing::sync_items-loop-done-preserved : goal.syncing::sync_items-loop-done-preserved
@@ -1432,6 +1757,8 @@ syncing::sync_items-loop-done-preserved g t c =
           (subst (λ (l : ListingCode). Renews c.args.app.now c.args.cells.now (OneItem (λ n. seen_listing n l) c.args.left (item (plain (view e.key)) e.occurrence ∷ trail_view c.loop-done.trail) (seen_entry e) o) c.loop-done.vm (λ n. seen_item_code n c.in-Ok.item.value) c.entry_item.new.vm) c.loop-done.invariant.listing c.in-Ok.ensures.ok));
       stayed = stays_one c.args.left c.args.begun.now.stayed c.loop-done.begun.stayed c.count_stayed.new.stayed (seen_left c.args.begun.now.work.waiting.items) (seen_left w.waiting.items) (seen_left v.waiting.items) c.args.begun.now.work.olds.items w.olds.items v.olds.items (seen_entry e) o
           (next_left w.waiting.items v.waiting.items e took.waits) after.0 c.in_ok-count_stayed.ensures c.loop-done.invariant.stayed;
+      nodes = nodes_next c.args.vm.now.tree c.loop-done.vm.tree c.entry_item.new.vm.tree c.args.moved.now.items c.loop-done.moved.items c.entry_item.new.moved.items c.args.begun.now.seat c.loop-done.begun.seat c.entry_item.new.seat c.args.begun.now.work w v
+          c.loop-done.done.items c.add_item.new.items.items e o x.moves c.in-Ok.item.value c.loop-done.invariant.ready took.waits took.taken took.moves c.in-Ok.ensures.nodes c.in_ok-add_item-in-Ok.ensures c.loop-done.invariant.nodes;
     }
 
 pub syncing::sync_items-returns-in-Err-clause-fails : goal.syncing::sync_items-returns-in-Err-clause-fails
@@ -1493,6 +1820,14 @@ syncing::sync_items-returns-clause-keys g t c =
     let ended : (w.waiting.items ≡ []) × (c.next.new.self.olds ≡ w.olds) = subst (Follows w c.next.new.self) c.in_default.is c.in_ok-next.ensures in
     (syncing_end c.args.moved.now c.loop-done.moved c.args.begun.now.work w c.loop-done.done.items c.loop-done.invariant.ready ended.0 c.loop-done.invariant.moved).1
 
+pub syncing::sync_items-returns-clause-nodes : goal.syncing::sync_items-returns-clause-nodes
+syncing::sync_items-returns-clause-nodes g t c =
+    let w = c.loop-done.begun.work in
+    let v = c.next.new.self in
+    let ended : (w.waiting.items ≡ []) × (v.olds ≡ w.olds) = subst (Follows w v) c.in_default.is c.in_ok-next.ensures in
+    nodes_end c.args.vm.now.tree c.loop-done.vm.tree c.end_left.new.vm.tree c.args.moved.now.items c.loop-done.moved.items c.args.begun.now.seat c.loop-done.begun.seat c.args.begun.now.work w c.loop-done.done.items (there v.olds.items)
+    (ap (λ os. there os.items) ended.1) c.in_ok-end_left.ensures.unseats c.in_ok-end_left.ensures.moves c.loop-done.invariant.nodes
+
 -- all of them
 
 pub syncing::sync_list-returns-in_ok-end_sync-in-Ok-clause-ok : goal.syncing::sync_list-returns-in_ok-end_sync-in-Ok-clause-ok
@@ -1549,6 +1884,25 @@ syncing::sync_list-returns-in_ok-end_sync-in-Ok-clause-moved g t c =
     olds waits (subst (λ (x : Begun). x.work.keys ≡ map code_key l.items.items) is c.in_ok-begun.ensures.keys) (subst (λ (x : Begun). count_moves (reverse (seen_steps x.work.steps.items)) ≡ moves_between x.work.keys ks) is c.in_ok-begun.ensures.moves)
     c.requires.keys c.in-Ok.ensures.moved c.in-Ok.ensures.keys made)
 
+pub syncing::sync_list-returns-in_ok-end_sync-in-Ok-clause-nodes : goal.syncing::sync_list-returns-in_ok-end_sync-in-Ok-clause-nodes
+syncing::sync_list-returns-in_ok-end_sync-in-Ok-clause-nodes g t c =
+    let l = c.args.list.value in
+    let d : Begun = c.deref_mut.result.now in
+    let b : Begun = c.in_ok-begun.begun.value in
+    let is : b ≡ d = sym c.deref_mut.ensures.value in
+    let listing : d.listing ≡ l.listing = ap (λ (x : Begun). x.listing) (sym is) ∙ c.in_ok-begun.ensures.listing in
+    let spot : d.spot ≡ l.spot = ap (λ (x : Begun). x.spot) (sym is) ∙ c.in_ok-begun.ensures.spot in
+    let olds : there d.work.olds.items ≡ l.items.items = ap (λ (x : Begun). there x.work.olds.items) (sym is) ∙ c.in_ok-begun.ensures.olds in
+    let news = c.in-Ok.items.items in
+    let made : (n : Tables) → seen_code n c.in_ok-end_sync-in-Ok.field-0.value ≡ listed_code (seen_listing n l.listing) (seen_spot l.spot) (all_items (map (seen_item_code n) news)) =
+    λ n. c.in_ok-end_sync-in-Ok.ensures n ∙ ap₂ (λ (x : ListingCode) (y : Spot). listed_code (seen_listing n x) (seen_spot y) (all_items (map (seen_item_code n) news))) (c.in-Ok.ensures.listing ∙ listing) (c.in-Ok.ensures.spot ∙ spot) in
+    let old = c.args.vm.now.tree in
+    let new = c.sync_items.new.vm.tree in
+    nodes_made old new c.args.moved.now.items c.settle.new.self.items (stamp_of c.args.parent.now) (λ n. items_nest n l.items.items) c.in_ok-end_sync-in-Ok.field-0.value (λ n. listed_code (seen_listing n l.listing) (seen_spot l.spot) (all_items (map (seen_item_code n) news))) made
+    (list_synced old new c.args.moved.now.items c.begin_sync.new.moved.items c.sync_items.new.moved.items c.settle.new.self.items c.args.parent.now d.seat (there d.work.olds.items) news l.items.items
+    (ap (λ (x : Begun). x.seat.parent) (sym is) ∙ c.in_ok-begun.ensures.parent) (subst (λ (x : Begun). (n : Tables) → IsBefore (items_nest n l.items.items) (stamp_of x.seat.next)) is c.in_ok-begun.ensures.before) olds
+    c.begin_sync.ensures.moved c.settle.ensures.items c.in-Ok.ensures.nodes)
+
 pub syncing::sync_list-returns-in_ok-end_sync-in-Ok-clause-asked : goal.syncing::sync_list-returns-in_ok-end_sync-in-Ok-clause-asked
 syncing::sync_list-returns-in_ok-end_sync-in-Ok-clause-asked g t c =
     let l = c.args.list.value in
@@ -1588,6 +1942,7 @@ staying::stay_items-loop-kept-init g t c = record {
   stays = stays_begin c.args.app.now c.args.cells.now c.args.left (trail_view c.args.trail.now) c.args.values.now c.args.items.now.items c.deref_mut-kept-items.result.now c.args.vm.now;
   moved = along_begin c.args.moved.now c.args.items.now.items c.deref_mut-kept-items.result.now;
   asks = stays_asked c.args.app.now c.args.cells.now c.args.left (trail_view c.args.trail.now) c.args.values.now c.args.items.now.items c.args.vm.now c.args.moved.now.asked;
+  nodes = row_begin item_nest c.args.vm.now.tree c.args.moved.now.items (stamp_of c.args.parent.now) c.args.items.now.items c.deref_mut-kept-items.result.now;
 }
 
 pub staying::stay_items-loop-kept-preserved : goal.staying::stay_items-loop-kept-preserved
@@ -1618,6 +1973,9 @@ staying::stay_items-loop-kept-preserved g t c =
           (subst (λ z. Asks c.args.app.now c.args.cells.now (AsksItem c.args.app.now c.args.cells.now c.args.left (trail_view w.trail) z) c.give_at.new.vm w.moved.asked c.walk_item.new.moved.asked) (sym c.kept-item.is) c.in-Ok.ensures.asked))
           (subst (λ y. Renews c.args.app.now c.args.cells.now (AlongItem c.args.left (trail_view y) (λ n. seen_item_code n c.kept-item.result)) c.give_at.new.vm (λ n. seen_item_code n c.walk_item.new.item) c.walk_item.new.vm) w.invariant.trail
           (subst (λ z. Renews c.args.app.now c.args.cells.now (AlongItem c.args.left (trail_view w.trail) (λ n. seen_item_code n z)) c.give_at.new.vm (λ n. seen_item_code n c.walk_item.new.item) c.walk_item.new.vm) (sym c.kept-item.is) c.in-Ok.ensures.ok));
+      nodes = row_next item_nest c.args.vm.now.tree w.vm.tree c.walk_item.new.vm.tree c.args.moved.now.items w.moved.items c.walk_item.new.moved.items (stamp_of c.args.parent.now) c.args.items.now.items w.kept-items w.kept-index c.kept-item.result c.walk_item.new.item lt long at w.invariant.nodes
+          (nodes_after w.vm.tree c.give_at.new.vm.tree c.walk_item.new.vm.tree w.moved.items w.moved.items c.walk_item.new.moved.items (stamp_of c.args.parent.now) (λ n. item_nest n c.kept-item.result) (λ n. item_nest n c.walk_item.new.item) (roots_same w.vm.tree c.give_at.new.vm.tree c.in_ok-give_at.ensures.tree) refl
+          (subst (λ z. NodesRenewed c.give_at.new.vm.tree c.walk_item.new.vm.tree w.moved.items c.walk_item.new.moved.items (stamp_of c.args.parent.now) (λ n. item_nest n z) (λ n. item_nest n c.walk_item.new.item)) (sym c.kept-item.is) c.in-Ok.ensures.nodes));
     }
 
 pub staying::stay_items-returns-in-Err-clause-fails : goal.staying::stay_items-returns-in-Err-clause-fails
@@ -1646,6 +2004,15 @@ staying::stay_items-returns-clause-moved g t c =
     let w = c.loop-kept in
     along_end c.args.moved.now w.moved c.args.items.now.items _ w.kept-items w.kept-index (w.invariant.unvisited.0 ∙ ap length c.deref_mut-kept-items.ensures.value) (let le = c.loop-kept-test.false in let e = w.invariant.unvisited.0 in omega (arith, le, e))
     (written w.kept-items (drop (length w.kept-items) c.args.items.now.items) c.args.items.now.len (c.args.items.now.ok.0 ∙ (ap length (sym c.deref_mut-kept-items.ensures.value) ∙ sym w.invariant.unvisited.0))) w.invariant.moved
+
+pub staying::stay_items-returns-clause-nodes : goal.staying::stay_items-returns-clause-nodes
+staying::stay_items-returns-clause-nodes g t c =
+    let w = c.loop-kept in
+    nodes_within c.args.vm.now.tree c.args.vm.now.tree w.vm.tree c.end_none.new.vm.tree c.args.moved.now.items c.args.moved.now.items w.moved.items w.moved.items (stamp_of c.args.parent.now) (λ n. items_nest n c.args.items.now.items) (λ n. items_nest n _) (roots_refl c.args.vm.now.tree) refl
+    (items_renewed c.args.vm.now.tree w.vm.tree c.args.moved.now.items w.moved.items (stamp_of c.args.parent.now) c.args.items.now.items _
+    (row_end item_nest c.args.vm.now.tree w.vm.tree c.args.moved.now.items w.moved.items (stamp_of c.args.parent.now) c.args.items.now.items _ w.kept-items w.kept-index (w.invariant.unvisited.0 ∙ ap length c.deref_mut-kept-items.ensures.value) (let le = c.loop-kept-test.false in let e = w.invariant.unvisited.0 in omega (arith, le, e))
+    (written w.kept-items (drop (length w.kept-items) c.args.items.now.items) c.args.items.now.len (c.args.items.now.ok.0 ∙ (ap length (sym c.deref_mut-kept-items.ensures.value) ∙ sym w.invariant.unvisited.0))) w.invariant.nodes))
+    c.in_ok-end_none.ensures.roots refl
 
 pub staying::stay_items-returns-clause-asked : goal.staying::stay_items-returns-clause-asked
 staying::stay_items-returns-clause-asked g t c =
@@ -1688,6 +2055,17 @@ staying::stay_list-returns-in_ok-end_stay-in-Ok-clause-moved g t c =
     code_counted c.args.moved.now c.begin_stay.new.moved c.stay_items.new.moved c.settle.new.self (λ n. listed_code (seen_listing n l.listing) (seen_spot l.spot) (all_items (map (seen_item_code n) l.items.items))) (λ n. seen_code n c.in_ok-end_stay-in-Ok.field-0.value) c.begin_stay.ensures.moved c.settle.ensures.items
     (list_along c.begin_stay.new.moved c.stay_items.new.moved (λ n. seen_listing n l.listing) (seen_spot l.spot) l.items.items c.stay_items.new.items.items (λ n. seen_code n c.in_ok-end_stay-in-Ok.field-0.value)
     (subst (λ (x : Listed). ItemsAlong c.begin_stay.new.moved c.stay_items.new.moved x.items.items c.stay_items.new.items.items) d c.in-Ok.ensures.moved) made)
+
+pub staying::stay_list-returns-in_ok-end_stay-in-Ok-clause-nodes : goal.staying::stay_list-returns-in_ok-end_stay-in-Ok-clause-nodes
+staying::stay_list-returns-in_ok-end_stay-in-Ok-clause-nodes g t c =
+    let l = c.args.list.value in
+    let d : c.deref_mut.result.now ≡ l = c.deref_mut.ensures.value ∙ ap (λ (b : Box Listed Global). b.value) c.in_ok-begun.ensures.list in
+    let made : (n : Tables) → seen_code n c.in_ok-end_stay-in-Ok.field-0.value ≡ listed_code (seen_listing n l.listing) (seen_spot l.spot) (all_items (map (seen_item_code n) c.stay_items.new.items.items)) =
+    λ n. c.in_ok-end_stay-in-Ok.ensures n ∙ ap (λ (x : Listed). listed_code (seen_listing n x.listing) (seen_spot x.spot) (all_items (map (seen_item_code n) c.stay_items.new.items.items))) d in
+    let new = c.stay_items.new.vm.tree in
+    nodes_made c.args.vm.now.tree new c.args.moved.now.items c.settle.new.self.items (stamp_of c.args.parent.now) (λ n. items_nest n l.items.items) c.in_ok-end_stay-in-Ok.field-0.value (λ n. listed_code (seen_listing n l.listing) (seen_spot l.spot) (all_items (map (seen_item_code n) c.stay_items.new.items.items))) made
+    (nodes_counted c.args.vm.now.tree new c.args.moved.now.items c.begin_stay.new.moved.items c.stay_items.new.moved.items c.settle.new.self.items (stamp_of c.args.parent.now) (λ n. items_nest n l.items.items) (λ n. items_nest n c.stay_items.new.items.items) c.begin_stay.ensures.moved c.settle.ensures.items
+    (subst (λ (x : Listed). NodesRenewed c.args.vm.now.tree new c.begin_stay.new.moved.items c.stay_items.new.moved.items (stamp_of c.args.parent.now) (λ n. items_nest n x.items.items) (λ n. items_nest n c.stay_items.new.items.items)) d c.in-Ok.ensures.nodes))
 
 pub staying::stay_list-returns-in_ok-end_stay-in-Ok-clause-asked : goal.staying::stay_list-returns-in_ok-end_stay-in-Ok-clause-asked
 staying::stay_list-returns-in_ok-end_stay-in-Ok-clause-asked g t c =

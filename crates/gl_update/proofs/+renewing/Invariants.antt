@@ -1,5 +1,8 @@
 use Rattle.std.proofs.Common.{◌≡◌, ℕ, ◌+◌, ◌-◌, ◌*◌, ◌^◌, length, vec_len}
+use Rattle.gl_nodes.specs.Flat.{stamp_of}
 use Rattle.gl_vm.specs.View.{Calm}
+use Rattle.gl_seats.specs.Parts.{code_nest, item_nest}
+use Rattle.gl_update.proofs.RenewedRows.{RowRenewed}
 use Rattle.gl_update.specs.ListItems.{there}
 use Rattle.gl_update.specs.OldItems.{IsReady}
 use Rattle.gl_update.proofs.StayingItems.{Stays}
@@ -9,6 +12,7 @@ use Rattle.gl_update.proofs.Onward.{Onward}
 use Rattle.gl_update.proofs.SyncItems.{All, Left}
 use Rattle.gl_update.proofs.MovedCodes.{Walked}
 use Rattle.gl_update.proofs.SyncCounts.{Syncing}
+use Rattle.gl_update.proofs.SyncNodes.{NodesSyncing}
 use Rattle.gl_update.proofs.Walking.{Walks}
 use Rattle.gl_update.proofs.AskedCodes.{AsksWalk}
 use Rattle.gl_update.proofs.AlongCounts.{Along}
@@ -108,6 +112,7 @@ invariant-codes::renew_codes-loop-place g l = record {
   walks : Walks l.app l.cells l.left (trail_view l.fn.trail) l.fn.codes l.fn.vm l.code-items l.place l.vm;
   moved : Walked l.fn.moved l.moved l.fn.codes.list.items l.code-items l.place;
   asks : AsksWalk l.app l.cells l.left (trail_view l.fn.trail) l.fn.codes l.fn.vm l.fn.moved.asked l.code-items l.place l.vm l.moved.asked;
+  nodes : RowRenewed code_nest l.fn.vm.tree l.vm.tree l.fn.moved.items l.moved.items (stamp_of l.parent) l.fn.codes.list.items l.code-items l.place;
 }
 
 abbrev pub invariant-along::walk_items-loop-item : goal.invariant-along::walk_items-loop-item
@@ -118,6 +123,7 @@ invariant-along::walk_items-loop-item g l = record {
   walks : WalksItems l.app l.cells l.left (trail_view l.fn.trail) l.fn.items.items l.fn.vm l.item-items l.item-index l.vm;
   moved : Along l.fn.moved l.moved l.fn.items.items l.item-items l.item-index;
   asks : AsksWalkItems l.app l.cells l.left (trail_view l.fn.trail) l.fn.items.items l.fn.vm l.fn.moved.asked l.item-items l.item-index l.vm l.moved.asked;
+  nodes : RowRenewed item_nest l.fn.vm.tree l.vm.tree l.fn.moved.items l.moved.items (stamp_of l.parent) l.fn.items.items l.item-items l.item-index;
 }
 
 abbrev pub invariant-staying::stay_items-loop-kept : goal.invariant-staying::stay_items-loop-kept
@@ -129,6 +135,7 @@ invariant-staying::stay_items-loop-kept g l = record {
   stays : Stays l.app l.cells l.left (trail_view l.fn.trail) l.values l.fn.items.items l.fn.vm l.kept-items l.kept-index l.vm;
   moved : Along l.fn.moved l.moved l.fn.items.items l.kept-items l.kept-index;
   asks : AsksStays l.app l.cells l.left (trail_view l.fn.trail) l.values l.fn.items.items l.fn.vm l.fn.moved.asked l.kept-index l.vm l.moved.asked;
+  nodes : RowRenewed item_nest l.fn.vm.tree l.vm.tree l.fn.moved.items l.moved.items (stamp_of l.parent) l.fn.items.items l.kept-items l.kept-index;
 }
 
 abbrev pub invariant-syncing::sync_items-loop-done : goal.invariant-syncing::sync_items-loop-done
@@ -144,6 +151,7 @@ invariant-syncing::sync_items-loop-done g l = record {
   moved : Syncing l.fn.moved l.moved l.fn.begun.work l.begun.work l.done.items;
   asks : AsksOn l.app l.cells (AsksOf l.app l.cells l.left l.fn.begun.listing (trail_view l.fn.trail) (seen_left l.fn.begun.work.waiting.items) l.fn.begun.work.olds.items) l.fn.vm l.fn.moved.asked
       (AsksOf l.app l.cells l.left l.fn.begun.listing (trail_view l.fn.trail) (seen_left l.begun.work.waiting.items) l.begun.work.olds.items) l.vm l.moved.asked;
+  nodes : NodesSyncing l.fn.vm.tree l.vm.tree l.fn.moved.items l.moved.items l.fn.begun.seat l.begun.seat l.fn.begun.work l.begun.work l.done.items;
   stayed : StaysOn l.left l.fn.begun.stayed (seen_left l.fn.begun.work.waiting.items) l.fn.begun.work.olds.items l.begun.stayed (seen_left l.begun.work.waiting.items) l.begun.work.olds.items;
 }
 

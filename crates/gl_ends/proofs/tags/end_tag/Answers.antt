@@ -1,10 +1,12 @@
-use Rattle.std.proofs.Common.{ℕ, ◌+◌, map, refl}
+use Rattle.std.proofs.Common.{ℕ, ◌+◌, map, refl, ◌∙◌}
 use Rattle.std.proofs.lemmas.Result.{on_ok_weaker}
 use Rattle.gl_plain.specs.Ids.{Id as Name, node, hit, occurs}
 use Rattle.gl_plain.specs.Live.{times_attrs}
 use Rattle.gl_code.specs.View.{refs_made}
 use Rattle.gl_code.specs.CodeView.{seen_attr_spot}
 use Rattle.gl_ends.proofs.Joins.{ends_then}
+use Rattle.gl_machine.specs.Shape.{leaf}
+use Rattle.gl_ends.proofs.Gone.{gone_before}
 use Rattle.gl_ends.proofs.tags.end_tag.Goals as goal
 
 pub returns-clause-ends : goal.returns-clause-ends
@@ -22,3 +24,6 @@ returns-clause-led c = λ h. c.end_node.ensures.led (c.end_references.ensures.le
 
 pub returns-in_err-end_references-clause-led : goal.returns-in_err-end_references-clause-led
 returns-in_err-end_references-clause-led c = λ h. c.end_references.ensures.led (c.end_attrs.ensures.led h)
+
+pub returns-clause-unseats : goal.returns-clause-unseats
+returns-clause-unseats c = on_ok_weaker c.end_node.result (gone_before c.args.vm.now.tree c.end_references.new.vm.tree c.end_node.new.vm.tree.forest (leaf c.args.node.1) (c.in_ok-end_references.ensures.tree ∙ c.in_ok-end_attrs.ensures.tree)) c.end_node.ensures.unseats

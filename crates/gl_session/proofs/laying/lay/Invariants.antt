@@ -1,4 +1,4 @@
-use Rattle.std.proofs.Common.{vec_len}
+use Rattle.std.proofs.Common.{◌≡◌, vec_len}
 use Rattle.gl_vm.specs.View.{Calm}
 use Rattle.gl_session.proofs.Laid.{LaidSoFar}
 use Rattle.gl_session.proofs.laying.lay.Given as goal
@@ -8,6 +8,7 @@ abbrev pub invariant-loop-given : goal.invariant-loop-given
 invariant-loop-given l = record {
   left : LaidSoFar l.fn.givens.items l.fn.vm l.waiting.items l.vm;
   calm : Calm l.fn.vm → Calm l.vm;
+  tree : l.vm.tree ≡ l.fn.vm.tree;
 }
 
 abbrev pub decreases-loop-given : goal.decreases-loop-given

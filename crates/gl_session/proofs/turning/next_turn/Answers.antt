@@ -3,6 +3,9 @@ use Rattle.std.specs.Prelude.{Some}
 use Rattle.gl_meaning.specs.View.{event_view, manifest_view}
 use Rattle.gl_plain.specs.Turns.{begin}
 use Rattle.gl_vm.specs.Steps.{empty}
+use Rattle.gl_nodes.specs.Tree.{Tree}
+use Rattle.gl_code.specs.Hung.{nest_of}
+use Rattle.gl_code.specs.Tables.{tables_of}
 use Rattle.gl_code.proofs.Doing.{does_then}
 use Rattle.gl_fires.specs.Worlds.{world_of}
 use Rattle.gl_fires.proofs.Standing.{has_world}
@@ -29,7 +32,7 @@ returns-in-Ok-clause-ok c = λ templates s lowered x t.
     let made : Turn = record { text = c.in_ok-text-in-Ok.text; work = w.result } in
     goes_as a templates s (Some e) c.next_text.new.page c.renew.new.page made z.vm z.code
     (next_goes a templates (names_rise (manifest_view a.manifest) c.keeps.ensures.rules) lowered page s x e c.in_ok-sets.field-0.sets given applied.0 c.in_ok-sets.ensures.own found c.lay.new.vm did
-    c.renew.new.page c.in-Ok.ensures.ok c.in-Ok.ensures.nodes z.flat z.sound c.in_ok-before.before.list.items c.in_ok-before.ensures z.destroyed z.logs empty c.args.turn c.as_slice.result.now
+    c.renew.new.page c.in-Ok.ensures.ok (c.in-Ok.ensures.nodes (tables_of (manifest_view a.manifest)) (ap (λ (v : Tree). nest_of v.forest) (c.in_ok-lay.ensures.tree ∙ c.in_ok-begin_turn.ensures.tree) ∙ x.nested)) z.flat z.sound c.in_ok-before.before.list.items c.in_ok-before.ensures z.destroyed z.logs empty c.args.turn c.as_slice.result.now
     made t (c.as_slice.ensures.value ∙ applied.1) z.told c.in-Ok.moved.items c.in-Ok.ensures.moved
     (record { evaluated = w.ensures.evaluated; made = w.ensures.made ∙ ap (λ k. c.renew.new.page.vm.tree.nodes.made - k) c.upcoming-first.ensures; moved = w.ensures.moved }))
 

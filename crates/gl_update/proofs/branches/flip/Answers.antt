@@ -7,6 +7,8 @@ use Rattle.gl_code.specs.View.{seen_sight}
 use Rattle.gl_code.specs.CodeView.{seen_choice, seen_codes}
 use Rattle.gl_update.specs.View.{trail_view}
 use Rattle.gl_update.proofs.Branching.{fresh_renews, fresh_fails}
+use Rattle.gl_seats.specs.Parts.{body_nest}
+use Rattle.gl_update.proofs.Renewed.{stands_anew}
 use Rattle.gl_update.proofs.branches.flip.Goals as goal
 
 pub returns-in_ok-comment-in-Ok-clause-ok : goal.returns-in_ok-comment-in-Ok-clause-ok
@@ -32,3 +34,11 @@ returns-in-Err-clause-fails g c = λ s.
     (λ n. ap (λ w. start w c.chosen-pc.result path c.args.left) (c.in_ok-sight.ensures n ∙ ap (seen_sight n) c.as_ref.ensures)
     ∙ (ap (λ x. start (seen_sight n c.args.choice.now.sight.value) x path c.args.left) c.chosen-pc.ensures ∙ ap (λ y. start (seen_sight n c.args.choice.now.sight.value) pc y c.args.left) (c.in_ok-path.ensures ∙ ap (λ x. x ∷ p) c.side.ensures)))
     c.in-Err.ensures.fails
+
+pub returns-in_ok-comment-in-Ok-clause-nodes : goal.returns-in_ok-comment-in-Ok-clause-nodes
+returns-in_ok-comment-in-Ok-clause-nodes g c = λ n.
+    stands_anew c.args.vm.now.tree c.end_branch.new.vm.tree c.append_block.new.vm.tree c.seat_with_comment.new.vm.tree (stamp_of c.args.parent.now) (stamp_of c.in_ok-seat.seat.parent) (stamp_of c.in_ok-seat.seat.next) (body_nest n c.args.body.now c.args.comment.now) (body_nest n c.in-Ok.codes c.in_ok-comment-in-Ok.field-0)
+    (ap stamp_of c.in_ok-seat.ensures.parent) (c.in_ok-seat.ensures.behind n) (c.in_ok-end_branch.ensures.unseats n) c.in-Ok.ensures.roots (c.in_ok-comment-in-Ok.ensures.seats n)
+
+pub returns-in_ok-comment-in-Ok-clause-moves : goal.returns-in_ok-comment-in-Ok-clause-moves
+returns-in_ok-comment-in-Ok-clause-moves g c = c.in_ok-comment-in-Ok.ensures.moves ∙ (c.in-Ok.ensures.roots.moves ∙ c.in_ok-end_branch.ensures.moves)

@@ -8,6 +8,9 @@ use Rattle.gl_update.specs.View.{trail_view}
 use Rattle.gl_update.specs.ListItems.{ListsNone}
 use Rattle.gl_code.specs.Renewing.{Renews, RenewFails}
 use Rattle.gl_update.specs.declared.taken.Listed.{Listed}
+use Rattle.gl_nodes.specs.Flat.{stamp_of}
+use Rattle.gl_seats.specs.Parts.{code_nest, items_nest}
+use Rattle.gl_seats.specs.Seats.{Replaces}
 use Rattle.gl_update.proofs.lists.end_list.Goals as goal
 
 pub returns-in-Ok-clause-ok : goal.returns-in-Ok-clause-ok
@@ -22,3 +25,9 @@ returns-in-Ok-clause-none g c = λ n. subst (λ (y : Code). IsUnlisted (live_of 
 pub returns-clause-fails : goal.returns-clause-fails
 returns-clause-fails g c =
     subst (λ (l : Listed). RenewFails {A = PlainCode} c.args.app.now c.args.cells.now (ListsNone (λ n. seen_listing n l.listing) (seen_spot l.spot) c.args.left (trail_view c.args.trail.now) (λ n q. times_items q (lives_in (all_items (map (seen_item_code n) l.items.items))))) c.args.vm.now c.in-Err.fault) c.into_inner-list.ensures c.in-Err.ensures.fails
+
+pub returns-in-Ok-clause-nodes : goal.returns-in-Ok-clause-nodes
+returns-in-Ok-clause-nodes g c = λ n.
+    let new = c.unlist.new.vm.tree.forest in
+    subst (λ (l : Listed). Replaces c.args.vm.now.tree.forest new (stamp_of c.args.parent.now) (items_nest n l.items.items) (code_nest n c.in_ok-boxed_code-in-Ok.field-0.value)) c.into_inner-list.ensures
+    (subst (λ (y : Code). Replaces c.args.vm.now.tree.forest new (stamp_of c.args.parent.now) (items_nest n c.into_inner-list.result.items.items) (code_nest n y)) (sym c.in_ok-boxed_code-in-Ok.ensures) (c.in-Ok.ensures.nodes n))

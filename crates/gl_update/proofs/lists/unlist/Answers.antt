@@ -15,6 +15,11 @@ use Rattle.gl_update.specs.View.{trail_view}
 use Rattle.gl_update.proofs.MovedCodes.{is_unlisted}
 use Rattle.gl_update.proofs.ListUpdates.{lists_none, lists_none_fails}
 use Rattle.gl_update.proofs.Renewing.{renews_as}
+use Rattle.gl_machine.specs.Code.{live_of}
+use Rattle.gl_machine.specs.Shape.{nest}
+use Rattle.gl_seats.specs.Parts.{body_nest, item_nest, items_nest}
+use Rattle.gl_seats.specs.Seats.{Replaces, UnseatsEach, IsBehind}
+use Rattle.gl_update.proofs.Renewed.{items_unseated, stands_anew}
 use Rattle.gl_update.proofs.lists.unlist.Goals as goal
 
 pub returns-in_ok-comment-in-Ok-clause-ok : goal.returns-in_ok-comment-in-Ok-clause-ok
@@ -43,3 +48,17 @@ returns-in-Err-clause-fails g c =
 
 pub returns-in_ok-comment-in-Ok-clause-none : goal.returns-in_ok-comment-in-Ok-clause-none
 returns-in_ok-comment-in-Ok-clause-none g c = λ n. is_unlisted (seen_code n c.unlisted.result) (seen_listing n c.args.listing) (seen_spot c.args.spot) (stamp_of c.in_ok-comment-in-Ok.comment) (seen_codes n c.in-Ok.codes) (c.unlisted.ensures n)
+
+pub returns-in_ok-comment-in-Ok-clause-nodes : goal.returns-in_ok-comment-in-Ok-clause-nodes
+returns-in_ok-comment-in-Ok-clause-nodes g c = λ n.
+    let xs = c.args.items.now.items in
+    let seat = c.in_ok-seat.seat in
+    let new = c.seat_with_comment.new.vm.tree in
+    subst (λ y. Replaces c.args.vm.now.tree.forest new.forest (stamp_of c.args.parent.now) (items_nest n xs) y) (sym (ap (λ l. nest (live_of l)) (c.unlisted.ensures n)))
+    (stands_anew c.args.vm.now.tree c.end_items.new.vm.tree c.append_block.new.vm.tree new (stamp_of c.args.parent.now) (stamp_of seat.parent) (stamp_of seat.next) (items_nest n xs) (body_nest n c.in-Ok.codes c.in_ok-comment-in-Ok.comment)
+    (ap stamp_of c.in_ok-seat.ensures.parent) (subst (λ ys. IsBehind c.args.vm.now.tree.forest (stamp_of c.args.parent.now) (items_nest n ys) (stamp_of seat.next)) c.as_slice.ensures.value (c.in_ok-seat.ensures.behind n))
+    (items_unseated n c.args.vm.now.tree c.end_items.new.vm.tree xs (subst (λ ys. UnseatsEach c.args.vm.now.tree.forest c.end_items.new.vm.tree.forest (map (item_nest n) ys)) c.as_slice-2.ensures.value (c.in_ok-end_items.ensures.unseats n)))
+    c.in-Ok.ensures.roots (c.in_ok-comment-in-Ok.ensures.seats n))
+
+pub returns-in_ok-comment-in-Ok-clause-moves : goal.returns-in_ok-comment-in-Ok-clause-moves
+returns-in_ok-comment-in-Ok-clause-moves g c = c.in_ok-comment-in-Ok.ensures.moves ∙ (c.in-Ok.ensures.roots.moves ∙ c.in_ok-end_items.ensures.moves)

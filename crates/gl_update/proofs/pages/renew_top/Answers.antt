@@ -1,4 +1,4 @@
-use Rattle.std.proofs.Common.{◌≡◌, false, true, refl, sym, ◌∙◌}
+use Rattle.std.proofs.Common.{◌≡◌, None, false, true, refl, sym, ◌∙◌}
 use Rattle.gl_plain.specs.Counts.{positions_in}
 use Rattle.gl_machine.specs.Code as p
 use Rattle.gl_machine.specs.Code.{lives_of}
@@ -11,6 +11,9 @@ use Rattle.gl_update.specs.Questions.{AsksIn}
 use Rattle.gl_update.proofs.AskedCodes.{asks_entered, asks_over}
 use Rattle.gl_update.proofs.MovedCodes.{body_counted, stays_moved}
 use Rattle.gl_update.proofs.Regions.{region_entered, region_fails, region_passed}
+use Rattle.gl_seats.specs.Parts.{codes_nest}
+use Rattle.gl_code.proofs.Rooting.{roots_refl}
+use Rattle.gl_update.proofs.Renewed.{nodes_same, nodes_within, refs_rooted}
 use Rattle.gl_update.proofs.pages.renew_top.Goals as goal
 
 pub returns-in-Ok-clause-ok : goal.returns-in-Ok-clause-ok
@@ -57,3 +60,12 @@ returns-else-branch-clause-asked g c =
 
 pub returns-else-branch-clause-idle : goal.returns-else-branch-clause-idle
 returns-else-branch-clause-idle g c room h = ((refl, c.ask.ensures.items), (refl, c.enters_page.ensures.counted.rest))
+
+pub returns-in-Ok-clause-nodes : goal.returns-in-Ok-clause-nodes
+returns-in-Ok-clause-nodes g c =
+    nodes_within c.args.vm.now.tree c.enters_page.new.vm.tree c.renew_codes.new.vm.tree c.renew_codes.new.vm.tree c.args.moved.now.items c.ask.new.self.items c.renew_codes.new.moved.items c.close.new.self.items None (λ n. codes_nest n c.args.body.now) (λ n. codes_nest n c.renew_codes.new.codes)
+    (refs_rooted c.args.vm.now c.enters_page.new.vm _ c.enters_page.ensures.counted.rest) c.ask.ensures.items c.in-Ok.ensures.nodes (roots_refl c.renew_codes.new.vm.tree) c.close.ensures.items
+
+pub returns-else-branch-clause-nodes : goal.returns-else-branch-clause-nodes
+returns-else-branch-clause-nodes g c =
+    nodes_same c.args.vm.now.tree c.enters_page.new.vm.tree c.args.moved.now.items c.ask.new.self.items None (λ n. codes_nest n c.args.body.now) (refs_rooted c.args.vm.now c.enters_page.new.vm _ c.enters_page.ensures.counted.rest) c.ask.ensures.items

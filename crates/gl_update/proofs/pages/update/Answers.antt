@@ -1,24 +1,13 @@
-use Rattle.std.proofs.Common.{◌≡◌, false, true, refl, sym, ap, ◌∙◌, arith}
-use Rattle.gl_machine.specs.Code.{live_of}
-use Rattle.gl_machine.specs.Shape.{nest}
-use Rattle.gl_code.specs.CodeView.{seen_code}
-use Rattle.gl_code.specs.Hung.{nest_of}
-use Rattle.gl_code.specs.declared.code.Code.{Code}
-use Rattle.gl_vm.specs.declared.vm.Vm.{Vm}
+use Rattle.std.proofs.Common.{[], arith}
+use Rattle.gl_seats.specs.Parts.{code_nest}
+use Rattle.gl_seats.proofs.Replacing.{stood_whole, whole_stood}
 use Rattle.gl_update.proofs.pages.update.Goals as goal
 
-pub returns-then-is_settled-clause-nodes : goal.returns-then-is_settled-clause-nodes
-returns-then-is_settled-clause-nodes g c = c.if-is_settled.ensures.nodes refl
+pub returns-in-Ok-clause-nodes : goal.returns-in-Ok-clause-nodes
+returns-in-Ok-clause-nodes g c = λ n stands.
+    let old = c.args.page.now in
+    let new = c.renew_page.new.page in
+    whole_stood new.vm.tree (code_nest n new.code) c.flat-in-Ok.ensures (c.in-Ok.ensures.nodes.replaces n [] [] (stood_whole old.vm.tree (code_nest n old.code) c.flat.ensures stands)).stood
 
--- a page that stays as it is has its nodes where they stood
-pub returns-else-is_settled-clause-idle : goal.returns-else-is_settled-clause-idle
-returns-else-is_settled-clause-idle g c h =
-    let t = c.in_ok-moved.ensures.idle h in
-    let vm = t.1.vm in
-    let n = h.fresh.tables in
-    let none = t.0.1 in
-    let before = c.moves-before.ensures in
-    let now = ap (λ (v : Vm). v.tree.moves) vm in
-    let yes = c.is_settled.ensures.settled (omega (arith, none, before, now)) n
-    (ap (λ (v : Vm). nest_of v.tree.forest) vm ∙ (h.stands n ∙ ap (λ (x : Code). nest (live_of (seen_code n x))) (sym t.1.code))) in
-    absurd (let no : false ≡ true = sym c.if-is_settled.false ∙ yes in cc)
+pub returns-in-Ok-clause-moves : goal.returns-in-Ok-clause-moves
+returns-in-Ok-clause-moves g c = let moves = c.in-Ok.ensures.nodes.moves in omega (arith, moves)

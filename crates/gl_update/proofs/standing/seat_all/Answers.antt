@@ -9,7 +9,7 @@ pub returns-clause-step : goal.returns-clause-step
 returns-clause-step c =
     let old = c.args.vm.now in
     let new : Vm = record old { tree = c.seat_body.new.tree } in
-    on_ok_weaker c.seat_body.result (λ (e : new.tree.nodes ≡ old.tree.nodes). tree_does old new refl e) c.seat_body.ensures
+    on_ok_weaker c.seat_body.result (λ (e : new.tree.nodes ≡ old.tree.nodes). tree_does old new refl e) c.seat_body.ensures.nodes
 
 pub returns-clause-calm : goal.returns-clause-calm
 returns-clause-calm c =
