@@ -10,17 +10,20 @@ use gl_refs::RefId;
 use gl_vm::Vm;
 use std::alloc::AllocError;
 
-/// Whether a position is stale: a source that it read at its last evaluation was touched. It takes no memory; it is not
-/// answered of what is no live position that was evaluated, before the first turn, and where the question can't be counted.
+/// Whether a position is stale: a source that it read at its last evaluation was touched. Where the number of its id alone tells
+/// that it isn't, it is not looked at, and no question is counted. It takes no memory; it is not answered of what is no live position that was evaluated, before the first turn, and where the question can't be counted.
 #[inline(never)]
 pub fn is_stale(vm: &mut Vm, id: RefId) -> Result<bool, AllocError>
     requires calm { Calm vm.old }
     ensures exact { IfOk result (λ b. (n : _) (touched : _) → Agrees touched vm.old → r.is_stale (state_of n vm.old touched) id.1 ≡ b) }
-    ensures position { IfOk result (λ b. is_all (forms_of vm.new.refs id) ≡ true) }
+    ensures position { IfOk result (λ b. b ≡ true → is_all (forms_of vm.new.refs id) ≡ true) }
     ensures still { Does (λ n st. st) vm.old vm.new }
     ensures calm { Calm vm.new }
     ensures counted { Counted vm.old vm.new (id ∷ []) result }
 {
+    if vm.quiet(id) {
+        return Ok(false);
+    }
     match vm.stale(id) {
         Some(stale) => Ok(stale),
         None => Err(AllocError),

@@ -10,6 +10,7 @@ pub mod Freeing
 pub mod Waits
 pub mod Totals
 pub mod Counting
+pub mod Watching
 mod Joined
 mod Seen
 mod Stacks

@@ -3,6 +3,7 @@ pub mod State
 pub mod Code
 pub mod Refs
 pub mod View
+pub mod Watch
 pub mod Counting
 pub mod Lends
 pub mod Laws

@@ -3,13 +3,15 @@ ghost use Rattle.std.specs.Prelude.{◌≡◌, ◌++◌, [], Some, IfOk, OnErr, 
 ghost use Rattle.gl_value.specs.View.{view};
 ghost use Rattle.gl_tags.specs.Tags as t;
 ghost use Rattle.gl_refs.specs.Forms.{Each, reads};
-ghost use Rattle.gl_refs.specs.State.{kept, held_tag, held_value, reads_of, IsKept, IsSound, Gathers, Swaps, Settles, IsValid, is_combined, is_position};
+ghost use Rattle.gl_refs.specs.State.{forms, is_all, kept, held_tag, held_value, reads_of, IsKept, IsSound, Gathers, Swaps, Settles, IsValid, is_combined, is_position};
 ghost use Rattle.gl_refs.specs.View.{rows_of, seen_kind};
+ghost use Rattle.gl_refs.specs.Watch.{Watched};
 ghost use Rattle.gl_refs.specs.Counting.{Counts};
 
 use crate::RefId;
 use crate::row::{Kind, Last, Rows, held_tag, part_at, put_last, tag_in};
 use crate::values::kind_value;
+use crate::watch::Watch;
 use gl_tags::{TagId, Tags};
 use gl_value::Value;
 use smallvec::SmallVec;
@@ -149,10 +151,12 @@ pub(crate) struct Found {
     value: Value,
     tags: FewTags,
     old: Option<TagId>,
+    position: bool,
 }
 
 fn gather(alloc: Global, tags: &Tags, rows: &Rows, id: RefId) -> Result<Option<Found>, AllocError>
-    ensures { IfOk result (λ o. IfSome o (λ f. Gathers tags.now (rows_of rows.now) id (view f.value) f.tags.items f.old)) }
+    ensures gathers { IfOk result (λ o. IfSome o (λ f. Gathers tags.now (rows_of rows.now) id (view f.value) f.tags.items f.old)) }
+    ensures position { IfOk result (λ o. IfSome o (λ f. f.position ≡ is_all (forms (rows_of rows.now) id))) }
 {
     let Some(row) = rows.find(id) else {
         return Ok(None);
@@ -161,7 +165,13 @@ fn gather(alloc: Global, tags: &Tags, rows: &Rows, id: RefId) -> Result<Option<F
         Some(value) => {
             let tags = tags_of(alloc, tags, rows, &row.kind)?;
             let old = tag_in(row);
-            Ok(Some(Found { value, tags, old }))
+            let position = row.kind.is_position();
+            Ok(Some(Found {
+                value,
+                tags,
+                old,
+                position,
+            }))
         }
         None => Ok(None),
     }
@@ -172,6 +182,7 @@ pub(crate) fn compute(
     alloc: Global,
     tags: &mut Tags,
     rows: &mut Rows,
+    watch: &mut Watch,
     id: RefId,
 ) -> Result<(), AllocError>
     requires sound { IsSound tags.old (rows_of rows.old) }
@@ -179,18 +190,20 @@ pub(crate) fn compute(
     ensures settles { Settles (λ k. k ≡ id) tags.old tags.new (rows_of rows.old) (rows_of rows.new) }
     ensures made { rows.new.made ≡ rows.old.made }
     ensures counts { Counts rows.old [] [] → Counts rows.new [] [] }
+    ensures watched { Watched tags.old (rows_of rows.old) watch.old → Watched tags.new (rows_of rows.new) watch.new }
 {
     match gather(alloc, tags, rows, id)? {
         None => Ok(()),
         Some(found) => {
             let tag = swap_tag(tags, found.tags.as_slice(), found.old)?;
+            watch.note(found.position, tags.leads(tag), id.number());
             let last = Last {
                 value: found.value,
                 order: tags.count(),
                 tag,
             };
             put_last(rows, id, last);
-            Ok(())
+            watch.told()
         }
     }
 }

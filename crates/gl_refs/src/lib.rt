@@ -14,6 +14,7 @@ mod settling;
 mod table;
 mod tally;
 mod values;
+mod watch;
 mod writing;
 
 pub use form::{Form, RefId};

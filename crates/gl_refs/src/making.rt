@@ -8,6 +8,7 @@ ghost use Rattle.gl_refs.specs.State.{forms, own_by, own_tag, RowFits, IsSound};
 ghost use Rattle.gl_refs.specs.Refs.{GivesSource};
 ghost use Rattle.gl_refs.specs.View.{rows_of, rows_in, seen_kind, kind_last};
 ghost use Rattle.gl_refs.specs.Counting.{Counts};
+ghost use Rattle.gl_refs.specs.Watch.{Watched};
 
 use crate::RefId;
 use crate::row::{Kind, Rows};
@@ -30,6 +31,7 @@ pub(crate) fn make(tags: &Tags, rows: &mut Rows, kind: Kind) -> Result<RefId, Al
     ensures err { OnErr result (rows_in rows.new ≡ rows_in rows.old) }
     ensures sound { IsSound tags.now (rows_of rows.new) }
     ensures counts { Counts rows.new [] [] }
+    ensures watched { (w : _) → Watched tags.now (rows_of rows.old) w → Watched tags.now (rows_of rows.new) w }
 {
     let _ = tags.constant();
     rows.stamps();
@@ -51,6 +53,7 @@ pub(crate) fn make_source(
     ensures rest { t.Rest tags.old tags.new }
     ensures sound { IsSound tags.new (rows_of rows.new) }
     ensures counts { Counts rows.new [] [] }
+    ensures watched { (w : _) → Watched tags.old (rows_of rows.old) w → Watched tags.new (rows_of rows.new) w }
 {
     let tag = tags.dirtyable()?;
     let _ = tags.constant();

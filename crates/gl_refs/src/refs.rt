@@ -17,6 +17,7 @@ use crate::making::{make, make_source};
 use crate::row::{Kind, Rows, held, held_tag, is_position, is_source, kind_of, parts_of, readable};
 use crate::settling::prepare;
 use crate::tally::unread;
+use crate::watch::Watch;
 use crate::writing::{end, holds, put};
 use crate::{Form, RefId};
 use gl_arena::Arena;
@@ -37,6 +38,7 @@ pub struct Refs {
     evals: u128,
     asks: u128,
     evaluated: Vec<RefId>,
+    watch: Watch,
 }
 
 impl Model for Refs {
@@ -44,6 +46,7 @@ impl Model for Refs {
     ghost use Rattle.gl_refs.specs.State.{IsSound};
     ghost use Rattle.gl_refs.specs.View.{rows_in, rows_of};
     ghost use Rattle.gl_refs.specs.Counting.{Counts};
+    ghost use Rattle.gl_refs.specs.Watch.{Watched};
     ghost use Rattle.std.specs.Prelude.{[]};
 
     ghost Value = { Seen };
@@ -52,7 +55,7 @@ impl Model for Refs {
 
     ghost view = { λ r. record { rows = rows_in r.rows; tags = r.tags; evals = r.evals; asks = r.asks; evaluated = r.evaluated.items } };
 
-    ghost invariant = { λ r. IsSound r.tags (rows_of r.rows) × Counts r.rows [] [] };
+    ghost invariant = { λ r. IsSound r.tags (rows_of r.rows) × (Counts r.rows [] [] × Watched r.tags (rows_of r.rows) r.watch) };
 }
 
 impl Refs {
@@ -74,6 +77,7 @@ impl Refs {
             evals: 0,
             asks: 0,
             evaluated: Vec::new(alloc),
+            watch: Watch::new(alloc),
         })
     }
 
@@ -118,7 +122,7 @@ impl Refs {
         requires cell { is_cell (forms_of self.old cell) ≡ true }
         ensures { SetsValue self.old self.new cell false (view value) }
     {
-        put(&mut self.tags, &mut self.rows, cell, value);
+        put(&mut self.tags, &mut self.rows, &mut self.watch, cell, value);
     }
 
     /// Gives an item a value, and touches it where that isn't the same.
@@ -128,7 +132,7 @@ impl Refs {
         ensures { (Holds self.old item true (view value) × (self.new ≡ self.old)) ⊎ ((Holds self.old item true (view value) → ⊥) × SetsValue self.old self.new item true (view value)) }
     {
         if !holds(&self.rows, item, &value) {
-            put(&mut self.tags, &mut self.rows, item, value);
+            put(&mut self.tags, &mut self.rows, &mut self.watch, item, value);
         }
     }
 
@@ -150,7 +154,13 @@ impl Refs {
         ensures reads { HasRead self.old self.new id result }
         ensures kept { IsKept self.old.tags (rows_of self.old) id → IsOk result }
     {
-        prepare(self.alloc, &mut self.tags, &mut self.rows, id)
+        prepare(
+            self.alloc,
+            &mut self.tags,
+            &mut self.rows,
+            &mut self.watch,
+            id,
+        )
     }
 
     /// The value of a reference that is kept and of now, as it is after [`Refs::read`].
@@ -182,7 +192,13 @@ impl Refs {
         if self.evals == u128::MAX {
             return Err(AllocError);
         }
-        prepare(self.alloc, &mut self.tags, &mut self.rows, id)?;
+        prepare(
+            self.alloc,
+            &mut self.tags,
+            &mut self.rows,
+            &mut self.watch,
+            id,
+        )?;
         self.evaluated.push(id)?;
         self.evals += 1;
         Ok(())
@@ -217,6 +233,7 @@ impl Refs {
         self.tags.advance();
         let _ = self.tags.constant();
         self.evaluated.clear();
+        self.watch.begin();
     }
 
     /// The revision clock, which is that of the tags.
@@ -251,6 +268,15 @@ impl Refs {
         let stale = stale_since(&mut self.tags, &self.rows, id, since)?;
         self.asks = asks;
         Some(stale)
+    }
+
+    /// Whether it is sure, by the number of its id alone, that [`Refs::stale`] would answer no of a position: nothing that it
+    /// read at its last evaluation was touched since the last [`Refs::begin`]. It takes no memory, looks at no reference, and is
+    /// not counted. Where it says no, that may be so too.
+    pub fn quiet(&self, id: RefId) -> bool
+        ensures { IsTrue result → (i : _) → i.1 ≡ id.1 → is_position (rows_of self.now i) ≡ true → (0 < self.now.tags.clock) × IsValid self.now.tags (self.now.tags.clock - 1) (rows_of self.now i) }
+    {
+        self.watch.quiet(id.number())
     }
 
     /// The value that [`Refs::read`] would give. Nothing is kept.

@@ -4,7 +4,7 @@ ghost use Rattle.gl_arena.specs.Arena.{named, with_value};
 ghost use Rattle.gl_value.specs.Value.{truthy, undefined};
 ghost use Rattle.gl_value.specs.View.{view};
 ghost use Rattle.gl_refs.specs.Forms.{all_form, reads, chosen, ids_of};
-ghost use Rattle.gl_refs.specs.State.{AreParts, forms, held, held_value, held_tag, own_tag, is_readable, is_cell, is_item, is_position, IsSource, is_source, Puts};
+ghost use Rattle.gl_refs.specs.State.{AreParts, forms, held, held_value, held_tag, own_tag, is_readable, is_cell, is_item, is_position, all_formed, IsSource, is_source, Puts};
 ghost use Rattle.gl_refs.specs.View.{rows_of, found_in, value_in, seen_form, seen_rule, seen_kind, kind_last, TakesLast, seen_last, seen_row, row_with, kind_with};
 ghost use Rattle.gl_refs.specs.Counting.{Counts};
 
@@ -31,6 +31,15 @@ pub(crate) enum Kind {
         last: Option<Mark>,
     },
     Bound(Box<Bound>),
+}
+
+impl Kind {
+    // Whether it is a position.
+    pub(crate) fn is_position(&self) -> bool
+        ensures { result ≡ all_formed (seen_kind self.now) }
+    {
+        matches!(self, Kind::Position { .. })
+    }
 }
 
 // The last evaluation of a position, whose value is undefined: how many dirtyings there were then, and the tag that

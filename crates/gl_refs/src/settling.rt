@@ -3,11 +3,13 @@ ghost use Rattle.std.specs.Prelude.{◌≡◌, ◌≤◌, ◌++◌, ◌∷◌, [
 ghost use Rattle.gl_refs.specs.Forms.{Each, IsReadFor};
 ghost use Rattle.gl_refs.specs.State.{forms, reads_of, IsKept, IsSound, AllReady, IsReady, Settles};
 ghost use Rattle.gl_refs.specs.View.{rows_of, seen_waiting, seen_stack};
+ghost use Rattle.gl_refs.specs.Watch.{Watched};
 ghost use Rattle.gl_refs.specs.Counting.{Counts};
 
 use crate::RefId;
 use crate::evaluation::{compute, is_kept};
 use crate::row::{Rows, part_at};
+use crate::watch::Watch;
 use gl_tags::Tags;
 use smallvec::SmallVec;
 use std::alloc::{AllocError, Global};
@@ -62,6 +64,7 @@ fn visit(
     alloc: Global,
     tags: &mut Tags,
     rows: &mut Rows,
+    watch: &mut Watch,
     waiting: Waiting,
     stack: &mut Stack,
 ) -> Result<(), AllocError>
@@ -71,11 +74,12 @@ fn visit(
     ensures ready { OnOk result ((root : _) → AllReady tags.old (rows_of rows.old) root (seen_stack stack.old.items) → IsReady tags.old (rows_of rows.old) root (seen_waiting waiting) → AllReady tags.new (rows_of rows.new) root (seen_stack stack.new.items)) }
     ensures made { rows.new.made ≡ rows.old.made }
     ensures counts { Counts rows.old [] [] → Counts rows.new [] [] }
+    ensures watched { Watched tags.old (rows_of rows.old) watch.old → Watched tags.new (rows_of rows.new) watch.new }
 {
     let id = waiting.id;
     match next_stale(tags, rows, id, waiting.next)? {
         Some(stale) => put_off(stack, id, stale),
-        None => compute(alloc, tags, rows, id),
+        None => compute(alloc, tags, rows, watch, id),
     }
 }
 
@@ -92,18 +96,25 @@ pub(crate) fn put_off(stack: &mut Stack, id: RefId, stale: Stale) -> Result<(), 
 }
 
 // Evaluates what a reference wants, parts first.
-fn settle(alloc: Global, tags: &mut Tags, rows: &mut Rows, id: RefId) -> Result<(), AllocError>
+fn settle(
+    alloc: Global,
+    tags: &mut Tags,
+    rows: &mut Rows,
+    watch: &mut Watch,
+    id: RefId,
+) -> Result<(), AllocError>
     requires { IsSound tags.old (rows_of rows.old) }
     ensures settles { Settles (IsReadFor (forms (rows_of rows.old)) id) tags.old tags.new (rows_of rows.old) (rows_of rows.new) }
     ensures made { rows.new.made ≡ rows.old.made }
     ensures counts { Counts rows.old [] [] → Counts rows.new [] [] }
+    ensures watched { Watched tags.old (rows_of rows.old) watch.old → Watched tags.new (rows_of rows.new) watch.new }
 {
     let mut stack = SmallVec::new(alloc);
     stack.push(Waiting { id, next: 0 })?;
     for _ in 0..u64::MAX {
         match stack.pop() {
             None => return Ok(()),
-            Some(waiting) => visit(alloc, tags, rows, waiting, &mut stack)?,
+            Some(waiting) => visit(alloc, tags, rows, watch, waiting, &mut stack)?,
         }
     }
     Err(AllocError)
@@ -114,12 +125,14 @@ pub(crate) fn prepare(
     alloc: Global,
     tags: &mut Tags,
     rows: &mut Rows,
+    watch: &mut Watch,
     id: RefId,
 ) -> Result<(), AllocError>
     requires { IsSound tags.old (rows_of rows.old) }
     ensures settles { Settles (IsReadFor (forms (rows_of rows.old)) id) tags.old tags.new (rows_of rows.old) (rows_of rows.new) }
     ensures made { rows.new.made ≡ rows.old.made }
     ensures counts { Counts rows.old [] [] → Counts rows.new [] [] }
+    ensures watched { Watched tags.old (rows_of rows.old) watch.old → Watched tags.new (rows_of rows.new) watch.new }
     ensures kept { OnOk result (IsKept tags.new (rows_of rows.new) id) }
     ensures fresh { IsKept tags.old (rows_of rows.old) id → IsOk result }
     ensures still { IsKept tags.old (rows_of rows.old) id → (tags.new ≡ tags.old) × (rows.new ≡ rows.old) }
@@ -127,7 +140,7 @@ pub(crate) fn prepare(
     if is_kept(tags, rows, id) {
         return Ok(());
     }
-    settle(alloc, tags, rows, id)?;
+    settle(alloc, tags, rows, watch, id)?;
     if is_kept(tags, rows, id) {
         Ok(())
     } else {

@@ -6,11 +6,13 @@ ghost use Rattle.gl_tags.specs.Tags as t;
 ghost use Rattle.gl_refs.specs.Forms.{source_form, IsUnread};
 ghost use Rattle.gl_refs.specs.State.{forms, held, own_tag, is_source, IsSound, EndsTag};
 ghost use Rattle.gl_refs.specs.View.{rows_of, rows_in};
+ghost use Rattle.gl_refs.specs.Watch.{Watched};
 ghost use Rattle.gl_refs.specs.Counting.{Counts};
 
 use crate::RefId;
 use crate::row::{Kind, Rows, own_tag, put_value, source_tag};
 use crate::tally::take_out;
+use crate::watch::Watch;
 use gl_tags::{TagId, Tags};
 use gl_value::Value;
 
@@ -26,7 +28,7 @@ pub(crate) fn holds(rows: &Rows, id: RefId, value: &Value) -> bool
 }
 
 // Gives a source a value, and touches it.
-pub(crate) fn put(tags: &mut Tags, rows: &mut Rows, id: RefId, value: Value)
+pub(crate) fn put(tags: &mut Tags, rows: &mut Rows, watch: &mut Watch, id: RefId, value: Value)
     requires sound { IsSound tags.old (rows_of rows.old) }
     requires room { tags.old.count + 1 < 2 ^ 64 }
     requires source { is_source (rows_of rows.old id) ≡ true }
@@ -34,10 +36,12 @@ pub(crate) fn put(tags: &mut Tags, rows: &mut Rows, id: RefId, value: Value)
     ensures tags { (kind : _) (tag : _) (was : _) (last : _) → rows_of rows.old id ≡ Some (record { form = source_form kind tag was; last = last }) → tags.new ≡ t.dirtied tags.old tag }
     ensures rows { (kind : _) (tag : _) (was : _) (last : _) → rows_of rows.old id ≡ Some (record { form = source_form kind tag was; last = last }) → rows_in rows.new ≡ with_value (rows_in rows.old) id (record { form = source_form kind tag (view value); last = last }) }
     ensures counts { Counts rows.old [] [] → Counts rows.new [] [] }
+    ensures watched { Watched tags.old (rows_of rows.old) watch.old → Watched tags.new (rows_of rows.new) watch.new }
 {
     let tag = source_tag(rows, id);
     put_value(rows, id, value);
     tags.dirty(tag);
+    watch.touch(tag);
     let _ = tags.constant();
 }
 
@@ -65,6 +69,7 @@ pub(crate) fn end(tags: &mut Tags, rows: &mut Rows, id: RefId)
     ensures ends { Ends (rows_in rows.old) (rows_in rows.new) id }
     ensures counts { Counts rows.new [] [] }
     ensures tags { EndsTag tags.old tags.new (own_tag (rows_of rows.old id)) }
+    ensures watched { (w : _) → Watched tags.old (rows_of rows.old) w → Watched tags.new (rows_of rows.new) w }
 {
     let tag = own_tag(rows, id);
     take_out(rows, id);

@@ -96,9 +96,6 @@ replaces_then f g h p x y z of first second front back stood = let a : Replaced 
       | inr none ↦ omega (arith, none)
     ]
 
-pub replaces_rooted : (f f' g g' : Forest) (p : Option ℕ) (x y : Nest ℕ) → f' ≡ f → g' ≡ g → Replaces f' g p x y → Replaces f g' p x y
-replaces_rooted f f' g g' p x y was is a = subst (λ k. Replaces f k p x y) (sym is) (subst (λ k. Replaces k g p x y) was a)
-
 pub replaces_as : (f g : Forest) (p : Option ℕ) (x x' y y' : Nest ℕ) → x ≡ x' → y ≡ y' → Replaces f g p x y → Replaces f g p x' y'
 replaces_as f g p x x' y y' was is a = subst (λ k. Replaces f g p x' k) is (subst (λ k. Replaces f g p k y) was a)
 

@@ -1,7 +1,7 @@
 // All tags, and the clock.
-ghost use Rattle.std.specs.Prelude.{◌≡◌, ◌≢◌, ◌+◌, ◌<◌, ◌≤◌, ◌^◌, IfOk, OnErr, None, IsTrue, IsSome, ◌↔◌, true};
+ghost use Rattle.std.specs.Prelude.{◌≡◌, ◌≢◌, ◌+◌, ◌<◌, ◌≤◌, ◌^◌, IfOk, OnErr, None, IsTrue, IsSome, Some, ◌↔◌, true};
 ghost use Rattle.gl_arena.specs.Arena.{Gives, Ends};
-ghost use Rattle.gl_tags.specs.Tags.{tag_at, value_of, order_of, dirtyable, is_dirtyable, dirtied, Rest, Combines, IsUnled, IsSound, HasRoom};
+ghost use Rattle.gl_tags.specs.Tags.{tag_at, value_of, order_of, dirtyable, combined, is_dirtyable, dirtied, Rest, Combines, IsUnled, IsSound, HasRoom};
 ghost use Rattle.gl_tags.specs.View.{touch_of};
 
 use crate::entries::{Entries, all_leads, greatest, insert_tag, keep, kept, look, settle};
@@ -118,6 +118,16 @@ impl Tags {
         let kept = greatest(&self.tags, leads.as_slice());
         let mark = self.count;
         insert_tag(&mut self.tags, Tag::Combined { leads, kept, mark })
+    }
+
+    /// The dirtyable tags to which a combined one leads, sorted, each once. It takes no memory.
+    pub fn leads(&self, tag: TagId) -> &[TagId]
+        ensures { (leads : _) → tag_at self.now tag ≡ Some (combined leads) → result.now ≡ leads }
+    {
+        match self.tags.find(tag) {
+            Some(Tag::Combined { leads, .. }) => leads.as_slice(),
+            _ => &[],
+        }
     }
 
     /// Sets the revision of a dirtyable tag to the clock. So that is the value of each tag that leads to it,

@@ -145,10 +145,6 @@ module _ (a : App) (cells : CellList) where
     goes = λ c q. w.goes c (asks_same (λ n run st. f n run st + after (flow n run st) (λ y. g n y.0 run y.1)) rest vm b c e (asks_then f flow g x vm mid b m c p r q));
   }
 
-  -- the rest is another way to say it
-  pub ason_as : (whole rest other : Count) (vm0 vm : Vm) (b0 b : ℕ) → ((n : Tables) (run : Runs) (u : Source → Bool) → other n run (state_of n vm u) ≡ rest n run (state_of n vm u)) → AsksOn whole vm0 b0 rest vm b → AsksOn whole vm0 b0 other vm b
-  ason_as whole rest other vm0 vm b0 b e w = record { goes = λ c r. w.goes c (asks_same other rest vm b c e r) }
-
   -- nothing is left
   pub ason_end : (whole rest : Count) (vm0 vm : Vm) (b0 b : ℕ) → ((n : Tables) (run : Runs) (u : Source → Bool) → rest n run (state_of n vm u) ≡ 0) → AsksOn whole vm0 b0 rest vm b → Asks a cells whole vm0 b0 b
   ason_end whole rest vm0 vm b0 b none w = w.goes b (asks_same (λ n run st. 0) rest vm b b (λ n run u. sym (none n run u)) (asks_just 0 vm b b (omega arith)))

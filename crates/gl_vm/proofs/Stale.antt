@@ -4,8 +4,8 @@ use Rattle.std.specs.Prelude.{◌&&◌, ◌||◌, ◌==◌, not, IfSome, ◌↔�
 use Rattle.std.specs.List.{list_any}
 use Rattle.std.proofs.lemmas.Bool.{cases_eq}
 use Rattle.gl_arena.specs.Id.{Id, same_id}
-use Rattle.gl_arena.specs.Arena.{by_stamp, IsStamped}
-use Rattle.gl_arena.proofs.Stamps.{by_stamp-live}
+use Rattle.gl_arena.specs.Arena.{named, by_stamp, IsStamped}
+use Rattle.gl_arena.proofs.Stamps.{by_stamp-id, by_stamp-live}
 use Rattle.gl_tags.specs.Tags as t
 use Rattle.gl_tags.proofs.Greatest.{lead_below}
 use Rattle.gl_refs.specs.Forms as f
@@ -181,6 +181,36 @@ module _ (vm : Vm) (id : Id) (ids : List Id) (stamped : IsStamped vm.refs.rows) 
 
     stale_exact : 0 < now → (s.IsValid r.tags (now - 1) (rows_of r id) → IsTrue b) → IsTelling r id → is_stale (state_of n vm touched) id.1 ≡ not b
     stale_exact p back h = as_not (is_stale (state_of n vm touched) id.1) b (λ e t. fresh (now - 1) (lower p) (valid t) e) (λ e. back (subst (λ m. s.IsValid r.tags (m - 1) (rows_of r id)) (sym clock) (calm h e)))
+
+-- what is quiet isn't stale
+pub quiet_fresh : (vm : Vm) (k : ℕ) → IsStamped vm.refs.rows → s.IsSound vm.refs.tags (rows_of vm.refs)
+    → ((i : Id) → i.1 ≡ k → s.is_position (rows_of vm.refs i) ≡ true → (0 < vm.refs.tags.clock) × s.IsValid vm.refs.tags (vm.refs.tags.clock - 1) (rows_of vm.refs i))
+    → (n : Tables) (touched : Source → Bool) → Agrees touched vm → is_stale (state_of n vm touched) k ≡ false
+quiet_fresh vm k stamped sound quiet n touched a = by (by_stamp vm.refs.rows k) refl where
+  placed : (i : Id) (x : s.Row) (ids : List Id) → i.1 ≡ k → rows_of vm.refs i ≡ Some x → x.form ≡ f.all_form ids → s.is_position (Some x) ≡ true → (b : Bool) → is_stale (state_of n vm touched) k ≡ b → b ≡ false
+  placed i x ids same is form p false e = refl
+  placed i x ids same is form p true e =
+      let q = quiet i same (ap s.is_position is ∙ p) in
+      let lt = q.0 in
+      absurd (fresh vm i ids stamped sound (ap (option_map (λ (y : s.Row). y.form)) is ∙ ap (λ g. Some g) form) n touched a (vm.refs.tags.clock - 1) (omega (arith, lt)) q.1 (ap (is_stale (state_of n vm touched)) same ∙ e))
+
+  by : (o : Option s.Row) → by_stamp vm.refs.rows k ≡ o → is_stale (state_of n vm touched) k ≡ false
+  by None e = ap (λ o. told (option_map row (option_map (seen_row vm.refs.tags (by_stamp vm.refs.rows) vm.refs.rows.made k) o)) touched) e
+  by (Some x) e = kind x.form x.last refl refl (by_stamp-id vm.refs.rows k x e) where
+    value : is_stale (state_of n vm touched) k ≡ last_of vm.refs.tags (by_stamp vm.refs.rows) vm.refs.rows.made x.form x.last touched
+    value = ap (λ o. told (option_map row (option_map (seen_row vm.refs.tags (by_stamp vm.refs.rows) vm.refs.rows.made k) o)) touched) e
+
+    at_form : (g : f.Form) → x.form ≡ g → is_stale (state_of n vm touched) k ≡ last_of vm.refs.tags (by_stamp vm.refs.rows) vm.refs.rows.made g x.last touched
+    at_form g q = value ∙ ap (λ g. last_of vm.refs.tags (by_stamp vm.refs.rows) vm.refs.rows.made g x.last touched) q
+
+    kind : (g : f.Form) (l : Option s.Last) → x.form ≡ g → x.last ≡ l → (i : Id) × (i.1 ≡ k) × (named vm.refs.rows i ≡ Some x) → is_stale (state_of n vm touched) k ≡ false
+    kind (f.constant_form v) l q h i = at_form (f.constant_form v) q
+    kind (f.source_form m u v) l q h i = at_form (f.source_form m u v) q
+    kind (f.prop_form y m) l q h i = at_form (f.prop_form y m) q
+    kind (f.call_form m ids ns) l q h i = at_form (f.call_form m ids ns) q
+    kind (f.cat_form ids) l q h i = at_form (f.cat_form ids) q
+    kind (f.all_form ids) None q h i = at_form (f.all_form ids) q ∙ ap (λ o. last_of vm.refs.tags (by_stamp vm.refs.rows) vm.refs.rows.made (f.all_form ids) o touched) h
+    kind (f.all_form ids) (Some l) q h i = placed i.0 x ids i.1 i.2 q (ap (λ g. s.form_placed g x.last) q ∙ ap (λ o. s.form_placed (f.all_form ids) o) h) (is_stale (state_of n vm touched) k) refl
 
 -- not not
 twice : (b : Bool) → not (not b) ≡ b

@@ -1,5 +1,5 @@
 // Values of references, positions that are evaluated, and the beginning of a turn.
-ghost use Rattle.std.specs.Prelude.{◌≡◌, ◌+◌, Bool, List, [], IfOk, OnOk, IsSome, IfSome, ◌↔◌, Some, true, false};
+ghost use Rattle.std.specs.Prelude.{◌≡◌, ◌+◌, Bool, List, [], IfOk, OnOk, IsSome, IfSome, IsTrue, ◌↔◌, Some, true, false};
 ghost use Rattle.gl_value.specs.View.{view};
 ghost use Rattle.gl_arena.specs.Arena.{IsOwn};
 ghost use Rattle.gl_meaning.specs.Scope.{Source};
@@ -94,6 +94,15 @@ impl Vm {
     {
         self.refs.sound();
         self.refs.stale(id)
+    }
+
+    /// Whether it is sure, by the number of its id alone, that a position isn't stale. It takes no memory, looks at no reference, and is
+    /// not counted. Where it says no, that may be so too.
+    pub fn quiet(&self, id: RefId) -> bool
+        ensures { IsTrue result → (n : Tables) (touched : Source → Bool) → Agrees touched self.now → is_stale (state_of n self.now touched) id.1 ≡ false }
+    {
+        self.refs.sound();
+        self.refs.quiet(id)
     }
 
     /// Begins a turn: nothing is touched, and the lists of what was done are empty.

@@ -6,8 +6,8 @@ use Rattle.gl_refs.specs.View.{rows_of, seen_row, seen_kind}
 use Rattle.gl_refs.proofs.Seen.{seen_is, kind_at}
 use Rattle.gl_refs.proofs.evaluation.gather.Goals as goal
 
-pub returns-in_ok-tags-in-Some-2 : goal.returns-in_ok-tags-in-Some-2
-returns-in_ok-tags-in-Some-2 c =
+pub returns-in_ok-tags-in-Some-2-clause-gathers : goal.returns-in_ok-tags-in-Some-2-clause-gathers
+returns-in_ok-tags-in-Some-2-clause-gathers c =
     let tags = c.args.tags.now in
     let rows = rows_of c.args.rows.now in
     let kind = c.in-Some.row.now.kind in

@@ -5,6 +5,8 @@ use Rattle.gl_refs.specs.View.{rows_of}
 use Rattle.gl_refs.proofs.Rows.{some_is}
 use Rattle.gl_refs.proofs.Tagging.{tags_changed, tag_made, tag_unowned, tag_unled, tag_again}
 use Rattle.gl_refs.proofs.Seen.{rows_same}
+use Rattle.gl_refs.specs.Watch.{Watched}
+use Rattle.gl_refs.proofs.Watching.{watched_tags, watched_tagged}
 use Rattle.gl_refs.proofs.making.make_source.Goals as goal
 
 pub make-requires-clause-sound : goal.make-requires-clause-sound
@@ -39,3 +41,15 @@ returns-in-Err-clause-sound c =
     let again = tag_again t c.dirtyable.new.self (rows_of c.args.rows.now) c.requires.sound c.constant.ensures.sound c.in_ok-tag.tag t.clock t.count c.in_ok-tag.ensures.given c.dirtyable.ensures.rest c.free.new.self c.free.ensures.ends in
     rows_same (IsSound c.free.new.self) c.args.rows.now c.make.new.rows c.in-Err.ensures.err
     (tags_changed t c.free.new.self (rows_of c.args.rows.now) c.requires.sound c.constant-in-Err.ensures.sound (c.free.ensures.rest.count ∙ c.dirtyable.ensures.rest.count) (λ k d. again k) (λ k u e. again u) (λ k e. sym (ap is_combined (again k)) ∙ e))
+
+pub returns-in-Ok-clause-watched : goal.returns-in-Ok-clause-watched
+returns-in-Ok-clause-watched c w old =
+    let t = c.args.tags.now in
+    c.make.ensures.watched w (watched_tagged t c.dirtyable.new.self (rows_of c.args.rows.now) c.requires.sound c.in_ok-tag.tag t.clock t.count c.in_ok-tag.ensures.given c.dirtyable.ensures.rest w old)
+
+pub returns-in-Err-clause-watched : goal.returns-in-Err-clause-watched
+returns-in-Err-clause-watched c w old =
+    let t = c.args.tags.now in
+    let again = tag_again t c.dirtyable.new.self (rows_of c.args.rows.now) c.requires.sound c.constant.ensures.sound c.in_ok-tag.tag t.clock t.count c.in_ok-tag.ensures.given c.dirtyable.ensures.rest c.free.new.self c.free.ensures.ends in
+    rows_same (λ x. Watched c.free.new.self x w) c.args.rows.now c.make.new.rows c.in-Err.ensures.err
+    (watched_tags t c.free.new.self (rows_of c.args.rows.now) c.requires.sound (λ k d. again k) (λ k u e. again u) (c.free.ensures.rest.clock ∙ c.dirtyable.ensures.rest.clock) w old)

@@ -3,6 +3,7 @@ use Rattle.gl_refs.specs.State.{EndsTag}
 use Rattle.gl_refs.specs.View.{rows_of}
 use Rattle.gl_refs.proofs.Leading.{own_live, own_moves, unled}
 use Rattle.gl_refs.proofs.Seen.{end_sound}
+use Rattle.gl_refs.proofs.Watching.{watched_ended}
 use Rattle.gl_refs.proofs.writing.end.Goals as goal
 
 pub free_tag-requires-clause-live : goal.free_tag-requires-clause-live
@@ -18,3 +19,8 @@ pub returns-clause-sound : goal.returns-clause-sound
 returns-clause-sound c =
     end_sound c.args.rows.now c.take_out.new.rows c.args.tags.now c.free_tag.new.tags c.args.id c.requires.sound c.requires.unread c.take_out.ensures.ends
     (subst (EndsTag c.args.tags.now c.free_tag.new.tags) c.own_tag-tag.ensures c.free_tag.ensures.ends) c.free_tag.ensures.sound
+
+pub returns-clause-watched : goal.returns-clause-watched
+returns-clause-watched c w old =
+    watched_ended c.args.rows.now c.take_out.new.rows c.args.tags.now c.free_tag.new.tags c.args.id c.requires.sound c.requires.unread c.take_out.ensures.ends
+    (subst (EndsTag c.args.tags.now c.free_tag.new.tags) c.own_tag-tag.ensures c.free_tag.ensures.ends) c.free_tag.ensures.sound w old

@@ -17,4 +17,4 @@ returns-clause-kept c k =
     c.prepare.ensures.fresh (of_seen (λ x. IsKept s.tags x c.args.id) s.rows (subst (λ (r : Refs). IsKept r.tags (rows_of r) c.args.id) (sym c.self.view_is) k))
 
 pub invariant_of-self : goal.invariant_of-self
-invariant_of-self c = let e = c.prepare.ensures in (e.settles.sound, e.counts c.self.invariant.1)
+invariant_of-self c = let e = c.prepare.ensures in (e.settles.sound, (e.counts c.self.invariant.1.0, e.watched c.self.invariant.1.1))

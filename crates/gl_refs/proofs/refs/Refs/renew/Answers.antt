@@ -44,7 +44,7 @@ returns c =
     (evaluated_ok old new c.args.id reads (Ok tt) (to_seen (λ x. IsKept c.prepare.new.tags x c.args.id) c.prepare.new.rows c.in_ok-prepare.ensures.kept) refl c.in_ok-push.ensures.items refl)
 
 pub invariant_of-self-in_err-push : goal.invariant_of-self-in_err-push
-invariant_of-self-in_err-push c = let e = c.prepare.ensures in (e.settles.sound, e.counts c.self.invariant.1)
+invariant_of-self-in_err-push c = let e = c.prepare.ensures in (e.settles.sound, (e.counts c.self.invariant.1.0, e.watched c.self.invariant.1.1))
 
 pub invariant_of-self-2 : goal.invariant_of-self-2
-invariant_of-self-2 c = let e = c.prepare.ensures in (e.settles.sound, e.counts c.self.invariant.1)
+invariant_of-self-2 c = let e = c.prepare.ensures in (e.settles.sound, (e.counts c.self.invariant.1.0, e.watched c.self.invariant.1.1))
